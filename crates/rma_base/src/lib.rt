@@ -1,0 +1,10 @@
+//! The plain data that every layer of the auditor speaks of: ranks, lines, points, limits, the reasons of a
+//! bad line, and want of memory.
+#![tactic(auto)]
+
+pub mod allocation;
+pub mod limits;
+pub mod lines;
+pub mod points;
+pub mod ranks;
+pub mod reasons;
