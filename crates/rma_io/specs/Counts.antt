@@ -1,0 +1,6 @@
+-- Counts of faults, which never fall and stand still at the last value of 64 bits.
+use Rattle.std.specs.Prelude.{◌≡◌, ℕ, ◌-◌, ◌^◌, ◌<◌, ◌⊎◌}
+
+-- a count rose in a call: it is greater at the exit, or it stands there at the end of its type
+abbrev pub Rose : ℕ → ℕ → Type 0
+Rose old new = (old < new) ⊎ (new ≡ 2 ^ 64 - 1)

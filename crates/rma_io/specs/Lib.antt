@@ -1,0 +1,4 @@
+pub mod Counts
+pub mod Tapes
+pub mod Sources
+pub mod Sinks
