@@ -1,0 +1,18 @@
+-- The lines of a text.
+use Rattle.std.specs.Prelude.{ℕ, suc, zero, ◌+◌, List, [], ◌∷◌, ◌==◌, if◌then◌else◌}
+
+-- the lines, where the first has one byte more in front
+abbrev pub onto_first : ℕ → List (List ℕ) → List (List ℕ)
+onto_first byte [] = (byte ∷ []) ∷ []
+onto_first byte (line ∷ rest) = (byte ∷ line) ∷ rest
+
+-- The lines of a text. A line ends before its line feed; a rest that is not empty is the last line.
+abbrev pub lines : List ℕ → List (List ℕ)
+lines [] = []
+lines (byte ∷ bytes) = if byte == 10 then [] ∷ lines bytes else onto_first byte (lines bytes)
+
+-- what is left of a text behind its first lines, so many of them, each with its line feed
+abbrev pub after_lines : ℕ → List ℕ → List ℕ
+after_lines zero bytes = bytes
+after_lines (suc n) [] = []
+after_lines (suc n) (byte ∷ bytes) = if byte == 10 then after_lines n bytes else after_lines (suc n) bytes

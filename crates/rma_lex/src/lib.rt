@@ -1,0 +1,4 @@
+//! Cutting a log into its lines, in whatever pieces it comes.
+#![tactic(auto)]
+
+pub mod cutter;
