@@ -1,2 +1,5 @@
 pub mod Lines
 pub mod Cutting
+pub mod Feeds
+pub mod Kept
+pub mod Handing

@@ -1,0 +1,6 @@
+mod AuditLemmas
+mod LogFormLemmas
+mod OpeningLemmas
+mod ReadingLemmas
+mod ReportLemmas
+mod WordLemmas
