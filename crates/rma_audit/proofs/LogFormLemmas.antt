@@ -1,8 +1,8 @@
 -- What the next line makes of a log.
-use Rattle.std.proofs.Common.{◌≡◌, ℕ, zero, suc, ◌+◌, ◌<◌, ◌⊎◌, List, [], ◌∷◌, ◌++◌, length, take, replicate, refl, ap, sym, ◌∙◌, subst, inl, inr, arith, codes, length-append, append_assoc, append-nil}
+use Rattle.std.proofs.Common.{◌≡◌, ℕ, zero, suc, ◌+◌, ◌⊎◌, List, [], ◌∷◌, ◌++◌, length, replicate, refl, ap, sym, ◌∙◌, subst, inl, inr, arith, length-append, append_assoc, append-nil}
 use Rattle.std.proofs.Math.Seq.{take-append_seam}
 use Rattle.std.proofs.lemmas.List.{take_all}
-use Rattle.rma_audit.specs.LogForm.{header, barrier, log_end, whole_log, IsWhole, BeginsLog, BreaksAt, LacksEnd}
+use Rattle.rma_audit.specs.LogForm.{header, barrier, log_end, whole_log, BeginsLog, BreaksAt, LacksEnd}
 
 -- behind k copies of a comes a or e
 next_of : (a e : List ℕ) (k m : ℕ) (text : List ℕ) (more : List (List ℕ)) → replicate k a ++ text ∷ more ≡ replicate m a ++ e ∷ [] → (text ≡ a) ⊎ (text ≡ e)
@@ -46,13 +46,13 @@ module _ (rank ranks : ℕ) where
   -- one more barrier
   pub body_more : (log : List (List ℕ)) (text : List ℕ) → text ≡ barrier → (k : ℕ) → log ≡ header rank ranks ∷ replicate k barrier → log ++ text ∷ [] ≡ header rank ranks ∷ replicate (suc k) barrier
   body_more log text is k h =
-    ap (λ xs. xs ++ text ∷ []) h ∙ ap (λ t. header rank ranks ∷ (replicate k barrier ++ t ∷ [])) is ∙ ap (λ xs. header rank ranks ∷ xs) (replicate_push barrier k)
+      ap (λ xs. xs ++ text ∷ []) h ∙ ap (λ t. header rank ranks ∷ (replicate k barrier ++ t ∷ [])) is ∙ ap (λ xs. header rank ranks ∷ xs) (replicate_push barrier k)
 
   -- neither a barrier nor the end
   pub body_breaks : (log : List (List ℕ)) (text : List ℕ) → (text ≡ barrier → ⊥) → (text ≡ log_end → ⊥) → (k : ℕ) → log ≡ header rank ranks ∷ replicate k barrier → BreaksAt rank ranks (log ++ text ∷ []) (length log)
   body_breaks log text no_barrier no_end k h = breaks_at log text
-    (record { barriers = k; more = log_end ∷ []; is = ap (λ xs. xs ++ log_end ∷ []) h })
-    (λ b.
+      (record { barriers = k; more = log_end ∷ []; is = ap (λ xs. xs ++ log_end ∷ []) h })
+      (λ b.
       let all : header rank ranks ∷ ((replicate k barrier ++ text ∷ []) ++ b.more) ≡ whole_log rank ranks b.barriers = ap (λ xs. (xs ++ text ∷ []) ++ b.more) (sym h) ∙ b.is in
       let tails : (replicate k barrier ++ text ∷ []) ++ b.more ≡ replicate b.barriers barrier ++ log_end ∷ [] = cc in
       elim (next_of barrier log_end k b.barriers text b.more (sym (append_assoc (replicate k barrier) (text ∷ []) b.more) ∙ tails)) [ inl a ↦ no_barrier a | inr e ↦ no_end e ])
@@ -60,8 +60,8 @@ module _ (rank ranks : ℕ) where
   -- a line behind the end
   pub ended_breaks : (log : List (List ℕ)) (text : List ℕ) (k : ℕ) → log ≡ whole_log rank ranks k → BreaksAt rank ranks (log ++ text ∷ []) (length log)
   ended_breaks log text k h = breaks_at log text
-    (record { barriers = k; more = []; is = append-nil log ∙ h })
-    (λ b.
+      (record { barriers = k; more = []; is = append-nil log ∙ h })
+      (λ b.
       let all : header rank ranks ∷ (((replicate k barrier ++ log_end ∷ []) ++ text ∷ []) ++ b.more) ≡ whole_log rank ranks b.barriers = ap (λ xs. (xs ++ text ∷ []) ++ b.more) (sym h) ∙ b.is in
       let tails : ((replicate k barrier ++ log_end ∷ []) ++ text ∷ []) ++ b.more ≡ replicate b.barriers barrier ++ log_end ∷ [] = cc in
       none_after barrier log_end k b.barriers text b.more barrier_is_no_end (simp append_assoc at tails))
@@ -78,7 +78,7 @@ module _ (rank ranks : ℕ) where
   body_lacks_end log k h = record {
     begins = record { barriers = k; more = log_end ∷ []; is = ap (λ xs. xs ++ log_end ∷ []) h };
     not_whole = λ w.
-      let same : header rank ranks ∷ replicate k barrier ≡ whole_log rank ranks w.barriers = sym h ∙ w.is in
-      let tails : replicate k barrier ≡ replicate w.barriers barrier ++ log_end ∷ [] = cc in
-      no_last barrier log_end k w.barriers barrier_is_no_end tails;
+        let same : header rank ranks ∷ replicate k barrier ≡ whole_log rank ranks w.barriers = sym h ∙ w.is in
+        let tails : replicate k barrier ≡ replicate w.barriers barrier ++ log_end ∷ [] = cc in
+        no_last barrier log_end k w.barriers barrier_is_no_end tails;
   }

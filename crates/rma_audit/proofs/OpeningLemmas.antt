@@ -1,5 +1,5 @@
 -- Names of which the first were opened.
-use Rattle.std.proofs.Common.{◌≡◌, ℕ, ◌+◌, ◌<◌, List, [], ◌∷◌, ◌++◌, ◌⊎◌, Option, Some, None, Result, Ok, Err, OnErr, length, map, take, drop, get_or, refl, ap, sym, ◌∙◌, subst, inl, inr, arith, suc, drop-cons, add-one}
+use Rattle.std.proofs.Common.{◌≡◌, ℕ, ◌+◌, ◌<◌, List, ◌∷◌, ◌++◌, ◌⊎◌, Option, Some, None, Result, Ok, Err, OnErr, length, take, drop, get_or, ap, sym, ◌∙◌, inl, inr, suc, drop-cons, add-one}
 use Rattle.std.proofs.lemmas.List.{take-append-drop}
 use Rattle.rma_io.specs.Sources.{Opened, refused_after}
 use Rattle.rma_io.specs.declared.sources.OpenFault.{OpenFault}
@@ -22,7 +22,7 @@ opens_some names i name before after fault below is opened none same refused = r
   rest = drop i names;
   front = sym (take-append-drop i names) ∙ ap (λ ns. ns ++ drop i names) (sym (same ∙ opened));
   refused = elim (refused_next before.refused name after.refused fault none refused) [
-      inl h ↦ inl h
+    | inl h ↦ inl h
     | inr h ↦ inr (name, drop (i + 1) names, rw add-one (drop-cons names i name below ∙ ap (λ n. n ∷ drop (suc i) names) (sym is)), h)
   ];
 }

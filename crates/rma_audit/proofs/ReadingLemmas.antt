@@ -1,14 +1,13 @@
 -- A reader, its cutter and the lines of its text.
-use Rattle.std.proofs.Common.{◌≡◌, ◌≢◌, ℕ, zero, suc, ◌+◌, ◌<◌, ◌≤◌, ◌⊎◌, ◌==◌, Bool, true, false, List, [], ◌∷◌, ◌++◌, Option, Some, None, length, take, drop, get_or, count_by, slice_get, refl, ap, sym, ◌∙◌, subst, inl, inr, arith, length-append, cond, if◌then◌else◌, sum_by}
+use Rattle.std.proofs.Common.{◌≡◌, ◌≢◌, ℕ, zero, suc, ◌+◌, ◌<◌, ◌≤◌, ◌==◌, Bool, true, false, List, [], ◌∷◌, ◌++◌, Some, length, take, count_by, slice_get, refl, ap, sym, ◌∙◌, subst, inl, inr, arith, length-append, cond, if◌then◌else◌}
 use Rattle.std.proofs.lemmas.List.{take_more, length-take}
 use Rattle.std.proofs.lemmas.List.Sums.{sum_by-cons}
 use Rattle.std.proofs.Math.Seq.{take-length}
 use Rattle.std.proofs.lemmas.Option.{slice_get_within, get_or_from_slice_get}
 use Rattle.rma_lex.specs.Lines.{lines, onto_first}
-use Rattle.rma_lex.specs.Cutting.{Cutting, StandsFor, CutsOff, TakesLine}
-use Rattle.rma_audit.specs.LogForm.{header}
+use Rattle.rma_lex.specs.Cutting.{Cutting, StandsFor, CutsOff}
 use Rattle.rma_audit.specs.Stages.{IsStageOf}
-use Rattle.rma_audit.specs.Reading.{IsAtStage, HasRead}
+use Rattle.rma_audit.specs.Reading.{IsAtStage}
 use Rattle.rma_audit.specs.declared.stage.Stage.{Stage}
 
 -- one element more
@@ -18,7 +17,7 @@ take_found xs i x found = take_more xs i x (slice_get_within xs i x found) ∙ a
 -- what is left behind a line is less than what there was
 pub cut_smaller : (cutting : Cutting) (line left : List ℕ) → CutsOff cutting line left → length left < length cutting.rest
 cut_smaller cutting line left h = elim h.cut [
-    inl e ↦ omega (arith, ap length e, length-append line (10 ∷ left))
+  | inl e ↦ omega (arith, ap length e, length-append line (10 ∷ left))
   | inr p ↦ elim_last cutting line left p
 ]
   where
@@ -28,7 +27,7 @@ cut_smaller cutting line left h = elim h.cut [
 
 -- the cutter handed out a line, and the stage went on with it
 pub stage_next : (rank ranks : ℕ) (before after : Cutting) (text line : List ℕ) (next : Stage) → StandsFor after text → slice_get (lines text) before.handed ≡ Some line → after.handed ≡ before.handed + 1
-  → IsStageOf rank ranks (take before.handed (lines text) ++ line ∷ []) next → IsAtStage rank ranks after text next
+    → IsStageOf rank ranks (take before.handed (lines text) ++ line ∷ []) next → IsAtStage rank ranks after text next
 stage_next rank ranks before after text line next stands found one stage = record {
   stands_for = stands;
   behind = subst (λ log. IsStageOf rank ranks log next) (sym (ap (λ n. take n (lines text)) one ∙ take_found (lines text) before.handed line found)) stage;
@@ -55,7 +54,7 @@ first_line false byte (x ∷ xs) = omega arith
 
 -- one byte more in front: it ends a line, or goes to the first
 stay_step : (ended : Bool) (byte n count : ℕ) (xs ys : List (List ℕ)) → suc n ≤ cond ended 1 0 + count → (0 < count → (0 < length xs) × (0 < length ys)) → ((m : ℕ) → m ≤ count → take m xs ≡ take m ys)
-  → take (suc n) (if ended then [] ∷ xs else onto_first byte xs) ≡ take (suc n) (if ended then [] ∷ ys else onto_first byte ys)
+    → take (suc n) (if ended then [] ∷ xs else onto_first byte xs) ≡ take (suc n) (if ended then [] ∷ ys else onto_first byte ys)
 stay_step true byte n count xs ys h some ih = ap (λ ls. [] ∷ ls) (ih n (omega arith))
 stay_step false byte n count xs ys h some ih = let there = some (omega arith) in onto_stays byte n xs ys there.0 there.1 (ih (suc n) (omega arith))
 

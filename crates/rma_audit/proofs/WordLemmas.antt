@@ -1,5 +1,5 @@
 -- The words of a command as the texts of what holds them.
-use Rattle.std.proofs.Common.{◌≡◌, ℕ, ◌≤◌, List, [], ◌∷◌, length, map, codes, All, get_or, sym, ap, ◌∙◌, subst, refl, arith}
+use Rattle.std.proofs.Common.{◌≡◌, ℕ, ◌≤◌, List, ◌∷◌, length, map, codes, All, sym, ap, ◌∙◌, subst, arith}
 use Rattle.std.proofs.lemmas.List.{get_or-map, length-map}
 use Rattle.std.proofs.lemmas.List.Elements.{All-map}
 use Rattle.rma_audit.specs.Words.{IsAudit, IsName}
@@ -21,8 +21,8 @@ module _ {W : Type 0} (text : W → List ℕ) where
   -- and back
   pub audited : (all : List W) (verb : W) (names : List W) → all ≡ verb ∷ names → (given : List (List ℕ)) → IsAudit (map text all) given → (text verb ≡ codes "audit") × (1 ≤ length names) × (length names ≤ 64) × All (λ n. IsName (text n)) names
   audited all verb names is given h =
-    let whole : text verb ∷ map text names ≡ codes "audit" ∷ given = sym (ap (map text) is) ∙ h.verb in
-    let heads : text verb ≡ codes "audit" = cc in
-    let tails : map text names ≡ given = cc in
-    let same : length names ≡ length given = sym (length-map names text) ∙ ap length tails in
-    (heads, omega (arith, h.some), omega (arith, h.few), All-texts IsName names (subst (All IsName) (sym tails) h.each))
+      let whole : text verb ∷ map text names ≡ codes "audit" ∷ given = sym (ap (map text) is) ∙ h.verb in
+      let heads : text verb ≡ codes "audit" = cc in
+      let tails : map text names ≡ given = cc in
+      let same : length names ≡ length given = sym (length-map names text) ∙ ap length tails in
+      (heads, omega (arith, h.some), omega (arith, h.few), All-texts IsName names (subst (All IsName) (sym tails) h.each))

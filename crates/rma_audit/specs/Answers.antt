@@ -1,7 +1,7 @@
 -- What each answer of the top call says.
-use Rattle.std.specs.Prelude.{◌≡◌, ◌≢◌, ℕ, ◌+◌, ◌<◌, ◌≤◌, List, [], ◌∷◌, ◌++◌, Option, Some, None, ◌⊎◌, length, map, sum_by, IfSome, All}
+use Rattle.std.specs.Prelude.{◌≡◌, ◌≢◌, ℕ, ◌+◌, ◌<◌, ◌≤◌, List, [], ◌∷◌, ◌++◌, Some, None, ◌⊎◌, length, map, sum_by, IfSome, All}
 use Rattle.rma_io.specs.Counts.{Rose}
-use Rattle.rma_io.specs.Tapes.{Tape, whole, IsSpent, StillTold}
+use Rattle.rma_io.specs.Tapes.{whole, IsSpent, StillTold}
 use Rattle.rma_io.specs.Sources.{Source, Opened}
 use Rattle.rma_io.specs.Sinks.{Output, AppendsFrontOf}
 use Rattle.rma_audit.specs.Words.{IsAudit, AreFaulty}
@@ -43,6 +43,7 @@ pub record ReadsSome (run : Run) (names : List (List ℕ)) : Type 0 where
 pub record ReadsTooMuch (run : Run) (names : List (List ℕ)) : Type 0 where
   pub words : IsAudit run.words names
   pub opened : run.opened.names ≡ names
+  pub none_refused : run.opened.refused ≡ None
   pub taken : BYTES < run.source.taken
   pub stops : run.source.taken ≤ BYTES + 65536
 
@@ -51,6 +52,7 @@ pub record ReadsTooMuch (run : Run) (names : List (List ℕ)) : Type 0 where
 pub record Judges (run : Run) (names logs : List (List ℕ)) (found : List BadLine) : Type 0 where
   pub words : IsAudit run.words names
   pub opened : run.opened.names ≡ names
+  pub none_refused : run.opened.refused ≡ None
   pub taken : run.source.taken ≤ BYTES
   pub one_log_a_name : length logs ≡ length names
   pub all_taken : sum_by length logs ≡ run.source.taken

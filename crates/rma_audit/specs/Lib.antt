@@ -7,3 +7,5 @@ pub mod Malformed
 pub mod Stages
 pub mod Opening
 pub mod Reading
+pub mod Progress
+pub mod Runs

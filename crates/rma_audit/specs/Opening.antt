@@ -1,6 +1,5 @@
 -- How far the opening of the logs came.
-use Rattle.std.specs.Prelude.{◌≡◌, ℕ, ◌≤◌, List, [], ◌++◌, ◌∷◌, ◌⊎◌, Option, Some, None, IfSome, map, replicate, length}
-use Rattle.rma_io.specs.Tapes.{Tape}
+use Rattle.std.specs.Prelude.{◌≡◌, ℕ, ◌≤◌, List, [], None, IfSome, map, replicate, length}
 use Rattle.rma_io.specs.Sources.{Source, Opened}
 
 -- the first names were opened and none was refused; nothing was taken, and no fault was forgotten

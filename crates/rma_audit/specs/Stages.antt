@@ -1,5 +1,5 @@
 -- How far the lines of a log keep its form.
-use Rattle.std.specs.Prelude.{◌≡◌, ℕ, ◌+◌, List, [], ◌∷◌, ◌++◌, replicate}
+use Rattle.std.specs.Prelude.{◌≡◌, ℕ, ◌+◌, List, [], ◌∷◌, replicate}
 use Rattle.rma_audit.specs.declared.stage.Stage.{Stage}
 use Rattle.rma_audit.specs.declared.stage.Stage.TheVariants.{Header, Body, Ended, Broken}
 use Rattle.rma_audit.specs.LogForm.{header, barrier, whole_log, BreaksAt}

@@ -2,17 +2,13 @@
 #![tactic(auto)]
 
 mod audit;
-
 mod findings;
-
 mod log_reader;
-
 mod opening;
-
+pub mod program;
+mod reading;
 mod report;
-
 mod stage;
-
 pub mod status;
-
+mod stop;
 mod words;

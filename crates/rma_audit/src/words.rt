@@ -21,12 +21,9 @@ pub(crate) fn audit_names(words: &[String]) -> Option<&[String]>
 fn is_audit(verb: &str, names: &[String]) -> bool
     ensures { IsTrue result
         ↔ ((verb.now ≡ codes "audit") × (1 ≤ length names.now) × (length names.now ≤ RANKS)
-            × All (λ name. IsName (string_bytes name)) names.now) }
+        × All (λ name. IsName (string_bytes name)) names.now) }
 {
-    verb == "audit"
-        && !names.is_empty()
-        && names.len() <= RANKS
-        && names.iter().all(is_name)
+    verb == "audit" && !names.is_empty() && names.len() <= RANKS && names.iter().all(is_name)
 }
 
 // Whether the word is a name: not empty, and no option.

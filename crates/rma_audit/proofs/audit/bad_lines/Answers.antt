@@ -1,4 +1,4 @@
-use Rattle.std.proofs.Common.{◌≡◌, ◌+◌, ◌<◌, ◌++◌, ◌∷◌, [], ℕ, List, take, length, get_or, map, option_map, ap, sym, ◌∙◌, subst, arith}
+use Rattle.std.proofs.Common.{◌≡◌, ◌+◌, ◌<◌, ◌++◌, ◌∷◌, [], take, length, get_or, map, option_map, ap, sym, ◌∙◌, subst, arith}
 use Rattle.std.proofs.lemmas.List.{take_more, length-take}
 use Rattle.rma_lex.specs.Lines.{lines}
 use Rattle.rma_audit.specs.Findings.{AreBadLines}
@@ -22,4 +22,4 @@ loop-rank-preserved c = λ texts h.
     let pushed = bad_lines_push ranks 0 (take i texts) text found own (c.loop-rank.invariant texts h) (subst (λ r. IsBadLine r ranks (lines text) own) place bad) in
     let same = ap (map bad_line) c.in_ok-push_some.ensures ∙ map-append_option bad_line c.loop-rank.list.items c.bad_line.result in
     subst (λ logs. AreBadLines ranks 0 logs (map bad_line c.push_some.new.list.items)) (sym (take_more texts i [] there))
-      (subst (AreBadLines ranks 0 (take i texts ++ text ∷ [])) (sym same) pushed)
+    (subst (AreBadLines ranks 0 (take i texts ++ text ∷ [])) (sym same) pushed)

@@ -1,4 +1,4 @@
-use Rattle.std.proofs.Common.{◌≡◌, ℕ, List, take, length, map}
+use Rattle.std.proofs.Common.{ℕ, List, take, length, map}
 use Rattle.rma_audit.specs.Findings.{AreBadLines}
 use Rattle.rma_audit.specs.Malformed.{bad_line}
 use Rattle.rma_audit.specs.Reading.{HaveReadAll}

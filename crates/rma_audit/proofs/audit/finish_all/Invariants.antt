@@ -1,4 +1,4 @@
-use Rattle.std.proofs.Common.{◌≡◌, ◌≤◌, ◌<◌, ℕ, List, get_or, length}
+use Rattle.std.proofs.Common.{◌≡◌, ◌≤◌, ◌<◌, ℕ, List, get_or}
 use Rattle.rma_audit.specs.Reading.{HasRead, HasReadAll}
 use Rattle.rma_audit.specs.declared.log_reader.LogReader.{LogReader}
 use Rattle.rma_audit.proofs.audit.finish_all.Given as goal

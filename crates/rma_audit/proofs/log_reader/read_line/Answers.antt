@@ -1,7 +1,6 @@
-use Rattle.std.proofs.Common.{◌≡◌, ℕ, ◌+◌, take, ap, sym, ◌∙◌}
+use Rattle.std.proofs.Common.{◌+◌, take, ap, sym, ◌∙◌}
 use Rattle.rma_lex.specs.Lines.{lines}
-use Rattle.rma_lex.specs.Cutting.{Cutting, TakesLine}
-use Rattle.rma_lex.specs.Handing.{HandsOut}
+use Rattle.rma_lex.specs.Cutting.{Cutting}
 use Rattle.rma_audit.proofs.ReadingLemmas.{cut_smaller, stage_next, lines_before}
 use Rattle.rma_audit.proofs.log_reader.read_line.Goals as goal
 
@@ -15,7 +14,7 @@ returns-in-Some-Ok-clause-at_stage c = λ rank ranks text expects h.
     let found = rw c.in-Some-Ok.field-0-is at (c.in-Some-Ok.ensures.text text h.stands_for) in
     let taken = rw (c.in-Some-Ok.is, c.in-Some-Ok.field-0-is) at out.line in
     stage_next rank ranks before after text line.text.now c.after.result (out.text text h.stands_for) found (ap (λ (cutting : Cutting). cutting.handed) taken.1)
-      (c.after.ensures rank ranks (take before.handed (lines text)) expects (numbered.0 ∙ ap (λ n. n + 1) (sym (lines_before before text h.stands_for))) h.behind)
+    (c.after.ensures rank ranks (take before.handed (lines text)) expects (numbered.0 ∙ ap (λ n. n + 1) (sym (lines_before before text h.stands_for))) h.behind)
 
 pub returns-in-Some-Ok-clause-smaller : goal.returns-in-Some-Ok-clause-smaller
 returns-in-Some-Ok-clause-smaller c = λ _.

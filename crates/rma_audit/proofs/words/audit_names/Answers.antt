@@ -1,4 +1,4 @@
-use Rattle.std.proofs.Common.{◌≡◌, string_bytes, sym, ◌∙◌, List, ℕ, ◌∷◌, true, false}
+use Rattle.std.proofs.Common.{◌≡◌, string_bytes, sym, ◌∙◌, true, false}
 use Rattle.rma_audit.proofs.WordLemmas.{audits, audited}
 use Rattle.rma_audit.proofs.words.audit_names.Goals as goal
 

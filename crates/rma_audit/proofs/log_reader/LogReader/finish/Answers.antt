@@ -1,4 +1,4 @@
-use Rattle.std.proofs.Common.{◌≡◌, ap, sym, ◌∙◌, subst}
+use Rattle.std.proofs.Common.{ap, ◌∙◌}
 use Rattle.rma_lex.specs.Cutting.{Cutting}
 use Rattle.rma_audit.proofs.ReadingLemmas.{stage_closed, stage_at_end}
 use Rattle.rma_audit.proofs.log_reader.LogReader.finish.Goals as goal

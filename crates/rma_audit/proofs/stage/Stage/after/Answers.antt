@@ -1,5 +1,4 @@
-use Rattle.std.proofs.Common.{length, subst, sym}
-use Rattle.rma_audit.specs.declared.stage.Stage.{Stage}
+use Rattle.std.proofs.Common.{length, subst}
 use Rattle.rma_audit.specs.Stages.{IsStageOf}
 use Rattle.rma_audit.proofs.LogFormLemmas.{ended_breaks}
 use Rattle.rma_audit.proofs.stage.Stage.after.Goals as goal
