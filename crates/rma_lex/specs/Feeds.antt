@@ -1,5 +1,5 @@
 -- What is known of the line feeds of a text from a place on.
-use Rattle.std.specs.Prelude.{◌≡◌, ◌≢◌, ◌↔◌, ◌⊎◌, ℕ, ◌+◌, ◌<◌, ◌≤◌, Bool, true, List, length, slice_index, Option, MatchOption}
+use Rattle.std.specs.Prelude.{◌≡◌, ◌≢◌, ◌↔◌, ◌⊎◌, ℕ, ◌+◌, ◌<◌, ◌≤◌, Bool, true, List, length, slice_index}
 use Rattle.std.specs.Int.{bit_at}
 
 -- no line feed stands from one place up to another
@@ -12,10 +12,6 @@ pub record IsFirstFeed (text : List ℕ) (from place : ℕ) : Type 0 where
   pub high : place < length text
   pub feed : slice_index text place ≡ 10
   pub before : NoFeed text from place
-
--- The answer is the place of the first line feed from a place on, and None where there is none.
-abbrev pub FindsFeed : List ℕ → ℕ → Option ℕ → Type 0
-FindsFeed text from found = MatchOption found (NoFeed text from (length text)) (λ place. IsFirstFeed text from place)
 
 -- The line that begins at the start ends there, and the next one begins at that place: behind a line feed, or at the
 -- end of a text that has ended, where the line is not empty.

@@ -67,7 +67,8 @@ impl LineCutter {
 
     /// How many bytes it was fed.
     pub fn fed(&self) -> u64
-        ensures { result ≡ self.now.fed }
+        ensures fed { result ≡ self.now.fed }
+        ensures limit { result ≤ FED }
     {
         self.fed
     }
@@ -167,3 +168,6 @@ fn has_open_end(text: &[u8]) -> bool
         None => false,
     }
 }
+
+#[cfg(test)]
+mod tests;

@@ -7,7 +7,7 @@ use std::simd::prelude::*;
 
 // The next line begins at the start. The text was searched up to `seen`; the line feeds that were found there and not
 // handed out yet are marked: bit k of the mask is for the place `base + k`.
-#[derive(Clone, Copy)]
+#[derive(Drop)]
 pub(crate) struct LineFeeds {
     pub(crate) start: usize,
     seen: usize,
