@@ -1,5 +1,5 @@
 -- How the fields of a cutter stand for what it keeps.
-use Rattle.std.specs.Prelude.{ℕ, ◌+◌, ◌≤◌, length, drop}
+use Rattle.std.specs.Prelude.{◌+◌, ◌≤◌, length, drop}
 use Rattle.rma_base.specs.declared.limits.TheConstants.{FED}
 use Rattle.rma_lex.specs.declared.cutter.LineCutter.TheInside.{Inside}
 use Rattle.rma_lex.specs.Cutting.{Cutting}

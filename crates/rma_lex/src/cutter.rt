@@ -25,7 +25,8 @@ pub struct LexFault {
     pub reason: FormReason,
 }
 
-/// Cuts a text into lines. It keeps what was fed and not handed out yet, and nothing else.
+/// Cuts a text into lines. It keeps what it was fed and did not hand out; what it handed out is dropped at the next
+/// feed.
 #[derive(Drop)]
 pub struct LineCutter {
     text: Vec<u8>,

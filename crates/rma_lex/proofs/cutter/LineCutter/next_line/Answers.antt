@@ -1,4 +1,4 @@
-use Rattle.std.proofs.Common.{◌≡◌, ◌+◌, Bool, true, refl, sym, ap, subst, ◌∙◌, length, List, ℕ, drop}
+use Rattle.std.proofs.Common.{◌≡◌, ◌+◌, true, refl, sym, ap, subst, ◌∙◌, length, ℕ, drop}
 use Rattle.rma_lex.specs.Cutting.{Cutting, StandsFor}
 use Rattle.rma_lex.specs.Feeds.{NoFeed, IsLineAt}
 use Rattle.rma_lex.proofs.CutLemmas.{TakesLine-at, HasNoLine-from, StandsFor-taken, slice_get-next, handed_all, some_line}
