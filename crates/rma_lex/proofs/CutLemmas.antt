@@ -137,16 +137,16 @@ HasNoLine-from before items fed handed start closed same none ended =
     subst HasNoLine same (HasNoLine-at (record { fed = fed; handed = handed; rest = drop start items; closed = closed }) items start refl none ended)
 
 -- the fields of a cutter that was fed a piece
-pub StandsFor-fields : (before : Cutting) (items kept new piece text : List ℕ) (fed handed start : ℕ) (closed : Bool)
+pub StandsFor-fields : (before : Cutting) (items kept new piece text : List ℕ) (fed handed start moved : ℕ) (closed : Bool)
     → ◌≡◌ {A = Cutting} (record { fed = fed; handed = handed; rest = drop start items; closed = closed }) before
-    → kept ≡ drop start items → new ≡ kept ++ piece → before.closed ≡ false → StandsFor before text
-    → StandsFor (record { fed = fed + length piece; handed = handed; rest = new; closed = closed }) (text ++ piece)
-StandsFor-fields before items kept new piece text fed handed start closed same moved grown goes_on stands =
+    → moved ≡ 0 → kept ≡ drop start items → new ≡ kept ++ piece → before.closed ≡ false → StandsFor before text
+    → StandsFor (record { fed = fed + length piece; handed = handed; rest = drop moved new; closed = closed }) (text ++ piece)
+StandsFor-fields before items kept new piece text fed handed start moved closed same at_front left grown goes_on stands =
     let cutting : Cutting = record { fed = fed; handed = handed; rest = drop start items; closed = closed } in
     let from : StandsFor cutting text = subst (λ c. StandsFor c text) (sym same) stands in
     let open_still : closed ≡ false = ap (λ c. c.closed) same ∙ goes_on in
     subst (λ rest. StandsFor (record { fed = fed + length piece; handed = handed; rest = rest; closed = closed }) (text ++ piece))
-    (sym (grown ∙ ap (λ k. k ++ piece) moved)) (StandsFor-fed cutting text piece open_still from)
+    (sym (ap (λ n. drop n new) at_front ∙ grown ∙ ap (λ k. k ++ piece) left)) (StandsFor-fed cutting text piece open_still from)
 
 -- the lines of what a cutter keeps
 module _ (now : Cutting) (items shown : List ℕ) (fed handed start count : ℕ) (closed : Bool)

@@ -1,5 +1,6 @@
 -- What is known of the line feeds of a text from a place on.
-use Rattle.std.specs.Prelude.{◌≡◌, ◌≢◌, ◌⊎◌, ℕ, ◌+◌, ◌<◌, ◌≤◌, Bool, true, List, length, slice_index, Option, MatchOption}
+use Rattle.std.specs.Prelude.{◌≡◌, ◌≢◌, ◌↔◌, ◌⊎◌, ℕ, ◌+◌, ◌<◌, ◌≤◌, Bool, true, List, length, slice_index}
+use Rattle.std.specs.Int.{bit_at}
 
 -- no line feed stands from one place up to another
 abbrev pub NoFeed : List ℕ → ℕ → ℕ → Type 0
@@ -12,10 +13,6 @@ pub record IsFirstFeed (text : List ℕ) (from place : ℕ) : Type 0 where
   pub feed : slice_index text place ≡ 10
   pub before : NoFeed text from place
 
--- The answer is the place of the first line feed from a place on, and None where there is none.
-abbrev pub FindsFeed : List ℕ → ℕ → Option ℕ → Type 0
-FindsFeed text from found = MatchOption found (NoFeed text from (length text)) (λ place. IsFirstFeed text from place)
-
 -- The line that begins at the start ends there, and the next one begins at that place: behind a line feed, or at the
 -- end of a text that has ended, where the line is not empty.
 pub record IsLineAt (text : List ℕ) (closed : Bool) (start end next : ℕ) : Type 0 where
@@ -24,3 +21,7 @@ pub record IsLineAt (text : List ℕ) (closed : Bool) (start end next : ℕ) : T
   pub within : next ≤ length text
   pub no_line_feed : NoFeed text start end
   pub ended : ((next ≡ end + 1) × (slice_index text end ≡ 10)) ⊎ ((closed ≡ true) × (end ≡ length text) × (next ≡ end))
+
+-- bit k of the mask is set where a line feed stands k places behind the first, up to the last place
+abbrev pub MarksFeeds : List ℕ → ℕ → ℕ → ℕ → Type 0
+MarksFeeds text from to mask = (k : ℕ) → (bit_at mask k ≡ 1) ↔ ((from + k < to) × (slice_index text (from + k) ≡ 10))

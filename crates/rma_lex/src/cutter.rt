@@ -2,9 +2,8 @@
 ghost use Rattle.std.specs.Prelude.{◌≡◌, ◌↔◌, ℕ, ◌+◌, ◌^◌, ◌<◌, ◌≤◌, true, false, List, [], ◌++◌, length, IsNone, IfNone, IfSome, IfOk, IsOkAnd, OnOk, OnErr, slice_get, drop, vec_len, count_by, ◌==◌};
 ghost use Rattle.rma_lex.specs.Lines.{lines, has_open_end};
 ghost use Rattle.rma_lex.specs.Cutting.{StandsFor, HasNoLine, IsNextLine};
-ghost use Rattle.rma_lex.specs.Feeds.{NoFeed, IsLineAt};
 
-use crate::line_feeds::line_feed_from;
+use crate::line_feeds::LineFeeds;
 use rma_base::allocation::Memory;
 use rma_base::limits::FED;
 use rma_base::lines::LineNo;
@@ -26,12 +25,12 @@ pub struct LexFault {
     pub reason: FormReason,
 }
 
-/// Cuts a text into lines. It keeps what was fed and not handed out yet, and nothing else.
+/// Cuts a text into lines. It keeps what it was fed and did not hand out; what it handed out is dropped at the next
+/// feed.
 #[derive(Drop)]
 pub struct LineCutter {
     text: Vec<u8>,
-    start: usize,
-    searched: usize,
+    feeds: LineFeeds,
     fed: u64,
     handed: u32,
     closed: bool,
@@ -60,8 +59,7 @@ impl LineCutter {
     {
         LineCutter {
             text: Vec::new(alloc),
-            start: 0,
-            searched: 0,
+            feeds: LineFeeds::new(),
             fed: 0,
             handed: 0,
             closed: false,
@@ -70,7 +68,8 @@ impl LineCutter {
 
     /// How many bytes it was fed.
     pub fn fed(&self) -> u64
-        ensures { result ≡ self.now.fed }
+        ensures fed { result ≡ self.now.fed }
+        ensures limit { result ≤ FED }
     {
         self.fed
     }
@@ -83,9 +82,8 @@ impl LineCutter {
         ensures err { OnErr result (self.new ≡ self.old) }
         ensures text { OnOk result ((text : List ℕ) → StandsFor self.old text → StandsFor self.new (text ++ piece.now)) }
     {
-        drop_front(&mut self.text, self.start);
-        self.searched -= self.start;
-        self.start = 0;
+        drop_front(&mut self.text, self.feeds.start);
+        self.feeds.move_down();
         self.text.extend_from_slice(piece)?;
         self.fed += piece.len() as u64;
         Ok(())
@@ -110,21 +108,16 @@ impl LineCutter {
         ensures all { (text : List ℕ) → StandsFor self.old text → IsNone result → self.old.closed ≡ true → self.old.handed ≡ length (lines text) }
         ensures* after { sem 𝓛 (LendsLine self.entry result) }
     {
-        let start = self.start;
-        match line_from(&self.text, start, self.searched, self.closed) {
-            Some((end, next)) => {
-                self.start = next;
-                self.searched = next;
+        let start = self.feeds.start;
+        match self.feeds.next_end(&self.text, self.closed) {
+            Some(end) => {
                 self.handed += 1;
                 Some(Ok(Line {
                     no: LineNo(self.handed),
                     text: &self.text[start..end],
                 }))
             }
-            None => {
-                self.searched = self.text.len();
-                None
-            }
+            None => None,
         }
     }
 
@@ -134,24 +127,7 @@ impl LineCutter {
         ensures rest { result ≡ self.now.handed + length (lines self.now.rest) }
         ensures bound { result ≤ FED }
     {
-        self.handed + line_count(&self.text[self.start..])
-    }
-}
-
-// Where the line ends that begins at the start, and where the next one begins. It is searched from a place before
-// which there is no line feed.
-#[inline]
-fn line_from(text: &[u8], start: usize, searched: usize, closed: bool) -> Option<(usize, usize)>
-    requires started { start ≤ searched }
-    requires within { searched ≤ length text.now }
-    requires no_line_feed { NoFeed text.now start searched }
-    ensures none { IfNone result (NoFeed text.now start (length text.now) × (closed ≡ true → start ≡ length text.now)) }
-    ensures some { IfSome result (λ found. IsLineAt text.now closed start found.0 found.1) }
-{
-    match line_feed_from(text, searched) {
-        Some(end) => Some((end, end + 1)),
-        None if closed && start < text.len() => Some((text.len(), text.len())),
-        None => None,
+        self.handed + line_count(&self.text[self.feeds.start..])
     }
 }
 
@@ -193,3 +169,6 @@ fn has_open_end(text: &[u8]) -> bool
         None => false,
     }
 }
+
+#[cfg(test)]
+mod tests;
