@@ -1,5 +1,6 @@
 -- A source of logs in memory, which can be told to fail.
-use Rattle.std.specs.Prelude.{◌≡◌, ◌≢◌, ℕ, ◌+◌, ◌⊎◌, List, [], ◌∷◌, ◌++◌, All, Contains, Option, Some, None, Result, Ok, Err, length, map, take, slice_get, Vec, string_bytes, String}
+use Rattle.std.specs.Prelude.{◌≡◌, ◌≢◌, ℕ, ◌+◌, ◌⊎◌, List, [], ◌∷◌, ◌++◌, All, Contains, Option, Some, None, Result, Ok, Err, length, map, take, slice_get, slice_index_or, Vec, string_bytes, String}
+use Rattle.std.specs.declared.alloc.Global.{Global}
 use Rattle.rma_io.specs.Counts.{raised}
 use Rattle.rma_io.specs.Tapes.{untouched}
 use Rattle.rma_io.specs.Logbooks.{Log, names_of, tapes_of}
@@ -15,6 +16,16 @@ use Rattle.rma_io.specs.declared.sources.Pull.{Pull}
 pub record File : Type 0 where
   pub name : List ℕ
   pub bytes : List ℕ
+
+abbrev pub file_of : (String Global × Vec ℕ Global) → File
+file_of file = record { name = string_bytes file.0; bytes = file.1.items }
+
+abbrev pub files_of : List (String Global × Vec ℕ Global) → List File
+files_of files = map file_of files
+
+-- the bytes of the file at this place
+abbrev pub text_of : List File → ℕ → List ℕ
+text_of files place = (slice_index_or files place (record { name = []; bytes = [] })).bytes
 
 -- the files that a source has; the pairs that are left to read by; the numbers of the calls that fail, and how
 -- many calls there were; the logs opened, the name last refused, the bytes taken and the count of faults
@@ -63,19 +74,35 @@ IsMemoryPull old room (Err e) new filled =
 abbrev pub NoneNamed : List File → List ℕ → Type 0
 NoneNamed files name = All (λ file. file.name ≢ name) files
 
--- this is the first file of this name
-pub record IsFirstNamed (files : List File) (name : List ℕ) (file : File) : Type 0 where
-  pub place : ℕ
+-- the first file of this name stands at this place
+pub record IsFirstNamed (files : List File) (name : List ℕ) (place : ℕ) (file : File) : Type 0 where
   pub none_before : NoneNamed (take place files) name
   pub stands : slice_get files place ≡ Some file
   pub named : file.name ≡ name
 
+abbrev pub IsFirstNamedAt : List File → List ℕ → ℕ → Type 0
+IsFirstNamedAt files name place = (file : File) × IsFirstNamed files name place file
+
+-- a source after one more log was opened by this name, with these bytes
+abbrev pub after_opening : List ℕ → List ℕ → MemorySource → MemorySource
+after_opening name bytes memory = record memory { logs = memory.logs ++ record { name = name; tape = untouched bytes } ∷ [] }
+
+-- a log with the bytes of the file at this place was added, or memory ran out and nothing changed
+abbrev pub AddsFile : MemorySource → List ℕ → ℕ → Result Unit OpenFault → MemorySource → Type 0
+AddsFile old name place (Ok x) new = new ≡ after_opening name (text_of old.files place) old
+AddsFile old name place (Err refusal.Failed) new = ⊥
+AddsFile old name place (Err refusal.Memory) new = new ≡ old
+
+-- a source after a call was counted
+abbrev pub after_call : MemorySource → MemorySource
+after_call memory = record memory { calls = raised memory.calls 1 }
+
 -- an open of this name gave this answer
 abbrev pub IsMemoryOpen : MemorySource → List ℕ → Result Unit OpenFault → MemorySource → Type 0
 IsMemoryOpen old name (Ok x) new =
-    (file : File) × IsFirstNamed old.files name file × (¬ MustFail old)
-    × (new ≡ record old { calls = raised old.calls 1; logs = old.logs ++ record { name = name; tape = untouched file.bytes } ∷ [] })
+    (place : ℕ) × (file : File) × IsFirstNamed old.files name place file × (¬ MustFail old)
+    × (new ≡ after_opening name file.bytes (after_call old))
 IsMemoryOpen old name (Err refusal.Failed) new =
     (MustFail old ⊎ NoneNamed old.files name)
-    × (new ≡ record old { calls = raised old.calls 1; refused = Some name; faults = raised old.faults 1 })
-IsMemoryOpen old name (Err refusal.Memory) new = new ≡ record old { calls = raised old.calls 1 }
+    × (new ≡ record (after_call old) { refused = Some name; faults = raised old.faults 1 })
+IsMemoryOpen old name (Err refusal.Memory) new = new ≡ after_call old

@@ -1,5 +1,5 @@
 -- A page of bytes in memory, of a size that never grows.
-use Rattle.std.specs.Prelude.{ℕ, List, [], ◌++◌, Option, Some, None, length, take, nat_le, if◌then◌else◌}
+use Rattle.std.specs.Prelude.{◌≡◌, ℕ, ◌<◌, ◌^◌, List, [], ◌++◌, Option, Some, None, length, min, take, nat_le, if◌then◌else◌}
 use Rattle.rma_io.specs.Counts.{raised}
 
 -- how many bytes fit the page; the first of the bytes passed on, which fit it; and the number of those passed on
@@ -21,3 +21,8 @@ after_passing piece page = record {
 -- the bytes passed on, which are told as long as all of them fit the page
 abbrev pub told_by : Page → Option (List ℕ)
 told_by page = if nat_le page.passed page.size then Some page.kept else None
+
+-- what is true of every page
+pub record IsPage (page : Page) : Type 0 where
+  pub fits : length page.kept ≡ min page.passed page.size
+  pub small : page.size < 2 ^ 63

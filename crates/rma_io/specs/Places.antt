@@ -33,6 +33,14 @@ log_at texts place = record {
   tape = record { taken = take place.at (texts place.text); left = drop place.at (texts place.text) };
 }
 
+-- the logs that stand at these places, of these texts
+abbrev pub logs_at : (ℕ → List ℕ) → List Place → List Log
+logs_at texts places = map (log_at texts) places
+
+-- what was taken of a log and what is left are all of its text
+abbrev pub IsPlaced : (ℕ → List ℕ) → Place → Type 0
+IsPlaced texts place = place.at + place.left ≡ length (texts place.text)
+
 -- the pair at this place is the first whose log has bytes left
 abbrev pub IsFirstLive : List ℕ → List Cut → ℕ → Type 0
 IsFirstLive left cuts place =

@@ -1,5 +1,6 @@
 -- A source of logs in memory that never fails.
-use Rattle.std.specs.Prelude.{◌≡◌, ℕ, ◌+◌, List, [], ◌∷◌, ◌++◌, Option, Some, None, Result, Ok, Err, length, slice_index_or}
+use Rattle.std.specs.Prelude.{◌≡◌, ℕ, ◌+◌, List, [], ◌∷◌, ◌++◌, Option, Some, None, Result, Ok, Err, length, map, slice_index_or, Vec}
+use Rattle.std.specs.declared.alloc.Global.{Global}
 use Rattle.rma_io.specs.Tapes.{untouched}
 use Rattle.rma_io.specs.Logbooks.{Log, names_of, tapes_of}
 use Rattle.rma_io.specs.Turns.{Cut}
@@ -17,6 +18,13 @@ pub record SureSource : Type 0 where
   pub cuts : List Cut
   pub logs : List Log
   pub taken : ℕ
+
+abbrev pub contents_of : List (Vec ℕ Global) → List (List ℕ)
+contents_of logs = map (λ log. log.items) logs
+
+-- the bytes of the log at this place, or none
+abbrev pub text_of : List (List ℕ) → ℕ → List ℕ
+text_of contents place = slice_index_or contents place []
 
 -- a source that was not called yet
 abbrev pub unopened : List (List ℕ) → List Cut → SureSource
@@ -43,6 +51,6 @@ IsSurePull old room (Err e) new filled = ⊥
 -- an open of this name gave this answer: the next of the logs, or an empty one where there is none
 abbrev pub IsSureOpen : SureSource → List ℕ → Result Unit OpenFault → SureSource → Type 0
 IsSureOpen old name (Ok x) new =
-    new ≡ record old { logs = old.logs ++ record { name = name; tape = untouched (slice_index_or old.contents (length old.logs) []) } ∷ [] }
+    new ≡ record old { logs = old.logs ++ record { name = name; tape = untouched (text_of old.contents (length old.logs)) } ∷ [] }
 IsSureOpen old name (Err refusal.Failed) new = ⊥
 IsSureOpen old name (Err refusal.Memory) new = new ≡ old

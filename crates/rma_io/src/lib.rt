@@ -1,6 +1,7 @@
 //! How logs come in and reports go out: the traits, what each call of them means, and sources and sinks in memory.
 #![tactic(auto)]
 
+pub mod memory_logs;
 pub mod memory_sink;
 pub mod sinks;
 pub mod sources;

@@ -75,7 +75,7 @@ impl Sink for MemorySink {
             self.page.pass(piece);
             return Ok(());
         };
-        self.page.pass(&piece[..piece.len().min(most as usize)]);
+        self.page.pass(&piece[..(most as usize).min(piece.len())]);
         self.faults = self.faults.saturating_add(1);
         Err(Failed)
     }

@@ -1,6 +1,6 @@
 //! A page of bytes, which the sinks in memory write.
 ghost use Rattle.std.specs.Prelude.{◌≡◌, ◌≤◌, length, min, vec_len};
-ghost use Rattle.rma_io.specs.Pages.{Page as Written, blank, after_passing};
+ghost use Rattle.rma_io.specs.Pages.{blank, after_passing, IsPage};
 
 use std::marker::Model;
 
@@ -43,7 +43,8 @@ impl Page {
     }
 
     pub fn pass(&mut self, piece: &[u8])
-        ensures { self.new ≡ after_passing piece.now self.old }
+        ensures passed { self.new ≡ after_passing piece.now self.old }
+        ensures page { IsPage self.old }
     {
         let at = filled(&self.room, self.passed);
         let fitting = piece.len().min(self.room.len() - at);

@@ -1,5 +1,5 @@
 //! The logs that a source in memory has opened, and whose turn it is to be read.
-ghost use Rattle.std.specs.Prelude.{◌≡◌, ◌+◌, ◌-◌, ◌<◌, ◌≤◌, ◌^◌, ◌++◌, ◌∷◌, [], All, MatchOption, OnErr, OnOk, string_bytes, length, min, take, drop, map, slice_index, slice_get, slice_set, vec_len};
+ghost use Rattle.std.specs.Prelude.{◌≡◌, ◌+◌, ◌-◌, ◌<◌, ◌≤◌, ◌^◌, ◌++◌, ◌∷◌, [], All, IfSome, MatchOption, OnErr, OnOk, string_bytes, length, min, take, drop, map, slice_index, slice_get, slice_set, vec_len};
 ghost use Rattle.rma_io.specs.Turns.{IsIdle, IsZero};
 ghost use Rattle.rma_io.specs.Places.{lefts, moved_by, IsFirstLive, IsFirstLeft, IsNextCut, IsDealt, IsDealtFrom};
 
@@ -28,6 +28,7 @@ impl Model for Reel {
 }
 
 /// The bytes to read next: so many of the log of this rank, from `at` on in this text.
+#[derive(Drop)]
 pub struct Deal {
     pub rank: u32,
     pub len: usize,
@@ -81,13 +82,15 @@ fn first_live(opened: &[Reel], cuts: &[(u32, u32)]) -> Option<usize>
     None
 }
 
-/// The first log with bytes left.
-fn first_left(opened: &[Reel]) -> Option<usize>
-    ensures { IsFirstLeft (lefts opened.now) result }
+/// The lowest rank with bytes left, where those below `from` have none.
+fn first_left(opened: &[Reel], from: usize) -> Option<usize>
+    requires { All IsZero (take from (lefts opened.now)) }
+    ensures first { IsFirstLeft (lefts opened.now) result }
+    ensures within { IfSome result (λ rank. rank < length opened.now) }
 {
-    for (place, reel) in opened.iter().enumerate() {
-        if reel.left() > 0 {
-            return Some(place);
+    for rank in from..opened.len() {
+        if opened[rank].left() > 0 {
+            return Some(rank);
         }
     }
     None
@@ -188,12 +191,12 @@ impl Reels {
         ensures lowest { IsFirstLeft (lefts self.old.places) result }
         ensures same { self.new ≡ self.old }
     {
-        let Some(ahead) = first_left(&self.opened[self.spent..]) else {
+        let Some(rank) = first_left(&self.opened, self.spent) else {
             self.spent = self.opened.len();
             return None;
         };
-        self.spent += ahead;
-        Some(self.spent as u32)
+        self.spent = rank;
+        Some(rank as u32)
     }
 
     /// Deals out the next bytes of the log of this rank, which has some.

@@ -3,5 +3,5 @@ use Rattle.rma_io.specs.Turns.{IsZero}
 use Rattle.rma_io.specs.Places.{lefts}
 use Rattle.rma_io.proofs.reels.first_left.Given as goal
 
-abbrev pub invariant-loop-place : goal.invariant-loop-place
-invariant-loop-place l = All IsZero (take l.place (lefts l.opened))
+abbrev pub invariant-loop-rank : goal.invariant-loop-rank
+invariant-loop-rank l = All IsZero (take l.rank (lefts l.opened))
