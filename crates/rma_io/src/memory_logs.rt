@@ -10,7 +10,6 @@ ghost use Rattle.rma_io.specs.Counts.{raised};
 use std::alloc::Global;
 use std::marker::Model;
 
-use crate::pieces::copy_to_front;
 use crate::reels::Reels;
 use crate::sources::{Failed, Logs, OpenFault, Pull, Pulls};
 
@@ -110,8 +109,7 @@ impl MemoryLogs {
         let Some(deal) = self.reels.deal(room.len()) else {
             return Pull::Done;
         };
-        let text = self.files[deal.text].1.as_slice();
-        copy_to_front(room, &text[deal.at..deal.at + deal.len]);
+        deal.read(&self.files[deal.text].1, room);
         self.taken += deal.len as u64;
         Pull::Bytes {
             rank: deal.rank,

@@ -6,6 +6,8 @@ ghost use Rattle.rma_io.specs.Places.{lefts, moved_by, IsFirstLive, IsFirstLeft,
 use std::alloc::{AllocError, Global};
 use std::marker::Model;
 
+use crate::pieces::copy_to_front;
+
 /// A log that was opened: its name, the number of the text that has its bytes, how many of them were taken and how
 /// many are left.
 #[derive(Drop)]
@@ -28,12 +30,23 @@ impl Model for Reel {
 }
 
 /// The bytes to read next: so many of the log of this rank, from `at` on in this text.
-#[derive(Drop)]
+#[derive(Clone, Copy)]
 pub struct Deal {
     pub rank: u32,
     pub len: usize,
     pub text: usize,
     pub at: usize,
+}
+
+impl Deal {
+    /// Copies these bytes of their text to the front of the room.
+    pub fn read(self, text: &[u8], room: &mut [u8])
+        requires there { self.at + self.len ≤ length text.now }
+        requires fits { self.len ≤ length room.old }
+        ensures { room.new ≡ take self.len (drop self.at text.now) ++ drop self.len room.old }
+    {
+        copy_to_front(room, &text[self.at..self.at + self.len]);
+    }
 }
 
 impl Reel {
