@@ -32,9 +32,9 @@ IsTurn-share left cuts room rank len unused (inr t) =
     let s = t.some_left in
     record { some = λ r. omega arith; fits = omega arith; there = omega arith }
 
--- a number of a list that is read off another
-index-map : {X : Type 0} (f : X → ℕ) (xs : List X) (i : ℕ) (x : X) → slice_get xs i ≡ Some x → slice_index (map f xs) i ≡ f x
-index-map f xs i x e = get_or-map f xs i x 0 (slice_get_within xs i x e) ∙ ap f (get_or_from_slice_get xs i x x e)
+-- an element of a list that is made of another
+pub read-map : {X Y : Type 0} (f : X → Y) (xs : List X) (i : ℕ) (x : X) (d : Y) → slice_get xs i ≡ Some x → get_or (map f xs) i d ≡ f x
+read-map f xs i x d e = get_or-map f xs i x d (slice_get_within xs i x e) ∙ ap f (get_or_from_slice_get xs i x x e)
 
 pub bytes_left-logs_at : (texts : ℕ → List ℕ) (places : List Place) → All (IsPlaced texts) places
     → bytes_left (logs_at texts places) ≡ lefts places
@@ -63,7 +63,7 @@ pub dealt-within : (texts : ℕ → List ℕ) (old new : Progress) (room : ℕ) 
     → (deal.at + deal.len ≤ length (texts deal.text)) × (deal.len ≤ room) × (0 < room → 1 ≤ deal.len)
 dealt-within texts old new room deal placed (place, ranked, text, at, turn, moved) =
     let share = IsTurn-share (lefts old.places) old.cuts room deal.rank deal.len new.cuts turn in
-    let left = index-map (λ (p : Place). p.left) old.places deal.rank place ranked in
+    let left = read-map (λ (p : Place). p.left) old.places deal.rank place 0 ranked in
     let l = slice_get_within old.places deal.rank place ranked in
     let whole : place.at + place.left ≡ length (texts place.text) =
         subst (IsPlaced texts) (get_or_from_slice_get old.places deal.rank place place ranked) (placed deal.rank place l) in
@@ -75,7 +75,7 @@ pub dealt-placed : (texts : ℕ → List ℕ) (old new : Progress) (room : ℕ) 
     → All (IsPlaced texts) old.places → IsDealt old room (Some deal) new → All (IsPlaced texts) new.places
 dealt-placed texts old new room deal placed (place, ranked, text, at, turn, moved) =
     let share = IsTurn-share (lefts old.places) old.cuts room deal.rank deal.len new.cuts turn in
-    let left = index-map (λ (p : Place). p.left) old.places deal.rank place ranked in
+    let left = read-map (λ (p : Place). p.left) old.places deal.rank place 0 ranked in
     let l = slice_get_within old.places deal.rank place ranked in
     let whole : place.at + place.left ≡ length (texts place.text) =
         subst (IsPlaced texts) (get_or_from_slice_get old.places deal.rank place place ranked) (placed deal.rank place l) in

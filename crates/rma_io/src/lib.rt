@@ -5,6 +5,7 @@ pub mod memory_logs;
 pub mod memory_sink;
 pub mod sinks;
 pub mod sources;
+pub mod sure_logs;
 pub mod sure_sink;
 
 mod pages;
