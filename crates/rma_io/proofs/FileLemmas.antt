@@ -11,8 +11,9 @@ use Rattle.rma_io.specs.SureLogs as sure
 pub text_of-within : (files : List File) (place n : ℕ) → 0 < n → n ≤ length (text_of files place) → place < length files
 text_of-within files place n some within =
     elim (cases_lt place (length files)) [
-      inl there ↦ there
-    | inr past ↦ absurd (omega (arith, ap (λ (file : File). length file.bytes) (get_or_past files place (record { name = []; bytes = [] }) past))) ]
+      | inl there ↦ there
+      | inr past ↦ absurd (omega (arith, ap (λ (file : File). length file.bytes) (get_or_past files place (record { name = []; bytes = [] }) past)))
+    ]
 
 -- the bytes of a file that was read
 pub text_of-read : (files : List (String Global × Vec ℕ Global)) (place : ℕ) (file : String Global × Vec ℕ Global)

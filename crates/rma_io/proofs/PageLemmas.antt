@@ -69,8 +69,8 @@ IsPut-memory old piece (Err e) new is_page small h =
     subst (λ (m : MemoryOutput). IsPut (memory.output_of old) piece (Err e) (memory.output_of m)) (sym h.2)
     (record {
       told = still_told (AppendsFrontOf piece) _ _ _ _ (λ t.
-        let told = told-passed old.page (take h.0 piece) is_page t in
-        (told.0, (take h.0 piece, drop h.0 piece, sym (take-append-drop h.0 piece), told.1)));
+          let told = told-passed old.page (take h.0 piece) is_page t in
+          (told.0, (take h.0 piece, drop h.0 piece, sym (take-append-drop h.0 piece), told.1)));
       never_falls = omega arith;
       failed = Rose-raised old.faults small;
     })

@@ -12,10 +12,12 @@ pub none_below-set : (left : List ℕ) (spent rank n : ℕ) → All IsZero (take
     → All IsZero (take spent (set left rank n))
 none_below-set left spent rank n none some =
     elim (cases_lt rank spent) [
-      inl below ↦ elim (cases_lt rank (length left)) [
-        inl within ↦ absurd (omega (arith, none rank 0 (omega (arith, length-take spent left)), get_or-take spent left rank 0 below))
-      | inr past ↦ absurd (omega (arith, get_or_past left rank 0 past)) ]
-    | inr above ↦ All-same IsZero _ _ (take-set-le spent left rank n above) none ]
+      | inl below ↦ elim (cases_lt rank (length left)) [
+        | inl within ↦ absurd (omega (arith, none rank 0 (omega (arith, length-take spent left)), get_or-take spent left rank 0 below))
+        | inr past ↦ absurd (omega (arith, get_or_past left rank 0 past))
+      ]
+      | inr above ↦ All-same IsZero _ _ (take-set-le spent left rank n above) none
+    ]
 
 pub lefts-set : (places : List Place) (rank : ℕ) (place : Place) → lefts (set places rank place) ≡ set (lefts places) rank place.left
 lefts-set places rank place = map-set (λ (p : Place). p.left) places rank place
@@ -24,7 +26,8 @@ lefts-set places rank place = map-set (λ (p : Place). p.left) places rank place
 pub within-some : (places : List Place) (rank : ℕ) → 0 < get_or (lefts places) rank 0 → rank < length places
 within-some places rank some =
     elim (cases_lt rank (length places)) [
-      inl within ↦ within
-    | inr past ↦
-        let n = length-map places (λ (p : Place). p.left) in
-        absurd (omega (arith, get_or_past (lefts places) rank 0 (omega arith))) ]
+      | inl within ↦ within
+      | inr past ↦
+          let n = length-map places (λ (p : Place). p.left) in
+          absurd (omega (arith, get_or_past (lefts places) rank 0 (omega arith)))
+    ]

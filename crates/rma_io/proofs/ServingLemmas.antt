@@ -66,7 +66,7 @@ dealt-within texts old new room deal placed (place, ranked, text, at, turn, move
     let left = read-map (λ (p : Place). p.left) old.places deal.rank place 0 ranked in
     let l = slice_get_within old.places deal.rank place ranked in
     let whole : place.at + place.left ≡ length (texts place.text) =
-        subst (IsPlaced texts) (get_or_from_slice_get old.places deal.rank place place ranked) (placed deal.rank place l) in
+    subst (IsPlaced texts) (get_or_from_slice_get old.places deal.rank place place ranked) (placed deal.rank place l) in
     let there = share.there in
     (rw text (omega arith), share.fits, share.some)
 
@@ -78,7 +78,7 @@ dealt-placed texts old new room deal placed (place, ranked, text, at, turn, move
     let left = read-map (λ (p : Place). p.left) old.places deal.rank place 0 ranked in
     let l = slice_get_within old.places deal.rank place ranked in
     let whole : place.at + place.left ≡ length (texts place.text) =
-        subst (IsPlaced texts) (get_or_from_slice_get old.places deal.rank place place ranked) (placed deal.rank place l) in
+    subst (IsPlaced texts) (get_or_from_slice_get old.places deal.rank place place ranked) (placed deal.rank place l) in
     let there = share.there in
     let after : IsPlaced texts (moved_by deal.len place) = omega arith in
     subst (λ (ps : List Place). All (IsPlaced texts) ps) (sym moved) (All-set (IsPlaced texts) old.places deal.rank (moved_by deal.len place) after placed)
@@ -88,15 +88,16 @@ pub dealt-served : (texts : ℕ → List ℕ) (old new : Progress) (room : List 
     → All (IsPlaced texts) old.places → IsDealt old (length room) (Some deal) new
     → filled ≡ take deal.len (drop deal.at (texts deal.text)) ++ drop deal.len room
     → IsServed (logs_at texts old.places) old.cuts room (Bytes deal.rank deal.len) (logs_at texts new.places) new.cuts filled
-dealt-served texts old new room deal filled placed (place, ranked, text, at, turn, moved) fills =
-    (subst (λ (left : List ℕ). IsTurn left old.cuts (length room) deal.rank deal.len new.cuts) (sym (bytes_left-logs_at texts old.places placed)) turn,
-     record {
-       log = log_at texts place;
-       ranked = slice_get-map (log_at texts) old.places deal.rank ∙ ap (λ o. option_map (log_at texts) o) ranked;
-       moved = ap (logs_at texts) moved ∙ map-set (log_at texts) old.places deal.rank (moved_by deal.len place)
-           ∙ ap (λ (log : Log). set (logs_at texts old.places) deal.rank log) (log_at-moved_by texts deal.len place);
-       fills = cc;
-     })
+dealt-served texts old new room deal filled placed (place, ranked, text, at, turn, moved) fills = (
+  subst (λ (left : List ℕ). IsTurn left old.cuts (length room) deal.rank deal.len new.cuts) (sym (bytes_left-logs_at texts old.places placed)) turn,
+  record {
+    log = log_at texts place;
+    ranked = slice_get-map (log_at texts) old.places deal.rank ∙ ap (λ o. option_map (log_at texts) o) ranked;
+    moved = ap (logs_at texts) moved ∙ map-set (log_at texts) old.places deal.rank (moved_by deal.len place)
+        ∙ ap (λ (log : Log). set (logs_at texts old.places) deal.rank log) (log_at-moved_by texts deal.len place);
+    fills = cc;
+  },
+)
 
 -- nothing is left to serve
 pub undealt-served : (texts : ℕ → List ℕ) (old new : Progress) (room : List ℕ)

@@ -64,11 +64,14 @@ IsPulled-served before after cuts unused room filled (Bytes rank len) taken faul
       within = (slice_get_within before rank log serves.ranked, one, omega arith);
       logs = ap length serves.moved ∙ length-set before rank (after_taking len log);
       taken = refl;
-      told = (log.tape, drop len log.tape.left,
-          slice_get-map (λ (l : Log). l.tape) before rank ∙ ap (λ o. option_map (λ (l : Log). l.tape) o) serves.ranked,
-          sym (ap (λ (front : List ℕ). front ++ drop len log.tape.left) read ∙ take-append-drop len log.tape.left),
-          ap tapes_of serves.moved ∙ map-set (λ (l : Log). l.tape) before rank (after_taking len log)
-          ∙ ap (λ (front : List ℕ). set (tapes_of before) rank (record { taken = log.tape.taken ++ front; left = drop len log.tape.left })) (sym read));
+      told = (
+        log.tape,
+        drop len log.tape.left,
+        slice_get-map (λ (l : Log). l.tape) before rank ∙ ap (λ o. option_map (λ (l : Log). l.tape) o) serves.ranked,
+        sym (ap (λ (front : List ℕ). front ++ drop len log.tape.left) read ∙ take-append-drop len log.tape.left),
+        ap tapes_of serves.moved ∙ map-set (λ (l : Log). l.tape) before rank (after_taking len log)
+            ∙ ap (λ (front : List ℕ). set (tapes_of before) rank (record { taken = log.tape.taken ++ front; left = drop len log.tape.left })) (sym read),
+      );
       never_falls = omega arith;
       failed = tt;
     }
@@ -127,10 +130,14 @@ IsOpened-memory old name (Err refusal.Memory) new small same =
 pub IsMemoryOpen-added : (old : MemorySource) (name : List ℕ) (place : ℕ) (answer : Result Unit OpenFault) (new : MemorySource)
     → ¬ memory.MustFail old → memory.IsFirstNamedAt old.files name place → memory.AddsFile (memory.after_call old) name place answer new
     → IsMemoryOpen old name answer new
-IsMemoryOpen-added old name place (Ok x) new goes (file, first) added =
-    (place, file, first, goes,
-     added ∙ ap (λ (bytes : List ℕ). memory.after_opening name bytes (memory.after_call old))
-       (ap (λ (f : memory.File). f.bytes) (get_or_from_slice_get old.files place file (record { name = []; bytes = [] }) first.stands)))
+IsMemoryOpen-added old name place (Ok x) new goes (file, first) added = (
+  place,
+  file,
+  first,
+  goes,
+  added ∙ ap (λ (bytes : List ℕ). memory.after_opening name bytes (memory.after_call old))
+      (ap (λ (f : memory.File). f.bytes) (get_or_from_slice_get old.files place file (record { name = []; bytes = [] }) first.stands)),
+)
 IsMemoryOpen-added old name place (Err refusal.Failed) new goes first added = absurd added
 IsMemoryOpen-added old name place (Err refusal.Memory) new goes first added = added
 

@@ -42,13 +42,23 @@ pub record MemorySource : Type 0 where
 -- a source that was not called yet
 abbrev pub uncalled : List File → List Cut → List ℕ → MemorySource
 uncalled files cuts fails = record {
-  files = files; cuts = cuts; fails = fails; calls = 0; logs = []; refused = None; taken = 0; faults = 0;
+  files = files;
+  cuts = cuts;
+  fails = fails;
+  calls = 0;
+  logs = [];
+  refused = None;
+  taken = 0;
+  faults = 0;
 }
 
 -- it tells its bytes
 abbrev pub source_of : MemorySource → Source
 source_of memory = record {
-  logs = length memory.logs; taken = memory.taken; tapes = Some (tapes_of memory.logs); faults = memory.faults;
+  logs = length memory.logs;
+  taken = memory.taken;
+  tapes = Some (tapes_of memory.logs);
+  faults = memory.faults;
 }
 
 abbrev pub opened_of : MemorySource → Opened

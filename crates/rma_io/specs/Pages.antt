@@ -15,7 +15,9 @@ blank size = record { size = size; kept = []; passed = 0 }
 -- a page after this piece was passed on to it
 abbrev pub after_passing : List ℕ → Page → Page
 after_passing piece page = record {
-  size = page.size; kept = take page.size (page.kept ++ piece); passed = raised page.passed (length piece);
+  size = page.size;
+  kept = take page.size (page.kept ++ piece);
+  passed = raised page.passed (length piece);
 }
 
 -- the bytes passed on, which are told as long as all of them fit the page

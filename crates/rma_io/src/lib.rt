@@ -3,11 +3,12 @@
 
 pub mod memory_logs;
 pub mod memory_sink;
+mod pages;
+mod pieces;
+mod reels;
 pub mod sinks;
 pub mod sources;
 pub mod sure_logs;
 pub mod sure_sink;
-
-mod pages;
-mod pieces;
-mod reels;
+#[cfg(test)]
+mod tests;

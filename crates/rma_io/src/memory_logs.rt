@@ -7,11 +7,10 @@ ghost use Rattle.rma_io.specs.MemoryLogs.{uncalled, source_of, opened_of, files_
 ghost use Rattle.rma_io.specs.Servings.{IsServed};
 ghost use Rattle.rma_io.specs.Counts.{raised};
 
-use std::alloc::Global;
-use std::marker::Model;
-
 use crate::reels::Reels;
 use crate::sources::{Failed, Logs, OpenFault, Pull, Pulls};
+use std::alloc::Global;
+use std::marker::Model;
 
 /// A source that has files in memory, and fails where it is told to. Each open of a name makes a log of its own, with
 /// all the bytes of the first file of that name.
@@ -35,14 +34,14 @@ impl Model for MemoryLogs {
     ghost Value = { MemorySource };
 
     ghost view = { λ a. record {
-        files = files_of a.files.items;
-        cuts = a.reels.cuts;
-        fails = a.fails.items;
-        calls = a.calls;
-        logs = logs_at (text_of (files_of a.files.items)) a.reels.places;
-        refused = option_map string_bytes a.refused;
-        taken = a.taken;
-        faults = a.faults
+      files = files_of a.files.items;
+      cuts = a.reels.cuts;
+      fails = a.fails.items;
+      calls = a.calls;
+      logs = logs_at (text_of (files_of a.files.items)) a.reels.places;
+      refused = option_map string_bytes a.refused;
+      taken = a.taken;
+      faults = a.faults;
     } };
 
     ghost invariant = { λ a. All (IsPlaced (text_of (files_of a.files.items))) a.reels.places };
@@ -74,7 +73,12 @@ impl MemoryLogs {
     /// number is in `fails` fail. A pair `(rank, len)` of `cuts` makes a pull give `len` bytes of that log, where 0
     /// counts as 1, as far as they are there and there is room; pairs of logs with nothing left are passed over.
     /// Behind the last pair the lowest rank with bytes left is read, as much as fits.
-    pub fn new(alloc: Global, files: Vec<(String, Vec<u8>)>, cuts: Vec<(u32, u32)>, fails: Vec<u32>) -> MemoryLogs
+    pub fn new(
+        alloc: Global,
+        files: Vec<(String, Vec<u8>)>,
+        cuts: Vec<(u32, u32)>,
+        fails: Vec<u32>,
+    ) -> MemoryLogs
         ensures { result ≡ uncalled (files_of files.items) cuts.items fails.items }
     {
         MemoryLogs {

@@ -1,13 +1,13 @@
 //! A sink in memory, which can be told to fail.
 ghost use Rattle.std.specs.Prelude.{◌≡◌, ◌∷◌, MatchOption, vec_len};
+ghost use Rattle.rma_io.specs.Pages.{IsPage};
 ghost use Rattle.rma_io.specs.Sinks.{IsPut};
 ghost use Rattle.rma_io.specs.MemorySink.{unwritten, output_of, IsMemoryPut, GoesWell, FailsAfter};
-
-use std::marker::Model;
 
 use crate::pages::Page;
 use crate::sinks::Sink;
 use crate::sources::Failed;
+use std::marker::Model;
 
 /// A sink that fails where it is told to. It keeps, in the room that it is given, the first bytes of those that are
 /// written, as far as they fit, and tells them as long as all of them fit.
@@ -56,7 +56,8 @@ impl MemorySink {
 
     /// The first bytes that were written, as far as they fit.
     pub fn kept(&self) -> &[u8]
-        ensures { result.now ≡ self.now.page.kept }
+        ensures kept { result.now ≡ self.now.page.kept }
+        ensures page { IsPage self.now.page }
     {
         self.page.kept()
     }

@@ -2,9 +2,8 @@
 ghost use Rattle.std.specs.Prelude.{◌≡◌, ◌≤◌, length, min, vec_len};
 ghost use Rattle.rma_io.specs.Pages.{blank, after_passing, IsPage};
 
-use std::marker::Model;
-
 use crate::pieces::copy_from;
+use std::marker::Model;
 
 /// The first bytes of those passed on, as far as they fit, and how many were passed on.
 #[derive(Drop)]
@@ -37,7 +36,8 @@ impl Page {
     }
 
     pub fn kept(&self) -> &[u8]
-        ensures { result.now ≡ self.now.kept }
+        ensures kept { result.now ≡ self.now.kept }
+        ensures page { IsPage self.now }
     {
         &self.room[..filled(&self.room, self.passed)]
     }

@@ -3,10 +3,9 @@ ghost use Rattle.std.specs.Prelude.{◌≡◌, ◌+◌, ◌-◌, ◌<◌, ◌≤
 ghost use Rattle.rma_io.specs.Turns.{IsIdle, IsZero};
 ghost use Rattle.rma_io.specs.Places.{lefts, moved_by, IsFirstLive, IsFirstLeft, IsNextCut, IsDealt, IsDealtFrom};
 
+use crate::pieces::copy_to_front;
 use std::alloc::{AllocError, Global};
 use std::marker::Model;
-
-use crate::pieces::copy_to_front;
 
 /// A log that was opened: its name, the number of the text that has its bytes, how many of them were taken and how
 /// many are left.
@@ -64,7 +63,12 @@ impl Reel {
         ensures moved { self.new ≡ moved_by result.len self.old }
     {
         let len = most.min(self.left);
-        let deal = Deal { rank, len, text: self.text, at: self.at };
+        let deal = Deal {
+            rank,
+            len,
+            text: self.text,
+            at: self.at,
+        };
         self.at += len;
         self.left -= len;
         deal
@@ -129,10 +133,10 @@ impl Model for Reels {
 
     // Cuts below `used` are used up, and logs below `spent` have nothing left.
     ghost invariant = { λ a. record {
-        used_within : a.used ≤ vec_len a.cuts;
-        spent_within : a.spent ≤ vec_len a.opened;
-        ranks_fit : vec_len a.opened < 2 ^ 32;
-        none_below : All IsZero (take a.spent (lefts a.opened.items))
+      used_within : a.used ≤ vec_len a.cuts;
+      spent_within : a.spent ≤ vec_len a.opened;
+      ranks_fit : vec_len a.opened < 2 ^ 32;
+      none_below : All IsZero (take a.spent (lefts a.opened.items));
     } };
 }
 

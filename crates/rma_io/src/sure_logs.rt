@@ -6,11 +6,10 @@ ghost use Rattle.rma_io.specs.Sources.{IsPulled, IsOpened, pulled_len};
 ghost use Rattle.rma_io.specs.SureLogs.{unopened, source_of, opened_of, contents_of, text_of, KeepsOpened, IsSurePull, IsSureOpen};
 ghost use Rattle.rma_io.specs.Servings.{IsServed};
 
-use std::alloc::Global;
-use std::marker::Model;
-
 use crate::reels::Reels;
 use crate::sources::{Failed, Logs, OpenFault, Pull, Pulls};
+use std::alloc::Global;
+use std::marker::Model;
 
 /// A source that never fails. The k-th open from 0 opens the k-th log that it is given, whatever the name, or an
 /// empty one where there is none.
@@ -30,10 +29,10 @@ impl Model for SureLogs {
     ghost Value = { SureSource };
 
     ghost view = { λ a. record {
-        contents = contents_of a.contents.items;
-        cuts = a.reels.cuts;
-        logs = logs_at (text_of (contents_of a.contents.items)) a.reels.places;
-        taken = a.taken
+      contents = contents_of a.contents.items;
+      cuts = a.reels.cuts;
+      logs = logs_at (text_of (contents_of a.contents.items)) a.reels.places;
+      taken = a.taken;
     } };
 
     ghost invariant = { λ a. All (IsPlaced (text_of (contents_of a.contents.items))) a.reels.places };

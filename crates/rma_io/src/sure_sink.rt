@@ -1,14 +1,13 @@
 //! A sink in memory that never fails.
 ghost use Rattle.std.specs.Prelude.{◌≡◌, vec_len};
-ghost use Rattle.rma_io.specs.Pages.{blank};
+ghost use Rattle.rma_io.specs.Pages.{blank, IsPage};
 ghost use Rattle.rma_io.specs.Sinks.{IsPut};
 ghost use Rattle.rma_io.specs.SureSink.{output_of, IsSurePut};
-
-use std::marker::Model;
 
 use crate::pages::Page;
 use crate::sinks::Sink;
 use crate::sources::Failed;
+use std::marker::Model;
 
 /// A sink that never fails. It keeps, in the room that it is given, the first bytes of those that are written, as far
 /// as they fit, and tells them as long as all of them fit.
@@ -37,7 +36,8 @@ impl SureSink {
 
     /// The first bytes that were written, as far as they fit.
     pub fn kept(&self) -> &[u8]
-        ensures { result.now ≡ self.now.kept }
+        ensures kept { result.now ≡ self.now.kept }
+        ensures page { IsPage self.now }
     {
         self.page.kept()
     }

@@ -21,12 +21,14 @@ returns-then-eq c =
     let is_file = at files c.loop-place.place file c.loop-place-test.true c.index-files-place.is in
     let n = length-map files file_of in
     let l = c.loop-place-test.true in
-    let same = (bytes_eq-Decides c.as_str.result.now c.args.name.now).0 (sym c.if-eq.ensures) in
-    (file_of file, record {
-      none_before = c.loop-place.invariant;
-      stands = slice_get_read (files_of files) (length (files_of files)) c.loop-place.place (file_of file) refl (omega arith) (sym is_file);
-      named = sym c.as_str.ensures.value ∙ same;
-    })
+    let same = (bytes_eq-Decides c.as_str.result.now c.args.name.now).0 (sym c.if-eq.ensures) in (
+      file_of file,
+      record {
+        none_before = c.loop-place.invariant;
+        stands = slice_get_read (files_of files) (length (files_of files)) c.loop-place.place (file_of file) refl (omega arith) (sym is_file);
+        named = sym c.as_str.ensures.value ∙ same;
+      },
+    )
 
 pub loop-place-preserved : goal.loop-place-preserved
 loop-place-preserved c =
@@ -36,7 +38,7 @@ loop-place-preserved c =
     let n = length-map files file_of in
     let l = c.loop-place-test.true in
     let other : (file_of file).name ≢ c.args.name.now =
-        λ e. false≢true (c.if-eq.ensures ∙ (bytes_eq-Decides c.as_str.result.now c.args.name.now).1 (c.as_str.ensures.value ∙ e)) in
+    λ e. false≢true (c.if-eq.ensures ∙ (bytes_eq-Decides c.as_str.result.now c.args.name.now).1 (c.as_str.ensures.value ∙ e)) in
     All-more (λ (f : File). f.name ≢ c.args.name.now) (files_of files) c.loop-place.place (file_of file) (omega arith) c.loop-place.invariant
     (subst (λ (f : File). f.name ≢ c.args.name.now) (sym is_file) other)
 

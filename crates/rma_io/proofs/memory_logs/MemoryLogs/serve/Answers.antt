@@ -35,7 +35,7 @@ read-requires-clause-there c =
     let deal = c.in-Some.deal in
     let within = there files old c.deal.new.self (length c.args.room.now) deal c.requires.room c.self.invariant c.in-Some.ensures in
     let text : text_of (files_of files) deal.text ≡ c.deref.result.now =
-        text_of-read files deal.text c.index.result.now within c.index.ensures ∙ sym c.deref.ensures.value in
+    text_of-read files deal.text c.index.result.now within c.index.ensures ∙ sym c.deref.ensures.value in
     let w = dealt-within (text_of (files_of files)) old c.deal.new.self (length c.args.room.now) deal c.self.invariant c.in-Some.ensures in
     subst (λ (bytes : List ℕ). deal.at + deal.len ≤ length bytes) text w.0
 
@@ -46,6 +46,6 @@ returns-clause-served c =
     let deal = c.in-Some.deal in
     let within = there files old c.deal.new.self (length c.args.room.now) deal c.requires.room c.self.invariant c.in-Some.ensures in
     let text : text_of (files_of files) deal.text ≡ c.deref.result.now =
-        text_of-read files deal.text c.index.result.now within c.index.ensures ∙ sym c.deref.ensures.value in
+    text_of-read files deal.text c.index.result.now within c.index.ensures ∙ sym c.deref.ensures.value in
     let fills = subst (λ (bytes : List ℕ). c.read.new.room ≡ take deal.len (drop deal.at bytes) ++ drop deal.len c.args.room.now) (sym text) c.read.ensures in
     rw (← c.self.view_is) (dealt-served (text_of (files_of files)) old c.deal.new.self c.args.room.now deal c.read.new.room c.self.invariant c.in-Some.ensures fills)

@@ -10,7 +10,7 @@ returns-in-Some-clause-exactly c =
     let now = c.args.self.now in
     let name = c.args.name.now in
     let files : files_of c.deref.result.now ≡ now.files =
-        ap files_of c.deref.ensures.value ∙ ap (λ (m : MemorySource). m.files) (c.self.view_is ∙ call.counted) in
+    ap files_of c.deref.ensures.value ∙ ap (λ (m : MemorySource). m.files) (c.self.view_is ∙ call.counted) in
     let first = subst (λ (fs : List File). IsFirstNamedAt fs name c.in-Some.place) files c.in-Some.ensures in
     let named = subst (λ (n : List ℕ). AddsFile c.is_to_fail-fails.new.self n c.in-Some.place c.add.result c.add.new.self) c.in-Ok.ensures.ok c.add.ensures in
     let added = subst (λ (m : MemorySource). AddsFile m name c.in-Some.place c.add.result c.add.new.self) call.counted named in
