@@ -1,11 +1,10 @@
 -- Files and their bytes.
-use Rattle.std.proofs.Common.{◌≡◌, ℕ, ◌<◌, ◌≤◌, List, [], length, map, get_or, ap, sym, ◌∙◌, inl, inr, arith}
+use Rattle.std.proofs.Common.{◌≡◌, ℕ, ◌<◌, ◌≤◌, List, [], length, get_or, ap, sym, ◌∙◌, inl, inr, arith}
 use Rattle.std.specs.Prelude.{Vec, String}
 use Rattle.std.specs.declared.alloc.Global.{Global}
 use Rattle.std.proofs.lemmas.Bool.{cases_lt}
-use Rattle.std.proofs.lemmas.List.{get_or-map, get_or_past, length-map}
+use Rattle.std.proofs.lemmas.List.{get_or-map, get_or_past}
 use Rattle.rma_io.specs.MemoryLogs.{File, file_of, files_of, text_of}
-use Rattle.rma_io.specs.SureLogs as sure
 
 -- only a file that is there has bytes
 pub text_of-within : (files : List File) (place n : ℕ) → 0 < n → n ≤ length (text_of files place) → place < length files

@@ -1,18 +1,17 @@
 -- What a page keeps of the bytes passed on to it.
-use Rattle.std.proofs.Common.{◌≡◌, ℕ, ◌+◌, ◌-◌, ◌<◌, ◌≤◌, ◌^◌, List, [], ◌++◌, length, min, take, drop, refl, sym, ◌∙◌, ap, subst, inl, inr, arith, rules}
-use Rattle.std.specs.Prelude.{nat_le, Option, Some, None, Result, Ok, Err, true, false, Bool, cond, ⊤}
+use Rattle.std.proofs.Common.{◌≡◌, ℕ, ◌+◌, ◌-◌, ◌<◌, ◌≤◌, ◌^◌, List, ◌++◌, length, min, take, drop, refl, sym, subst, arith, rules}
+use Rattle.std.specs.Prelude.{nat_le, Some, None, Result, Ok, Err, true, false, Bool, cond}
 use Rattle.std.proofs.lemmas.Bool.{false≢true, leb-true, le-leb}
 use Rattle.rma_io.proofs.CountLemmas.{Rose-raised}
 use Rattle.rma_io.specs.Counts.{raised}
 use Rattle.rma_io.specs.Tapes.{StillTold}
-use Rattle.rma_io.specs.Pages.{Page, IsPage, after_passing, told_by}
-use Rattle.rma_io.specs.Sinks.{Output, IsPut, AppendsFrontOf}
+use Rattle.rma_io.specs.Pages.{Page, IsPage, after_passing}
+use Rattle.rma_io.specs.Sinks.{IsPut, AppendsFrontOf}
 use Rattle.rma_io.specs.SureSink as sure
 use Rattle.rma_io.specs.MemorySink as memory
 use Rattle.rma_io.specs.MemorySink.{MemoryOutput, IsMemoryPut}
 use Rattle.rma_io.specs.declared.sources.Failed.{Failed}
-use Rattle.std.proofs.lemmas.List.{take-append-drop, places, same_lists, take_all, take_at, take-append-le, append-nil, append_assoc, length-take, length-append, length-drop, drop_all, take_min}
-use Rattle.std.proofs.lemmas.Grind.{common_steps}
+use Rattle.std.proofs.lemmas.List.{take-append-drop, places, same_lists, take_all, length-append}
 
 -- the front of a list that reaches past a first part
 take-append_past : (n : ℕ) (xs ys : List ℕ) → length xs ≤ n → take n (xs ++ ys) ≡ xs ++ take (n - length xs) ys

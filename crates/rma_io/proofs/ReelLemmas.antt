@@ -1,9 +1,8 @@
 -- What is left of logs, when one of them is read on or some of them are looked at.
-use Rattle.std.proofs.Common.{◌≡◌, ℕ, ◌+◌, ◌-◌, ◌<◌, ◌≤◌, List, ◌++◌, length, map, min, take, drop, get_or, set, All, sym, subst, ap, ◌∙◌, inl, inr, arith, rules}
-use Rattle.std.specs.Prelude.{slice_range}
+use Rattle.std.proofs.Common.{◌≡◌, ℕ, ◌<◌, List, length, take, get_or, set, All, inl, inr, arith}
 use Rattle.std.proofs.lemmas.Bool.{cases_lt}
-use Rattle.std.proofs.lemmas.List.{take-set-le, take-take, get_or-take, get_or_past, map-set, drop-map, take_rest, length-map, length-take, drop-take, take-append-drop, take-map, take_all}
-use Rattle.std.proofs.lemmas.List.Elements.{All-append, All-same}
+use Rattle.std.proofs.lemmas.List.{take-set-le, get_or-take, get_or_past, map-set, length-map, length-take}
+use Rattle.std.proofs.lemmas.List.Elements.{All-same}
 use Rattle.rma_io.specs.Turns.{IsZero}
 use Rattle.rma_io.specs.Places.{Place, lefts}
 

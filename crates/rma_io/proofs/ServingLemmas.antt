@@ -1,18 +1,15 @@
 -- What was dealt out of places, as what is served of logs.
-use Rattle.std.proofs.Common.{◌≡◌, ℕ, ◌+◌, ◌-◌, ◌<◌, ◌≤◌, List, [], ◌∷◌, ◌++◌, length, map, min, max, take, drop, get_or, set, All, slice_index, Some, None, Ok, refl, sym, subst, ap, ◌∙◌, inl, inr, arith, rules}
+use Rattle.std.proofs.Common.{◌≡◌, ℕ, ◌+◌, ◌<◌, ◌≤◌, List, [], ◌∷◌, ◌++◌, length, map, take, drop, get_or, set, All, slice_index, Some, None, refl, sym, subst, ap, ◌∙◌, inl, inr, arith}
 use Rattle.std.specs.List.{slice_get}
 use Rattle.std.specs.Option.{option_map}
-use Rattle.std.proofs.lemmas.List.{take-take, drop-take, take-append-drop, drop-drop, length-drop, length-map, length-set, length-take-le, length-append, map-set, get_or-map, take_at, nil_from_length, set-get_or}
-use Rattle.std.proofs.lemmas.List.Elements.{All-head, All-tail, All-cons, All-set, All-nil}
+use Rattle.std.proofs.lemmas.List.{take-take, drop-take, take-append-drop, drop-drop, length-drop, map-set, get_or-map}
+use Rattle.std.proofs.lemmas.List.Elements.{All-head, All-tail, All-set}
 use Rattle.std.proofs.lemmas.Option.{slice_get-map, slice_get_within, get_or_from_slice_get}
-use Rattle.rma_io.specs.Tapes.{Tape, IsSpent, TakesFrom}
-use Rattle.rma_io.specs.Logbooks.{Log, bytes_left, tapes_of, names_of, after_taking, Serves}
-use Rattle.rma_io.specs.Turns.{Cut, IsZero, IsTurn, HasNoTurn}
+use Rattle.rma_io.specs.Logbooks.{Log, bytes_left, after_taking}
+use Rattle.rma_io.specs.Turns.{Cut, IsZero, IsTurn}
 use Rattle.rma_io.specs.Servings.{IsServed}
 use Rattle.rma_io.specs.Places.{Place, Progress, lefts, moved_by, log_at, logs_at, IsPlaced, IsDealt}
-use Rattle.rma_io.specs.Sources.{Source, IsPulled, pulled_len}
 use Rattle.rma_io.specs.declared.reels.Deal.{Deal}
-use Rattle.rma_io.specs.declared.sources.Pull.{Pull}
 use Rattle.rma_io.specs.declared.sources.Pull.TheVariants.{Bytes, Done}
 
 -- how many bytes the rank whose turn it is gets

@@ -1,16 +1,15 @@
 -- Pulls and opens in memory, as any source's.
-use Rattle.std.proofs.Common.{◌≡◌, ℕ, ◌+◌, ◌-◌, ◌<◌, ◌≤◌, ◌^◌, List, [], ◌∷◌, ◌++◌, length, map, min, take, drop, get_or, set, All, slice_index, Option, Some, None, Result, Ok, Err, refl, sym, subst, ap, ◌∙◌, inl, inr, arith, rules}
-use Rattle.std.specs.List.{slice_get}
+use Rattle.std.proofs.Common.{◌≡◌, ℕ, ◌+◌, ◌<◌, ◌≤◌, ◌^◌, List, [], ◌∷◌, ◌++◌, length, take, drop, set, All, slice_index, Some, Result, Ok, Err, refl, sym, subst, ap, ◌∙◌, arith}
 use Rattle.std.specs.Option.{option_map}
 use Rattle.std.specs.Prelude.{OnErr}
-use Rattle.std.proofs.lemmas.List.{take-append-drop, length-drop, length-map, length-set, length-take-le, length-append, map-set, map_push, take_at, nil_from_length, set-get_or}
+use Rattle.std.proofs.lemmas.List.{take-append-drop, length-drop, length-set, length-take-le, length-append, map-set, map_push, take_at, nil_from_length, set-get_or}
 use Rattle.std.proofs.lemmas.List.Elements.{All-head, All-tail, All-cons, All-nil}
 use Rattle.std.proofs.lemmas.Option.{slice_get-map, slice_get_within, get_or_from_slice_get}
-use Rattle.rma_io.specs.Tapes.{Tape, untouched, IsSpent, TakesFrom}
-use Rattle.rma_io.specs.Logbooks.{Log, bytes_left, tapes_of, names_of, after_taking, Serves}
-use Rattle.rma_io.specs.Turns.{Cut, IsZero, IsTurn, HasNoTurn}
+use Rattle.rma_io.specs.Tapes.{untouched, IsSpent}
+use Rattle.rma_io.specs.Logbooks.{Log, bytes_left, tapes_of, names_of, after_taking}
+use Rattle.rma_io.specs.Turns.{Cut, IsZero}
 use Rattle.rma_io.specs.Servings.{IsServed}
-use Rattle.rma_io.specs.Sources.{Source, Opened, IsPulled, IsOpened, pulled_len}
+use Rattle.rma_io.specs.Sources.{Source, IsPulled, IsOpened, pulled_len}
 use Rattle.rma_io.specs.MemoryLogs as memory
 use Rattle.rma_io.specs.MemoryLogs.{MemorySource, IsMemoryPull, IsMemoryOpen}
 use Rattle.rma_io.specs.SureLogs as sure

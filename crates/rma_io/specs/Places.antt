@@ -1,6 +1,5 @@
 -- Where the reading of each log stands, apart from the bytes themselves.
 use Rattle.std.specs.Prelude.{◌≡◌, ℕ, ◌+◌, ◌-◌, ◌<◌, List, [], All, Option, Some, None, IfSome, length, map, min, take, drop, slice_get, slice_set, slice_index}
-use Rattle.rma_io.specs.Tapes.{Tape}
 use Rattle.rma_io.specs.Logbooks.{Log}
 use Rattle.rma_io.specs.Turns.{Cut, IsZero, IsIdle, IsTurn, HasNoTurn}
 use Rattle.rma_io.specs.declared.reels.Deal.{Deal}

@@ -1,4 +1,4 @@
-use Rattle.std.proofs.Common.{◌≡◌, ℕ, ◌+◌, ◌<◌, ◌≤◌, List, length, take, map, All, get_or, slice_index, slice_index_or, subst, arith, rules}
+use Rattle.std.proofs.Common.{◌≡◌, List, take, All, subst, arith}
 use Rattle.std.proofs.lemmas.List.{take_all}
 use Rattle.std.proofs.lemmas.List.Elements.{All-more}
 use Rattle.rma_io.specs.Turns.{Cut, IsIdle}

@@ -1,4 +1,4 @@
-use Rattle.std.proofs.Common.{All, take, map}
+use Rattle.std.proofs.Common.{All, take}
 use Rattle.rma_io.specs.Turns.{IsIdle}
 use Rattle.rma_io.specs.Places.{lefts}
 use Rattle.rma_io.proofs.reels.first_live.Given as goal

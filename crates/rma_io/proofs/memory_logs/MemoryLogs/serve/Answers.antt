@@ -1,12 +1,11 @@
 use Rattle.std.specs.Prelude.{Vec, String}
 use Rattle.std.specs.declared.alloc.Global.{Global}
 use Rattle.rma_io.specs.declared.reels.Deal.{Deal}
-use Rattle.std.proofs.Common.{◌≡◌, ℕ, ◌+◌, ◌<◌, ◌≤◌, List, ◌++◌, All, Some, length, take, drop, sym, subst, ap, ◌∙◌, arith, rules}
+use Rattle.std.proofs.Common.{◌≡◌, ℕ, ◌+◌, ◌<◌, ◌≤◌, List, ◌++◌, All, Some, length, take, drop, sym, subst, ◌∙◌, arith}
 use Rattle.std.proofs.lemmas.List.{length-map}
-use Rattle.rma_io.specs.MemoryLogs.{MemorySource, file_of, files_of, text_of}
-use Rattle.rma_io.specs.Servings.{IsServed}
+use Rattle.rma_io.specs.MemoryLogs.{file_of, files_of, text_of}
 use Rattle.rma_io.specs.Places.{Progress, IsPlaced, IsDealt}
-use Rattle.rma_io.proofs.ServingLemmas.{dealt-within, dealt-placed, dealt-served, undealt-served}
+use Rattle.rma_io.proofs.ServingLemmas.{dealt-within, dealt-served, undealt-served}
 use Rattle.rma_io.proofs.FileLemmas.{text_of-within, text_of-read}
 use Rattle.rma_io.proofs.memory_logs.MemoryLogs.serve.Goals as goal
 

@@ -1,5 +1,5 @@
-use Rattle.std.proofs.Common.{◌≡◌, ℕ, ◌<◌, ◌^◌, List, string_bytes, sym, subst, ap, ◌∙◌, arith, rules}
-use Rattle.rma_io.specs.MemoryLogs.{MemorySource, File, files_of, IsFirstNamedAt, AddsFile, after_call}
+use Rattle.std.proofs.Common.{◌≡◌, ℕ, List, subst, ap, ◌∙◌, arith}
+use Rattle.rma_io.specs.MemoryLogs.{MemorySource, File, files_of, IsFirstNamedAt, AddsFile}
 use Rattle.std.proofs.lemmas.Bool.{false≢true}
 use Rattle.rma_io.proofs.SourceLemmas.{IsOpened-memory, IsMemoryOpen-added}
 use Rattle.rma_io.proofs.memory_logs.MemoryLogsLogs.open.Goals as goal

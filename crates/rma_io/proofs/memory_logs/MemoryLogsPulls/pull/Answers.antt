@@ -1,4 +1,4 @@
-use Rattle.std.proofs.Common.{Ok, arith, rules}
+use Rattle.std.proofs.Common.{Ok, rules}
 use Rattle.rma_io.proofs.SourceLemmas.{IsPulled-memory, KeepsOpened-memory}
 use Rattle.rma_io.proofs.memory_logs.MemoryLogsPulls.pull.Goals as goal
 

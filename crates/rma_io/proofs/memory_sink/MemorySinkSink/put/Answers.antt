@@ -1,4 +1,4 @@
-use Rattle.std.proofs.Common.{◌≡◌, ◌<◌, ◌^◌, Err, length, min, take, sym, subst, rules, arith}
+use Rattle.std.proofs.Common.{◌<◌, ◌^◌, Err, subst, rules, arith}
 use Rattle.std.proofs.lemmas.List.{take_min}
 use Rattle.rma_io.specs.Pages.{IsPage}
 use Rattle.rma_io.specs.MemorySink.{MemoryOutput}

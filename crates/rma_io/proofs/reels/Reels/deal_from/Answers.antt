@@ -1,4 +1,4 @@
-use Rattle.std.proofs.Common.{◌≡◌, ◌<◌, List, ℕ, All, get_or, length, min, take, set, refl, sym, subst, rules, arith}
+use Rattle.std.proofs.Common.{◌<◌, List, ℕ, All, get_or, length, take, refl, sym, subst}
 use Rattle.std.proofs.lemmas.Option.{slice_get_read}
 use Rattle.rma_io.specs.Turns.{IsZero}
 use Rattle.rma_io.specs.Places.{Progress, lefts}
