@@ -21,6 +21,10 @@ pub record Progress : Type 0 where
 abbrev pub lefts : List Place → List ℕ
 lefts places = map (λ place. place.left) places
 
+-- the place of a log of so many bytes of which nothing was taken
+abbrev pub unread : List ℕ → ℕ → ℕ → Place
+unread name text len = record { name = name; text = text; at = 0; left = len }
+
 -- a place after n more bytes were taken
 abbrev pub moved_by : ℕ → Place → Place
 moved_by n place = record place { at = place.at + n; left = place.left - n }

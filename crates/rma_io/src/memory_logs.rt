@@ -107,8 +107,13 @@ impl MemoryLogs {
     fn serve(&mut self, room: &mut [u8]) -> Pull
         requires room { 0 < length room.old }
         requires small { self.old.taken + length room.old ≤ 2 ^ 62 }
-        ensures served { IsServed self.old.logs self.old.cuts room.old result self.new.logs self.new.cuts room.new }
-        ensures same { self.new ≡ record self.old { cuts = self.new.cuts; logs = self.new.logs; taken = self.old.taken + pulled_len (Ok result) } }
+        ensures served { IsServed self.old.logs self.old.cuts room.old result
+            self.new.logs self.new.cuts room.new }
+        ensures same { self.new ≡ record self.old {
+          cuts = self.new.cuts;
+          logs = self.new.logs;
+          taken = self.old.taken + pulled_len (Ok result);
+        } }
     {
         let Some(deal) = self.reels.deal(room.len()) else {
             return Pull::Done;
@@ -136,7 +141,10 @@ impl MemoryLogs {
 
     /// Refuses a name, and keeps it.
     fn refuse(&mut self, name: String)
-        ensures { self.new ≡ record self.old { refused = Some (string_bytes name); faults = raised self.old.faults 1 } }
+        ensures { self.new ≡ record self.old {
+          refused = Some (string_bytes name);
+          faults = raised self.old.faults 1;
+        } }
     {
         self.refused = Some(name);
         self.faults = self.faults.saturating_add(1);
@@ -170,7 +178,8 @@ impl Logs for MemoryLogs {
 
     fn open(&mut self, name: &str) -> Result<(), OpenFault>
         requires { length self.old.logs + 1 < 2 ^ 32 }
-        ensures opened { IsOpened (source_of self.old) (opened_of self.old) name.now result (source_of self.new) (opened_of self.new) }
+        ensures opened { IsOpened (source_of self.old) (opened_of self.old) name.now result
+            (source_of self.new) (opened_of self.new) }
         ensures exactly { IsMemoryOpen self.old name.now result self.new }
     {
         let fails = self.is_to_fail();

@@ -1,7 +1,7 @@
 //! The logs that a source in memory has opened, and whose turn it is to be read.
 ghost use Rattle.std.specs.Prelude.{◌≡◌, ◌+◌, ◌-◌, ◌<◌, ◌≤◌, ◌^◌, ◌++◌, ◌∷◌, [], All, IfSome, MatchOption, OnErr, OnOk, string_bytes, length, min, take, drop, map, slice_index, slice_get, slice_set, vec_len};
 ghost use Rattle.rma_io.specs.Turns.{IsIdle, IsZero};
-ghost use Rattle.rma_io.specs.Places.{lefts, moved_by, IsFirstLive, IsFirstLeft, IsNextCut, IsDealt, IsDealtFrom};
+ghost use Rattle.rma_io.specs.Places.{lefts, unread, moved_by, IsFirstLive, IsFirstLeft, IsNextCut, IsDealt, IsDealtFrom};
 
 use crate::pieces::copy_to_front;
 use std::alloc::{AllocError, Global};
@@ -165,7 +165,9 @@ impl Reels {
     /// Where memory ran out; nothing changes.
     pub fn add(&mut self, name: String, text: usize, len: usize) -> Result<(), AllocError>
         requires { length self.old.places + 1 < 2 ^ 32 }
-        ensures ok { OnOk result (self.new ≡ record self.old { places = self.old.places ++ record { name = string_bytes name; text = text; at = 0; left = len } ∷ [] }) }
+        ensures ok { OnOk result (self.new ≡ record self.old {
+          places = self.old.places ++ unread (string_bytes name) text len ∷ [];
+        }) }
         ensures err { OnErr result (self.new ≡ self.old) }
     {
         let reel = Reel {

@@ -67,8 +67,13 @@ impl SureLogs {
     fn serve(&mut self, room: &mut [u8]) -> Pull
         requires room { 0 < length room.old }
         requires small { self.old.taken + length room.old ≤ 2 ^ 62 }
-        ensures served { IsServed self.old.logs self.old.cuts room.old result self.new.logs self.new.cuts room.new }
-        ensures same { self.new ≡ record self.old { cuts = self.new.cuts; logs = self.new.logs; taken = self.old.taken + pulled_len (Ok result) } }
+        ensures served { IsServed self.old.logs self.old.cuts room.old result
+            self.new.logs self.new.cuts room.new }
+        ensures same { self.new ≡ record self.old {
+          cuts = self.new.cuts;
+          logs = self.new.logs;
+          taken = self.old.taken + pulled_len (Ok result);
+        } }
     {
         let Some(deal) = self.reels.deal(room.len()) else {
             return Pull::Done;
@@ -105,7 +110,8 @@ impl Logs for SureLogs {
 
     fn open(&mut self, name: &str) -> Result<(), OpenFault>
         requires { length self.old.logs + 1 < 2 ^ 32 }
-        ensures opened { IsOpened (source_of self.old) (opened_of self.old) name.now result (source_of self.new) (opened_of self.new) }
+        ensures opened { IsOpened (source_of self.old) (opened_of self.old) name.now result
+            (source_of self.new) (opened_of self.new) }
         ensures exactly { IsSureOpen self.old name.now result self.new }
     {
         let Ok(copy) = String::from_str(self.alloc, name) else {
