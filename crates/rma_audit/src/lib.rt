@@ -11,4 +11,6 @@ mod report;
 mod stage;
 pub mod status;
 mod stop;
+#[cfg(test)]
+mod tests;
 mod words;

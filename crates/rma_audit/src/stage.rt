@@ -20,6 +20,7 @@ pub(crate) enum Stage {
 
 impl Stage {
     /// The stage behind one more line.
+    #[inline]
     pub(crate) fn after(self, no: LineNo, text: &[u8], expected_header: &[u8]) -> Stage
         ensures { (rank ranks : ℕ) (log : List (List ℕ)) → expected_header.now ≡ header rank ranks → no.0 ≡ length log + 1
             → IsStageOf rank ranks log self → IsStageOf rank ranks (log ++ text.now ∷ []) result }
@@ -44,6 +45,7 @@ fn after_nothing(no: LineNo, text: &[u8], expected_header: &[u8]) -> Stage
     }
 }
 
+#[inline]
 fn after_body(no: LineNo, text: &[u8]) -> Stage
     ensures { (rank ranks : ℕ) (log : List (List ℕ)) → no.0 ≡ length log + 1
         → IsStageOf rank ranks log Stage.Body → IsStageOf rank ranks (log ++ text.now ∷ []) result }
@@ -57,14 +59,16 @@ fn after_body(no: LineNo, text: &[u8]) -> Stage
     }
 }
 
+#[inline]
 fn is_barrier(text: &[u8]) -> bool
     ensures { IsTrue result ↔ (text.now ≡ barrier) }
 {
-    text == b"barrier world".as_slice()
+    matches!(text, b"barrier world")
 }
 
+#[inline]
 fn is_end(text: &[u8]) -> bool
     ensures { IsTrue result ↔ (text.now ≡ log_end) }
 {
-    text == b"end".as_slice()
+    matches!(text, b"end")
 }
