@@ -6,4 +6,5 @@ mod ReadingLemmas
 mod ReportLemmas
 mod RunLemmas
 mod SaysLemmas
+mod VerdictLemmas
 mod WordLemmas

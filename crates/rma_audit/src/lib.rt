@@ -3,6 +3,8 @@
 
 mod audit;
 mod findings;
+pub mod laws;
+
 mod log_reader;
 mod opening;
 pub mod program;
