@@ -1,1 +1,4 @@
+pub mod Basics
+pub mod Names
+pub mod Operations
 pub mod Reasons

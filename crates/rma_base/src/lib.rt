@@ -3,8 +3,13 @@
 #![tactic(auto)]
 
 pub mod allocation;
+pub mod basics;
 pub mod limits;
 pub mod lines;
+pub mod lists;
+pub mod makes;
+pub mod names;
+pub mod operations;
 pub mod points;
 pub mod ranks;
 pub mod reasons;
