@@ -1,5 +1,5 @@
 -- What a cutter keeps, and which text it stands for.
-use Rattle.std.specs.Prelude.{◌≡◌, ℕ, ◌+◌, ◌≤◌, ◌==◌, Bool, true, false, List, [], length, count_by, Contains, slice_get, Some}
+use Rattle.std.specs.Prelude.{◌≡◌, ◌≢◌, ◌⊎◌, ℕ, ◌+◌, ◌≤◌, ◌==◌, Bool, true, false, List, [], ◌∷◌, ◌++◌, length, count_by, Contains}
 use Rattle.rma_lex.specs.Lines.{lines, after_lines}
 
 -- a cutter: how many bytes it was fed, how many lines it handed out, what it keeps of the text behind them, and
@@ -15,9 +15,25 @@ pub record Cutting : Type 0 where
 pub record StandsFor (cutting : Cutting) (text : List ℕ) : Type 0 where
   pub fed : cutting.fed ≡ length text
   pub handed : cutting.handed ≤ length (lines text)
-  pub open : cutting.closed ≡ false → cutting.handed ≤ count_by (λ byte. byte == 10) text
+  pub whole : cutting.closed ≡ false → cutting.handed ≤ count_by (λ byte. byte == 10) text
   pub rest : cutting.rest ≡ after_lines cutting.handed text
 
 -- No whole line is left: no line feed while the text goes on, and nothing once it has ended.
 abbrev pub HasNoLine : Cutting → Type 0
 HasNoLine cutting = (¬ Contains cutting.rest 10) × (cutting.closed ≡ true → cutting.rest ≡ [])
+
+-- The line is the next one, and this is left behind it: it has no line feed, and either one follows it, or the text
+-- has ended and the line, which is not empty, is all that was left.
+pub record CutsOff (cutting : Cutting) (line left : List ℕ) : Type 0 where
+  pub no_line_feed : ¬ Contains line 10
+  pub cut : (cutting.rest ≡ line ++ 10 ∷ left)
+      ⊎ ((cutting.closed ≡ true) × (cutting.rest ≡ line) × (line ≢ []) × (left ≡ []))
+
+-- The line is the next one.
+abbrev pub IsNextLine : Cutting → List ℕ → Type 0
+IsNextLine cutting line = (left : List ℕ) × CutsOff cutting line left
+
+-- The cutter handed out the line: it is one line on, and keeps what is left behind it.
+abbrev pub TakesLine : Cutting → List ℕ → Cutting → Type 0
+TakesLine before line after =
+    CutsOff before line after.rest × (after ≡ record before { handed = before.handed + 1; rest = after.rest })

@@ -1,5 +1,5 @@
 -- The lines of a text.
-use Rattle.std.specs.Prelude.{ℕ, suc, zero, ◌+◌, List, [], ◌∷◌, ◌==◌, if◌then◌else◌}
+use Rattle.std.specs.Prelude.{ℕ, suc, zero, Bool, false, not, List, [], ◌∷◌, ◌++◌, ◌==◌, if◌then◌else◌}
 
 -- the lines, where the first has one byte more in front
 abbrev pub onto_first : ℕ → List (List ℕ) → List (List ℕ)
@@ -16,3 +16,14 @@ abbrev pub after_lines : ℕ → List ℕ → List ℕ
 after_lines zero bytes = bytes
 after_lines (suc n) [] = []
 after_lines (suc n) (byte ∷ bytes) = if byte == 10 then after_lines n bytes else after_lines (suc n) bytes
+
+-- the lines one after another, each with its line feed
+abbrev pub joined : List (List ℕ) → List ℕ
+joined [] = []
+joined (line ∷ rest) = line ++ 10 ∷ joined rest
+
+-- whether the text is not empty, and its last byte no line feed
+abbrev pub has_open_end : List ℕ → Bool
+has_open_end [] = false
+has_open_end (byte ∷ []) = not (byte == 10)
+has_open_end (byte ∷ next ∷ bytes) = has_open_end (next ∷ bytes)

@@ -2,3 +2,5 @@
 #![tactic(auto)]
 
 pub mod cutter;
+pub mod laws;
+mod line_feeds;

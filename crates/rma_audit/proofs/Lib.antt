@@ -1,0 +1,9 @@
+mod AuditLemmas
+mod LogFormLemmas
+mod OpeningLemmas
+mod ProgressLemmas
+mod ReadingLemmas
+mod ReportLemmas
+mod RunLemmas
+mod SaysLemmas
+mod WordLemmas

@@ -1,0 +1,17 @@
+use Rattle.std.proofs.Common.{◌≡◌, ◌≤◌, ◌-◌}
+use Rattle.rma_base.specs.declared.limits.TheConstants.{BYTES}
+use Rattle.rma_audit.specs.Progress.{FollowsSource}
+use Rattle.rma_audit.proofs.reading.read_all.Given as goal
+
+-- the readers were fed what was taken
+abbrev pub invariant-pieces : goal.invariant-pieces
+invariant-pieces g l =
+    let source = g.L.Pulls.source in
+    FollowsSource (source l.logs) l.audit.readers.items
+    × ((source l.logs).taken ≡ l.taken)
+    × (l.taken ≤ BYTES)
+    × ((source l.fn.logs).faults ≤ (source l.logs).faults)
+    × (g.L.Logs.opened l.logs ≡ g.L.Logs.opened l.fn.logs)
+
+abbrev pub decreases-pieces : goal.decreases-pieces
+decreases-pieces g l = BYTES - l.taken

@@ -1,0 +1,14 @@
+//! The command line, the audit of the logs of a run, and the top call.
+#![tactic(auto)]
+
+mod audit;
+mod findings;
+mod log_reader;
+mod opening;
+pub mod program;
+mod reading;
+mod report;
+mod stage;
+pub mod status;
+mod stop;
+mod words;

@@ -1,0 +1,94 @@
+//! The top call: what the program does with its words, its logs and its output.
+ghost use Rattle.std.specs.Prelude.{◌≡◌, ℕ, ◌≤◌, List, length, map, string_bytes, vec_len, IfOk, IfErr, OnErr, OnOk};
+ghost use Rattle.rma_audit.specs.Answers.{IsFresh, Says, WritesNothing};
+ghost use Rattle.rma_audit.specs.Runs.{HasJudged, HasStopped, HasWritten, status_of};
+ghost use Rattle.rma_audit.specs.Words.{IsAudit};
+
+use crate::audit::Audit;
+use crate::findings::Findings;
+use crate::opening::open_all;
+use crate::reading::read_all;
+use crate::report::report_on;
+use crate::status::Status;
+use crate::stop::Stop;
+use crate::words::audit_names;
+use rma_base::allocation::Memory;
+use rma_base::limits::RANKS;
+use rma_io::sinks::Sink;
+use rma_io::sources::Logs;
+use std::alloc::Global;
+
+/// Does what the words of the command line say: opens the logs that they name, in order, one log a rank; reads them
+/// to their ends; audits them; and writes the report to `out`.
+///
+/// All memory is taken before the first byte is written.
+pub fn run<L: Logs, S: Sink>(alloc: Global, words: &[String], logs: &mut L, out: &mut S) -> Status
+    requires fresh { IsFresh (L.source logs.old) (L.opened logs.old) }
+
+    // When each answer comes, and what was read and written then.
+    ensures answer { Says result (record {
+      words = map string_bytes words.now;
+      source_before = L.source logs.old;
+      source = L.source logs.new;
+      opened = L.opened logs.new;
+      output_before = S.output out.old;
+      output = S.output out.new;
+    }) }
+    ensures usage { result ≡ Status.Usage → logs.new ≡ logs.old }
+    ensures nothing_written { WritesNothing result → out.new ≡ out.old }
+{
+    let Some(names) = audit_names(words) else {
+        return Status::Usage;
+    };
+    match read_logs(alloc, names, logs) {
+        Ok(findings) => write_report(alloc, &findings, out),
+        Err(stop) => status_of(stop),
+    }
+}
+
+// Opens the logs of these names, reads them to their ends, and answers what was found in them.
+fn read_logs<L: Logs>(alloc: Global, names: &[String], logs: &mut L) -> Result<Findings, Stop>
+    requires fresh { IsFresh (L.source logs.old) (L.opened logs.old) }
+    requires few { length names.now ≤ RANKS }
+    ensures judged { IfOk result (λ findings. (texts : List (List ℕ)) × HasJudged (map string_bytes names.now) (L.source logs.new) (L.opened logs.new) texts findings) }
+    ensures stopped { IfErr result (λ stop. HasStopped stop (map string_bytes names.now) (L.source logs.old) (L.source logs.new) (L.opened logs.new)) }
+{
+    let mut room = new_room(alloc)?;
+    let mut audit = Audit::new(alloc, names.len() as u32)?;
+    open_all(logs, names)?;
+    read_all(logs, &mut room, &mut audit)?;
+    Ok(audit.finish(alloc)?)
+}
+
+// Room for the bytes that are read at once.
+fn new_room(alloc: Global) -> Result<Vec<u8>, Memory>
+    ensures { IfOk result (λ room. vec_len room ≡ 65536) }
+{
+    Ok(vec![in alloc; 0; 65536]?)
+}
+
+// Writes the report.
+fn write_report<S: Sink>(alloc: Global, findings: &Findings, out: &mut S) -> Status
+    ensures written { HasWritten result findings.now (S.output out.old) (S.output out.new) }
+    ensures nothing_written { result ≡ Status.Memory → out.new ≡ out.old }
+{
+    let Ok(text) = report_on(alloc, findings) else {
+        return Status::Memory;
+    };
+    match out.put(text.as_bytes()) {
+        Ok(()) if findings.list.is_empty() => Status::Clean,
+        Ok(()) => Status::Findings,
+        Err(_) => Status::WriteFault,
+    }
+}
+
+// The status of a run whose reading stopped.
+fn status_of(stop: Stop) -> Status
+    ensures { result ≡ status_of stop }
+{
+    match stop {
+        Stop::Fault => Status::ReadFault { recorded: 0 },
+        Stop::TooLarge { bytes } => Status::TooLarge { bytes },
+        Stop::Memory => Status::Memory,
+    }
+}

@@ -1,0 +1,65 @@
+//! The loop that reads the logs.
+ghost use Rattle.std.specs.Prelude.{◌≡◌, ℕ, ◌+◌, ◌<◌, ◌≤◌, length, OnOk, IfOk, IfErr, IfSome, IfNone};
+ghost use Rattle.rma_audit.specs.Progress.{FollowsSource, IsRead, StopsAt};
+
+use crate::audit::Audit;
+use crate::stop::Stop;
+use rma_base::limits::BYTES;
+use rma_io::sources::{Logs, Pull};
+
+/// Reads all logs to their ends, in whatever pieces they come.
+pub(crate) fn read_all<L: Logs>(
+    logs: &mut L,
+    room: &mut [u8],
+    audit: &mut Audit,
+) -> Result<(), Stop>
+    requires some_room { 0 < length room.old }
+    requires room { length room.old ≤ 65536 }
+    requires none_taken { (L.source logs.old).taken ≡ 0 }
+    requires follows { FollowsSource (L.source logs.old) audit.old.readers.items }
+    ensures follows { OnOk result (FollowsSource (L.source logs.new) audit.new.readers.items) }
+    ensures read { OnOk result (IsRead (L.source logs.new)) }
+    ensures taken { OnOk result ((L.source logs.new).taken ≤ BYTES) }
+    ensures stops { IfErr result (λ stop. StopsAt stop (L.source logs.old) (L.source logs.new)) }
+    ensures opened { L.opened logs.new ≡ L.opened logs.old }
+{
+    let mut taken = 0;
+    'pieces: while let Some(so_far) = read_piece(logs, room, audit, taken)? {
+        taken = so_far;
+    }
+    Ok(())
+}
+
+// Reads the next piece of one of the logs. It answers how many bytes were taken so far, or nothing where all logs
+// were read.
+fn read_piece<L: Logs>(
+    logs: &mut L,
+    room: &mut [u8],
+    audit: &mut Audit,
+    taken: u64,
+) -> Result<Option<u64>, Stop>
+    requires some_room { 0 < length room.old }
+    requires room { length room.old ≤ 65536 }
+    requires taken { (L.source logs.old).taken ≡ taken }
+    requires few { taken ≤ BYTES }
+    requires follows { FollowsSource (L.source logs.old) audit.old.readers.items }
+    ensures follows { OnOk result (FollowsSource (L.source logs.new) audit.new.readers.items) }
+    ensures more { IfOk result (λ more. IfSome more (λ so_far. ((L.source logs.new).taken ≡ so_far) × (taken < so_far) × (so_far ≤ BYTES))) }
+    ensures done { IfOk result (λ more. IfNone more (((L.source logs.new).taken ≡ taken) × IsRead (L.source logs.new))) }
+    ensures stops { IfErr result (λ stop. StopsAt stop (L.source logs.old) (L.source logs.new)) }
+    ensures faults { (L.source logs.old).faults ≤ (L.source logs.new).faults }
+    ensures opened { L.opened logs.new ≡ L.opened logs.old }
+{
+    match logs.pull(room) {
+        Err(_) => Err(Stop::Fault),
+        Ok(Pull::Done) => Ok(None),
+        Ok(Pull::Bytes { rank, len }) => {
+            let so_far = taken + len as u64;
+            if so_far > BYTES {
+                return Err(Stop::TooLarge { bytes: so_far });
+            }
+            audit.feed(rank, &room[..len])?;
+            Ok(Some(so_far))
+        }
+    }
+}

@@ -1,0 +1,4 @@
+pub mod LineLemmas
+pub mod CutLemmas
+pub mod MaskLemmas
+pub mod FeedLemmas

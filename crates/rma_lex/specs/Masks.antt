@@ -1,0 +1,13 @@
+-- Bits of a mask.
+use Rattle.std.specs.Prelude.{◌≡◌, ◌≢◌, ℕ, ◌<◌}
+use Rattle.std.specs.Int.{bit_at}
+
+-- the bit is set, and none below it
+pub record IsLowestBit (mask low : ℕ) : Type 0 where
+  pub set : bit_at mask low ≡ 1
+  pub below : (k : ℕ) → k < low → bit_at mask k ≡ 0
+
+-- the same mask, but with that bit not set
+pub record DropsBit (mask bit left : ℕ) : Type 0 where
+  pub dropped : bit_at left bit ≡ 0
+  pub kept : (k : ℕ) → k ≢ bit → bit_at left k ≡ bit_at mask k

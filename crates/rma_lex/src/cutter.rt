@@ -1,0 +1,174 @@
+//! A cutter of lines: it is fed a text in pieces and hands out its lines one by one.
+ghost use Rattle.std.specs.Prelude.{◌≡◌, ◌↔◌, ℕ, ◌+◌, ◌^◌, ◌<◌, ◌≤◌, true, false, List, [], ◌++◌, length, IsNone, IfNone, IfSome, IfOk, IsOkAnd, OnOk, OnErr, slice_get, drop, vec_len, count_by, ◌==◌};
+ghost use Rattle.rma_lex.specs.Lines.{lines, has_open_end};
+ghost use Rattle.rma_lex.specs.Cutting.{StandsFor, HasNoLine, IsNextLine};
+
+use crate::line_feeds::LineFeeds;
+use rma_base::allocation::Memory;
+use rma_base::limits::FED;
+use rma_base::lines::LineNo;
+use rma_base::reasons::FormReason;
+use std::alloc::Global;
+use std::marker::Model;
+
+/// A line, without its line feed.
+#[derive(Clone, Copy, Debug)]
+pub struct Line<'a> {
+    pub no: LineNo,
+    pub text: &'a [u8],
+}
+
+/// A line that is refused. No line is refused yet.
+#[derive(Clone, Copy, Debug, PartialEq, Eq)]
+pub struct LexFault {
+    pub no: LineNo,
+    pub reason: FormReason,
+}
+
+/// Cuts a text into lines. It keeps what it was fed and did not hand out; what it handed out is dropped at the next
+/// feed.
+#[derive(Drop)]
+pub struct LineCutter {
+    text: Vec<u8>,
+    feeds: LineFeeds,
+    fed: u64,
+    handed: u32,
+    closed: bool,
+}
+
+impl Model for LineCutter {
+    ghost use Rattle.rma_lex.specs.Cutting.{Cutting};
+
+    ghost Value = { Cutting };
+
+    ghost use Rattle.rma_lex.specs.Kept.{cutting_of, IsKept};
+
+    ghost view = { cutting_of };
+
+    ghost invariant = { IsKept };
+}
+
+impl LineCutter {
+    ghost use Rattle.std.specs.Borrow.{sem};
+    ghost use Rattle.rma_lex.specs.Handing.{LendsLine};
+
+    /// A cutter that was fed nothing.
+    pub fn new(alloc: Global) -> LineCutter
+        ensures empty { result ≡ record { fed = 0; handed = 0; rest = []; closed = false } }
+        ensures text { StandsFor result [] }
+    {
+        LineCutter {
+            text: Vec::new(alloc),
+            feeds: LineFeeds::new(),
+            fed: 0,
+            handed: 0,
+            closed: false,
+        }
+    }
+
+    /// How many bytes it was fed.
+    pub fn fed(&self) -> u64
+        ensures fed { result ≡ self.now.fed }
+        ensures limit { result ≤ FED }
+    {
+        self.fed
+    }
+
+    /// Feeds it the next piece of the text. Where memory runs out the cutter is as it was.
+    pub fn feed(&mut self, piece: &[u8]) -> Result<(), Memory>
+        requires open { self.old.closed ≡ false }
+        requires fits { self.old.fed + length piece.now ≤ FED }
+        ensures ok { OnOk result (self.new ≡ record self.old { fed = self.old.fed + length piece.now; rest = self.old.rest ++ piece.now }) }
+        ensures err { OnErr result (self.new ≡ self.old) }
+        ensures text { OnOk result ((text : List ℕ) → StandsFor self.old text → StandsFor self.new (text ++ piece.now)) }
+    {
+        drop_front(&mut self.text, self.feeds.start);
+        self.feeds.move_down();
+        self.text.extend_from_slice(piece)?;
+        self.fed += piece.len() as u64;
+        Ok(())
+    }
+
+    /// The text has ended: what is left of it is its last line, if it is not empty.
+    pub fn close(&mut self)
+        ensures closed { self.new ≡ record self.old { closed = true } }
+        ensures text { (text : List ℕ) → StandsFor self.old text → StandsFor self.new text }
+    {
+        self.closed = true;
+    }
+
+    /// The next line, if a whole one is left.
+    #[inline]
+    pub fn next_line(&mut self) -> Option<Result<Line<'_>, LexFault>>
+        ensures none { IsNone result ↔ HasNoLine self.old }
+        ensures line { IfSome result (λ found. IsOkAnd found (λ line. (line.no.0 ≡ self.old.handed + 1) × IsNextLine self.old line.text.now)) }
+
+        // What that says of the text that the cutter stands for.
+        ensures text { (text : List ℕ) → StandsFor self.old text → IfSome result (λ found. IfOk found (λ line. slice_get (lines text) self.old.handed ≡ Some line.text.now)) }
+        ensures all { (text : List ℕ) → StandsFor self.old text → IsNone result → self.old.closed ≡ true → self.old.handed ≡ length (lines text) }
+        ensures* after { sem 𝓛 (LendsLine self.entry result) }
+    {
+        let start = self.feeds.start;
+        match self.feeds.next_end(&self.text, self.closed) {
+            Some(end) => {
+                self.handed += 1;
+                Some(Ok(Line {
+                    no: LineNo(self.handed),
+                    text: &self.text[start..end],
+                }))
+            }
+            None => None,
+        }
+    }
+
+    /// How many lines the text has so far, a last one without a line feed too.
+    pub fn lines(&self) -> u32
+        ensures text { (text : List ℕ) → StandsFor self.now text → result ≡ length (lines text) }
+        ensures rest { result ≡ self.now.handed + length (lines self.now.rest) }
+        ensures bound { result ≤ FED }
+    {
+        self.handed + line_count(&self.text[self.feeds.start..])
+    }
+}
+
+// Drops so many bytes at the front.
+fn drop_front(text: &mut Vec<u8>, count: usize)
+    requires { count ≤ vec_len text.old }
+    ensures { text.new.items ≡ drop count text.old.items }
+{
+    if count == text.len() {
+        text.clear();
+    } else if count > 0 {
+        text.copy_within(count.., 0);
+        text.truncate(text.len() - count);
+    }
+}
+
+// How many lines the text has.
+fn line_count(text: &[u8]) -> u32
+    requires { length text.now < 2 ^ 32 }
+    ensures { result ≡ length (lines text.now) }
+{
+    let ended = line_feed_count(text) as u32;
+    if has_open_end(text) { ended + 1 } else { ended }
+}
+
+fn line_feed_count(text: &[u8]) -> usize
+    ensures count { result ≡ count_by (λ byte. byte == 10) text.now }
+    ensures bound { result ≤ length text.now }
+{
+    text.iter().filter(|byte| **byte == b'\n').count()
+}
+
+// Whether the text is not empty and does not end in a line feed.
+fn has_open_end(text: &[u8]) -> bool
+    ensures { result ≡ has_open_end text.now }
+{
+    match text.last() {
+        Some(byte) => *byte != b'\n',
+        None => false,
+    }
+}
+
+#[cfg(test)]
+mod tests;

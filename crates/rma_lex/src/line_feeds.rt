@@ -1,0 +1,151 @@
+// The line feeds of a text, found a block of 64 bytes at a time and handed out one by one.
+ghost use Rattle.std.specs.Prelude.{◌≡◌, ◌≢◌, ◌↔◌, ℕ, ◌+◌, ◌<◌, ◌≤◌, List, length, drop, true, IfNone, IfSome};
+ghost use Rattle.rma_lex.specs.Feeds.{NoFeed, IsFirstFeed, IsLineAt, MarksFeeds};
+ghost use Rattle.rma_lex.specs.Masks.{IsLowestBit, DropsBit};
+
+use std::simd::prelude::*;
+
+// The next line begins at the start. The text was searched up to `seen`; the line feeds that were found there and not
+// handed out yet are marked: bit k of the mask is for the place `base + k`.
+#[derive(Drop)]
+pub(crate) struct LineFeeds {
+    pub(crate) start: usize,
+    seen: usize,
+    base: usize,
+    mask: u64,
+}
+
+impl LineFeeds {
+    ghost use Rattle.rma_lex.specs.Found.{Knows};
+
+    // Nothing was searched yet.
+    pub(crate) fn new() -> LineFeeds
+        ensures start { result.start ≡ 0 }
+        ensures knows { (text : List ℕ) → Knows result text }
+    {
+        LineFeeds {
+            start: 0,
+            seen: 0,
+            base: 0,
+            mask: 0,
+        }
+    }
+
+    // Where the next line ends. The line behind it is then the next one.
+    #[inline]
+    pub(crate) fn next_end(&mut self, text: &[u8], closed: bool) -> Option<usize>
+        requires { Knows self.old text.now }
+        ensures none { IfNone result (NoFeed text.now self.old.start (length text.now) × (closed ≡ true → self.old.start ≡ length text.now) × (self.new.start ≡ self.old.start)) }
+        ensures some { IfSome result (λ end. IsLineAt text.now closed self.old.start end self.new.start) }
+        ensures knows { Knows self.new text.now }
+    {
+        match self.next_feed(text) {
+            Some(place) => Some(place),
+            None if closed && self.start < text.len() => {
+                self.start = text.len();
+                Some(text.len())
+            }
+            None => None,
+        }
+    }
+
+    // The place of the next line feed. The next line then begins behind it.
+    #[inline]
+    fn next_feed(&mut self, text: &[u8]) -> Option<usize>
+        requires { Knows self.old text.now }
+        ensures none { IfNone result (NoFeed text.now self.old.start (length text.now) × (self.new.start ≡ self.old.start) × (self.new.seen ≡ length text.now) × (self.new.mask ≡ 0)) }
+        ensures some { IfSome result (λ place. IsFirstFeed text.now self.old.start place × (self.new.start ≡ place + 1)) }
+        ensures knows { Knows self.new text.now }
+    {
+        if self.mask == 0 {
+            self.search(text);
+            if self.mask == 0 {
+                return None;
+            }
+        }
+        let place = self.base + lowest(self.mask);
+        self.mask = without_lowest(self.mask);
+        self.start = place + 1;
+        Some(place)
+    }
+
+    // Searches on, up to a block that has line feeds or else to the end.
+    fn search(&mut self, text: &[u8])
+        requires knows { Knows self.old text.now }
+        requires none_left { self.old.mask ≡ 0 }
+        ensures start { self.new.start ≡ self.old.start }
+        ensures knows { Knows self.new text.now }
+        ensures ended { self.new.mask ≡ 0 → self.new.seen ≡ length text.now }
+    {
+        while self.mask == 0 && 64 <= text.len() - self.seen {
+            self.base = self.seen;
+            self.mask = feeds_of_block(text, self.base);
+            self.seen += 64;
+        }
+        if self.mask == 0 {
+            self.base = self.seen;
+            self.mask = feeds_of_tail(text, self.base);
+            self.seen = text.len();
+        }
+    }
+
+    // The text before the start was dropped.
+    pub(crate) fn move_down(&mut self)
+        requires { self.old.start ≤ self.old.seen }
+        ensures start { self.new.start ≡ 0 }
+        ensures knows { (text : List ℕ) → Knows self.old text → Knows self.new (drop self.old.start text) }
+    {
+        self.seen = if self.mask == 0 {
+            self.seen - self.start
+        } else {
+            0
+        };
+        self.mask = 0;
+        self.start = 0;
+    }
+}
+
+// The line feeds of the 64 bytes from a place on: bit k is for the byte k places on.
+#[inline]
+fn feeds_of_block(text: &[u8], from: usize) -> u64
+    requires { from + 64 ≤ length text.now }
+    ensures { MarksFeeds text.now from (from + 64) result }
+{
+    u8x64::from_slice(&text[from..])
+        .simd_eq(u8x64::splat(b'\n'))
+        .to_bitmask()
+}
+
+// The line feeds of the bytes from a place on, which are fewer than 64.
+fn feeds_of_tail(text: &[u8], from: usize) -> u64
+    requires ordered { from ≤ length text.now }
+    requires short { length text.now < from + 64 }
+    ensures { MarksFeeds text.now from (length text.now) result }
+{
+    let mut mask = 0;
+    for (k, byte) in text[from..].iter().enumerate() {
+        if *byte == b'\n' {
+            mask |= 1 << k;
+        }
+    }
+    mask
+}
+
+// The lowest bit that is set.
+#[inline]
+fn lowest(mask: u64) -> usize
+    requires { mask ≢ 0 }
+    ensures bound { result < 64 }
+    ensures lowest { IsLowestBit mask result }
+{
+    mask.trailing_zeros() as usize
+}
+
+// The mask without its lowest bit.
+#[inline]
+fn without_lowest(mask: u64) -> u64
+    requires { mask ≢ 0 }
+    ensures { (low : ℕ) → IsLowestBit mask low → DropsBit mask low result }
+{
+    mask & (mask - 1)
+}
