@@ -17,8 +17,10 @@ const TURN: usize = 65_536;
 pub struct FileLogs<R: Files + Drop> {
     system: R,
     alloc: Global,
+    // The name and the open file of each rank.
     names: Vec<String>,
     files: Vec<R::File>,
+    // The ranks whose files were not seen to end, in order, and the place of the next turn among them.
     turns: Vec<u32>,
     next: usize,
     refused: Option<String>,

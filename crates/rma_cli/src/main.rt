@@ -24,6 +24,7 @@ fn words_given(rt: HostRuntime) -> Result<Vec<String>, Status> {
     }
 }
 
+/// What the words of the command line come to.
 fn answer(rt: HostRuntime) -> Status {
     let words = match words_given(rt) {
         Ok(words) => words,
