@@ -26,7 +26,7 @@ module _ (rank ranks : ℕ) where
   -- a line that breaks the form stands behind all fronts that begin a whole log
   breaks_behind : (log : List (List ℕ)) (i j : ℕ) → BreaksAt rank ranks log i → BeginsLog rank ranks (take j log) → j ≤ i
   breaks_behind log i j h begins = elim (cases_lt i j) [
-      inl lt ↦ absurd (h.with_it (subst (BeginsLog rank ranks) (take-take (i + 1) j log (omega arith)) (front_begins (take j log) (i + 1) begins)))
+    | inl lt ↦ absurd (h.with_it (subst (BeginsLog rank ranks) (take-take (i + 1) j log (omega arith)) (front_begins (take j log) (i + 1) begins)))
     | inr ge ↦ ge
   ]
 
@@ -43,25 +43,25 @@ module _ (rank ranks : ℕ) where
   pub one_bad_line : (log : List (List ℕ)) (a b : Option BadLine) → IsBadLine rank ranks log a → IsBadLine rank ranks log b → a ≡ b
   one_bad_line log None None h k = refl
   one_bad_line log None (Some b) h k = elim k.3 [
-      inl breaks ↦ absurd (not_both log k.0 breaks.1 (whole_begins log h))
+    | inl breaks ↦ absurd (not_both log k.0 breaks.1 (whole_begins log h))
     | inr lacks ↦ absurd (lacks.2.not_whole h)
   ]
   one_bad_line log (Some a) None h k = elim h.3 [
-      inl breaks ↦ absurd (not_both log h.0 breaks.1 (whole_begins log k))
+    | inl breaks ↦ absurd (not_both log h.0 breaks.1 (whole_begins log k))
     | inr lacks ↦ absurd (lacks.2.not_whole k)
   ]
   one_bad_line log (Some a) (Some b) h k = elim h.3 [
-      inl x ↦ elim k.3 [
-          inl y ↦
-            let below : k.0 ≤ h.0 = breaks_behind log h.0 k.0 x.1 y.1.before in
-            let above : h.0 ≤ k.0 = breaks_behind log k.0 h.0 y.1 x.1.before in
-            ap Some (same_line a b (h.1 ∙ sym k.1) (omega (arith, h.2, k.2)) (x.0 ∙ sym y.0))
-        | inr y ↦ absurd (not_both log h.0 x.1 y.2.begins)
-      ]
+    | inl x ↦ elim k.3 [
+      | inl y ↦
+          let below : k.0 ≤ h.0 = breaks_behind log h.0 k.0 x.1 y.1.before in
+          let above : h.0 ≤ k.0 = breaks_behind log k.0 h.0 y.1 x.1.before in
+          ap Some (same_line a b (h.1 ∙ sym k.1) (omega (arith, h.2, k.2)) (x.0 ∙ sym y.0))
+      | inr y ↦ absurd (not_both log h.0 x.1 y.2.begins)
+    ]
     | inr x ↦ elim k.3 [
-          inl y ↦ absurd (not_both log k.0 y.1 x.2.begins)
-        | inr y ↦ ap Some (same_line a b (h.1 ∙ sym k.1) (omega (arith, h.2, k.2, x.1, y.1)) (x.0 ∙ sym y.0))
-      ]
+      | inl y ↦ absurd (not_both log k.0 y.1 x.2.begins)
+      | inr y ↦ ap Some (same_line a b (h.1 ∙ sym k.1) (omega (arith, h.2, k.2, x.1, y.1)) (x.0 ∙ sym y.0))
+    ]
   ]
 
 -- one list of bad lines at most

@@ -8,11 +8,9 @@ ghost use Rattle.rma_audit.specs.Words.{IsAudit};
 /// report of its logs.
 pub fn findings_are_one_list()
     ensures { (logs : List (List ℕ)) (found others : List BadLine) → AreFindings logs found → AreFindings logs others → found ≡ others }
-{
-}
+{}
 
 /// The words name one list of logs at most.
 pub fn words_name_one_list()
     ensures { (words names others : List (List ℕ)) → IsAudit words names → IsAudit words others → names ≡ others }
-{
-}
+{}

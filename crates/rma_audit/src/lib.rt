@@ -4,7 +4,6 @@
 mod audit;
 mod findings;
 pub mod laws;
-
 mod log_reader;
 mod opening;
 pub mod program;
