@@ -12,5 +12,8 @@ pub mod match_reasons;
 pub mod names;
 pub mod operations;
 pub mod points;
+pub mod rank_sets;
 pub mod ranks;
 pub mod reasons;
+pub mod sites;
+pub mod windows;
