@@ -16,4 +16,6 @@ pub mod rank_sets;
 pub mod ranks;
 pub mod reasons;
 pub mod sites;
+#[cfg(test)]
+mod tests;
 pub mod windows;
