@@ -6,4 +6,6 @@ mod ReadingLemmas
 mod ReportLemmas
 mod RunLemmas
 mod SaysLemmas
+mod TextLemmas
+mod VerdictLemmas
 mod WordLemmas

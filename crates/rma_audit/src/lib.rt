@@ -3,6 +3,7 @@
 
 mod audit;
 mod findings;
+pub mod laws;
 mod log_reader;
 mod opening;
 pub mod program;
@@ -11,4 +12,6 @@ mod report;
 mod stage;
 pub mod status;
 mod stop;
+#[cfg(test)]
+mod tests;
 mod words;

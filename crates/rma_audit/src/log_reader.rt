@@ -103,6 +103,7 @@ fn read_lines(cutter: &mut LineCutter, expected_header: &[u8], from: Stage) -> S
 }
 
 // Reads the next line, if a whole one is left, and answers the stage behind it.
+#[inline]
 fn read_line(cutter: &mut LineCutter, expected_header: &[u8], from: Stage) -> Option<Stage>
     ensures at_stage { (rank ranks : ℕ) (text : List ℕ) → expected_header.now ≡ header rank ranks → IsAtStage rank ranks cutter.old text from
         → IsAtStage rank ranks cutter.new text (unwrap_or result from) }

@@ -2,3 +2,12 @@ pub mod Counts
 pub mod Tapes
 pub mod Sources
 pub mod Sinks
+pub mod Logbooks
+pub mod Turns
+pub mod Servings
+pub mod Places
+pub mod MemoryLogs
+pub mod SureLogs
+pub mod Pages
+pub mod MemorySink
+pub mod SureSink

@@ -1,0 +1,34 @@
+-- A name is ASCII, so it is text.
+use Rattle.std.proofs.Common.{◌≡◌, ℕ, ◌<◌, ◌&&◌, Bool, true, false, List, [], ◌∷◌, refl, arith}
+use Rattle.std.specs.List.{list_all}
+use Rattle.std.specs.Str.{IsAscii, IsUtf8}
+use Rattle.std.proofs.lemmas.Str.{IsUtf8-from_ascii}
+use Rattle.std.proofs.lemmas.Str.Ascii.{IsAscii-nil, IsAscii-cons}
+use Rattle.std.proofs.lemmas.Bool.Decides.{nat_tests}
+use Rattle.std.proofs.lemmas.Bool.{false≢true}
+use Rattle.rma_base.specs.Names.{is_name, begins_name, continues_name}
+
+begins-below : (b : ℕ) → begins_name b ≡ true → b < 128
+begins-below b h = grind (arith, nat_tests)
+
+continues-below : (b : ℕ) → continues_name b ≡ true → b < 128
+continues-below b h = grind (arith, nat_tests)
+
+pub and_left : (a b : Bool) → (a && b) ≡ true → a ≡ true
+and_left true b h = refl
+and_left false b h = h
+
+pub and_right : (a b : Bool) → (a && b) ≡ true → b ≡ true
+and_right true b h = h
+and_right false b h = absurd (false≢true h)
+
+IsAscii-continues : (bs : List ℕ) → list_all continues_name bs ≡ true → IsAscii bs
+IsAscii-continues [] h = IsAscii-nil
+IsAscii-continues (b ∷ bs) h =
+    IsAscii-cons b bs (continues-below b (and_left (continues_name b) _ h)) (IsAscii-continues bs (and_right (continues_name b) _ h))
+
+pub IsUtf8-name : (bs : List ℕ) → is_name bs ≡ true → IsUtf8 bs
+IsUtf8-name [] h = absurd (false≢true h)
+IsUtf8-name (b ∷ bs) h =
+    let front = and_left (begins_name b && list_all continues_name bs) _ h in
+    IsUtf8-from_ascii (b ∷ bs) (IsAscii-cons b bs (begins-below b (and_left (begins_name b) _ front)) (IsAscii-continues bs (and_right (begins_name b) _ front)))

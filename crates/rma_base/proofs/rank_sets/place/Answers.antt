@@ -1,0 +1,25 @@
+use Rattle.std.proofs.Common.{◌≡◌, ℕ, ◌<◌, ◌≤◌, length, get_or, Ok, Err, arith, rules, MatchResult}
+use Rattle.std.specs.List.{insert}
+use Rattle.std.specs.List.Sorted.{IsBinarySearchResult, IsStrictlyIncreasing, IsPermutation}
+use Rattle.std.specs.Ordering.{nat_cmp}
+use Rattle.std.proofs.lemmas.List.Sorted.{searched, IsPermutation-insert}
+use Rattle.rma_base.proofs.RankSetLemmas.{rises_to, has_number-at, has_number-between, increasing-insert}
+use Rattle.rma_base.proofs.rank_sets.place.Goals as goal
+
+pub returns-in-Ok-clause-repeated : goal.returns-in-Ok-clause-repeated
+returns-in-Ok-clause-repeated c _ =
+    let found = searched c.args.numbers.now.items c.args.number (Ok c.in-Ok.field-0) (rw c.deref.ensures.value at c.in-Ok.ensures.position) (rises_to _ c.requires) in
+    has_number-at _ _ _ found.0 found.1
+
+pub returns-in-Ok-insert-clause-ascending : goal.returns-in-Ok-insert-clause-ascending
+returns-in-Ok-insert-clause-ascending c =
+    let place = searched c.args.numbers.now.items c.args.number (Err c.in-Err.index) (rw c.deref.ensures.value at c.in-Err.ensures.position) (rises_to _ c.requires) in
+    rw c.in-Ok-insert.ensures.items (increasing-insert _ _ _ c.requires place.0 place.1 place.2)
+
+pub returns-in-Ok-insert-clause-placed : goal.returns-in-Ok-insert-clause-placed
+returns-in-Ok-insert-clause-placed c = rw c.in-Ok-insert.ensures.items (IsPermutation-insert _ _ _)
+
+pub returns-in-Ok-insert-clause-is_new : goal.returns-in-Ok-insert-clause-is_new
+returns-in-Ok-insert-clause-is_new c =
+    let place = searched c.args.numbers.now.items c.args.number (Err c.in-Err.index) (rw c.deref.ensures.value at c.in-Err.ensures.position) (rises_to _ c.requires) in
+    has_number-between _ _ c.in-Err.index place.1 place.2
