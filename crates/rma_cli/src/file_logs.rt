@@ -1,5 +1,7 @@
 //! Files as the logs of a run.
 ghost use Rattle.std.specs.Prelude.{◌≡◌, ◌<◌, ◌≤◌, vec_len, vec_capacity, length, IfOk, IfErr, OnOk, refl};
+ghost use Rattle.std.specs.Io.{ReadsAtMost};
+ghost use Rattle.std.specs.Io.KnownBytes.{ReadConsumes};
 ghost use Rattle.rma_cli.specs.Edges.{no_files};
 
 use rma_io::sources::{Failed, Logs, OpenFault, Pull, Pulls};
@@ -77,19 +79,18 @@ fn make_room<T>(items: &mut Vec<T>) -> Result<(), OpenFault>
 
 /// The turn at this place among so many: behind the last one comes the first.
 fn turn_at(place: usize, turns: usize) -> usize
-    ensures { 0 < turns → result < turns }
+    ensures there { place < turns → result ≡ place }
+    ensures behind { turns ≤ place → result ≡ 0 }
 {
     if place < turns { place } else { 0 }
 }
 
-/// Reads from the file of this rank, at most one turn.
-fn read_turn<F: Read>(files: &mut Vec<F>, rank: usize, room: &mut [u8]) -> io::Result<usize>
-    requires { rank < vec_len files.old }
-    ensures files { vec_len files.new ≡ vec_len files.old }
-    ensures len { IfOk result (λ len. len ≤ length room.new) }
+/// Reads at most one turn of a file.
+fn read_turn<F: Read>(file: &mut F, room: &mut [u8]) -> io::Result<usize>
+    ensures bound { ReadsAtMost result room.new }
+    ensures bytes { ReadConsumes (F.remaining file.old) (F.remaining file.new) result room.new }
 {
     let most = room.len().min(TURN);
-    let file = &mut files[rank];
     file.read(&mut room[..most])
 }
 
@@ -104,7 +105,8 @@ impl<R: Files + Drop> Pulls for FileLogs<R> {
     fn pull(&mut self, room: &mut [u8]) -> Result<Pull, Failed> {
         while self.next < self.turns.len() {
             let rank = self.turns[self.next];
-            match read_turn(&mut self.files, rank as usize, room) {
+            let file = &mut self.files[rank as usize];
+            match read_turn(file, room) {
                 Ok(0) => {
                     let _ = self.turns.remove(self.next);
                 }
