@@ -1,0 +1,4 @@
+//! The calls of a run, and what is wrong with how they match.
+#![tactic(auto)]
+
+pub mod match_faults;

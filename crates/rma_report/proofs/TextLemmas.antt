@@ -1,0 +1,21 @@
+-- Texts of a few parts.
+use Rattle.std.proofs.Common.{◌≡◌, ℕ, List, [], ◌++◌, length, min, take, ap, ◌∙◌, append_assoc}
+use Rattle.std.specs.List.{flat_map}
+use Rattle.std.proofs.lemmas.List.{append-nil, take_min}
+
+-- two numbers in a text
+pub two_numbers : (p x q y r m n : List ℕ) → x ≡ m → y ≡ n → p ++ (x ++ (q ++ (y ++ (r ++ [])))) ≡ p ++ m ++ q ++ n ++ r
+two_numbers p x q y r m n e f = rw (e, f) (simp (append_assoc, append-nil))
+
+-- two numbers and a word in a text
+pub word_behind : (p x q y r z s m n w : List ℕ) → x ≡ m → y ≡ n → z ≡ w → p ++ (x ++ (q ++ (y ++ (r ++ (z ++ (s ++ [])))))) ≡ p ++ (m ++ q ++ n ++ r ++ w ++ s)
+word_behind p x q y r z s m n w e f g = rw (e, f, g) (simp (append_assoc, append-nil))
+
+-- a word and two numbers in a text
+pub word_before : (p z s q x r y w m n o l : List ℕ) → z ≡ w → x ≡ m → y ≡ n
+    → (p ++ (z ++ ((s ++ q) ++ (x ++ (r ++ (y ++ [])))))) ++ (o ++ l) ≡ p ++ w ++ s ++ (q ++ m ++ r ++ n) ++ o ++ l
+word_before p z s q x r y w m n o l e f g = rw (e, f, g) (simp (append_assoc, append-nil))
+
+-- the texts of the first of a list
+pub first_texts : {X : Type 0} (f : X → List ℕ) (xs : List X) (n limit : ℕ) → n ≡ min limit (length xs) → flat_map f (take n xs) ≡ flat_map f (take limit xs)
+first_texts f xs n limit e = ap (λ k. flat_map f (take k xs)) e ∙ ap (flat_map f) (take_min limit xs)
