@@ -1,0 +1,85 @@
+-- A datatype more in a table.
+use Rattle.std.proofs.Common.{◌≡◌, ℕ, zero, suc, ◌<◌, ◌^◌, ◌+◌, List, [], ◌∷◌, ◌++◌, fold, length, slice_get, slice_index_or, Some, inl, inr, ⊎_elim, ◌⊎◌, refl, sym, ap, subst, ◌∙◌, arith}
+use Rattle.std.proofs.lemmas.List.{length-map, map-append, get_or_append_left, get_or_at, length_push}
+use Rattle.std.proofs.lemmas.List.Sums.{fold_push}
+use Rattle.rma_type.specs.declared.types.TypeId.{TypeId}
+use Rattle.rma_type.specs.declared.table.Kept.{Kept}
+use Rattle.rma_type.specs.declared.table.TypeTable.TheInside.{Inside}
+use Rattle.rma_type.specs.declared.origins.Origin.{Origin}
+use Rattle.rma_type.specs.Typemap.{Typemap}
+use Rattle.rma_type.specs.Tables.{typemaps, typemap_of, with_typemap, id_of}
+use Rattle.rma_type.specs.TableInside.{IsKept, IsTable, origins_of}
+
+abbrev Live : Type 0
+Live = List (List ℕ × TypeId)
+
+abbrev EachIsKept : List Kept → Type 0
+EachIsKept items = (n : ℕ) (kept : Kept) → slice_get items n ≡ Some kept → IsKept (slice_index_or (typemaps (origins_of items)) n []) n kept
+
+abbrev AllStand : List Kept → Live → Type 0
+AllStand items live = (name : List ℕ) (id : TypeId) → id_of live name ≡ Some id → id.0 < length items
+
+pub IsTable-same : (t u : Inside) → u.types.items ≡ t.types.items → u.live.entries ≡ t.live.entries → IsTable t → IsTable u
+IsTable-same t u e f h =
+    let P : List Kept → Type 0 = λ items. EachIsKept items in
+    let Q : Live → Type 0 = λ live. AllStand t.types.items live in
+    let R : List Kept → Type 0 = λ items. AllStand items u.live.entries in
+    let S : List Kept → Type 0 = λ items. length items < 2 ^ 32 in
+    record {
+      each = subst P (sym e) h.each;
+      ids = subst R (sym e) (subst Q (sym f) h.ids);
+      small = subst S (sym e) h.small;
+    }
+
+length-typemaps_from : (maps : List Typemap) (os : List Origin) → length (fold with_typemap maps os) ≡ length maps + length os
+length-typemaps_from maps [] = omega arith
+length-typemaps_from maps (o ∷ os) = length-typemaps_from (with_typemap maps o) os ∙ omega (arith, length_push maps (typemap_of maps o))
+
+length-typemaps : (os : List Origin) → length (typemaps os) ≡ length os
+unfolding typemaps
+length-typemaps os = length-typemaps_from [] os ∙ omega arith
+
+pub typemaps-push : (os : List Origin) (o : Origin) → typemaps (os ++ o ∷ []) ≡ typemaps os ++ typemap_of (typemaps os) o ∷ []
+unfolding typemaps
+typemaps-push os o = fold_push with_typemap [] os o
+
+slice_get-push : {X : Type 0} (xs : List X) (y : X) (n : ℕ) (z : X) → slice_get (xs ++ y ∷ []) n ≡ Some z → ((n < length xs) × (slice_get xs n ≡ Some z)) ⊎ ((n ≡ length xs) × (z ≡ y))
+slice_get-push [] y zero z h = inr (refl, cc)
+slice_get-push [] y (suc n) z h = absurd (cc)
+slice_get-push (x ∷ xs) y zero z h = inl (omega arith, h)
+slice_get-push (x ∷ xs) y (suc n) z h = ⊎_elim (λ p. let lt = p.0 in inl (omega arith, p.1)) (λ q. inr (ap suc q.0, q.1)) (slice_get-push xs y n z h)
+
+pub IsTable-added : (t u : Inside) (kept : Kept) (id : TypeId) → IsTable t → length t.types.items + 1 < 2 ^ 32 →
+    u.types.items ≡ t.types.items ++ kept ∷ [] → id.0 ≡ length t.types.items →
+    ((name : List ℕ) (other : TypeId) → id_of u.live.entries name ≡ Some other → (other ≡ id) ⊎ (id_of t.live.entries name ≡ Some other)) →
+    IsKept (typemap_of (typemaps (origins_of t.types.items)) kept.origin) (length t.types.items) kept →
+    IsTable u
+IsTable-added t u kept id h room e number live new =
+    let items = t.types.items in
+    let os = origins_of items in
+    let count = length-map items (λ (k : Kept). k.origin) in
+    let maps = length-typemaps os in
+    let pushed : origins_of (items ++ kept ∷ []) ≡ os ++ kept.origin ∷ [] = map-append (λ (k : Kept). k.origin) items (kept ∷ []) in
+    let long = ap length e ∙ length_push items kept in
+    let shape = ap typemaps pushed ∙ typemaps-push os kept.origin in
+    let P : List Kept → Type 0 = λ xs. EachIsKept xs in
+    let each : EachIsKept (items ++ kept ∷ []) = λ n k at.
+    let Q : List Typemap → Type 0 = λ ms. IsKept (slice_index_or ms n []) n k in
+    subst Q (sym shape)
+    (⊎_elim
+    (λ p.
+    let within = p.0 in
+    let R : Typemap → Type 0 = λ parts. IsKept parts n k in
+    subst R (sym (get_or_append_left (typemaps os) (typemap_of (typemaps os) kept.origin ∷ []) [] n (omega arith))) (h.each n k p.1))
+    (λ q.
+    let here : length (typemaps os) ≡ n = maps ∙ count ∙ sym q.0 in
+    let R : Typemap → Type 0 = λ parts. IsKept parts n k in
+    let S : ℕ → Type 0 = λ m. IsKept (typemap_of (typemaps os) kept.origin) m k in
+    let T : Kept → Type 0 = λ x. IsKept (typemap_of (typemaps os) kept.origin) (length items) x in
+    subst R (sym (get_or_at (typemaps os) (typemap_of (typemaps os) kept.origin) [] [] n here)) (subst S (sym q.0) (subst T (sym q.1) new)))
+    (slice_get-push items kept n k at)) in
+    record {
+      each = subst P (sym e) each;
+      ids = λ name other at. ⊎_elim (λ p. let n = ap (λ (i : TypeId). i.0) p in omega arith) (λ q. let lt = h.ids name other q in omega arith) (live name other at);
+      small = omega arith;
+    }

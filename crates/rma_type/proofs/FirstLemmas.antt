@@ -1,0 +1,138 @@
+-- Tables of basic datatypes.
+use Rattle.std.proofs.Common.{◌≡◌, ℕ, zero, suc, ◌+◌, ◌<◌, ◌≤◌, ◌^◌, ℤ, pos, ◌+ℤ◌, Bool, true, false, not, List, [], ◌∷◌, ◌++◌, map, length, take, get_or, nat_eq, Option, Some, None, if◌then◌else◌, refl, sym, ap, ◌∙◌, arith}
+use Rattle.std.specs.List.{list_all}
+use Rattle.std.specs.Cmp.Lexicographic.{pointwise}
+use Rattle.std.proofs.lemmas.Int.{ints}
+use Rattle.std.proofs.lemmas.List.{map-append, length-map, length-take-le, take_more}
+use Rattle.std.proofs.lemmas.List.Sums.{sum_by-cons}
+use Rattle.indexmap.specs.IndexMap.{insert_entry}
+use Rattle.rma_base.specs.declared.basics.Basic.{Basic}
+use Rattle.rma_base.specs.Basics.{basic_size, basic_word}
+use Rattle.rma_base.specs.declared.basics.Basic.TheVariants.{SignedChar}
+use Rattle.rma_type.specs.declared.types.TypeId.{TypeId}
+use Rattle.rma_type.specs.declared.outlines.Outline.{Outline}
+use Rattle.rma_type.specs.declared.table.TypeTable.TheInside.{Inside}
+use Rattle.rma_type.specs.declared.table.Kept.{Kept}
+use Rattle.rma_type.specs.declared.origins.Origin.{Origin}
+use Rattle.rma_type.specs.declared.origins.Origin.TheVariants as origin
+use Rattle.rma_type.specs.Typemap.{element}
+use Rattle.rma_type.specs.Bounds.{entry_count}
+use Rattle.rma_type.specs.Space.{is_all_in_space}
+use Rattle.rma_type.specs.Outline.{outline, span, chain}
+use Rattle.rma_type.specs.Tables.{Table, id_of}
+use Rattle.rma_type.specs.TableInside.{IsKept, origins_of, table_of}
+use Rattle.rma_type.specs.Puts.{IsWithBasic}
+use Rattle.rma_type.specs.FirstTable.{words_from, table_of_basics}
+use Rattle.rma_type.specs.Words.{words_differ}
+use Rattle.rma_type.proofs.OutlineLemmas.{same_outline}
+use Rattle.rma_type.proofs.SpaceLemmas.{and_left, and_right}
+
+-- ---- one element
+
+abbrev pub single : ℕ → ℤ → Outline
+single size end = record { entries = 1; size = size; alignment = size; bytes = Some (span (pos 0) end); lower = None; upper = None; chain = Some (chain 0 (pos 0) end) }
+
+pub outline-single : (b : Basic) (size : ℕ) (end : ℤ) → size ≡ basic_size b → end ≡ pos (basic_size b) → single size end ≡ outline (element b (pos 0) ∷ [])
+unfolding outline
+outline-single b size end e f =
+    let reached : end ≡ pos 0 +ℤ pos (basic_size b) = omega (arith, ints) in
+    same_outline _ _ refl
+    (omega (arith, sum_by-cons (λ (x : Basic × ℤ). basic_size x.0) (b, pos 0) []))
+    (omega arith)
+    (ap (λ z. Some (span (pos 0) z)) reached)
+    refl
+    refl
+    (ap (λ z. Some (chain 0 (pos 0) z)) reached)
+
+single_in_space : (b : Basic) → is_all_in_space (element b (pos 0) ∷ []) ≡ true
+unfolding is_all_in_space
+single_in_space SignedChar = refl
+single_in_space _ = refl
+
+single_is_few : (b : Basic) → entry_count (element b (pos 0) ∷ []) ≤ 2 ^ 26
+unfolding entry_count
+single_is_few b = omega arith
+
+pub IsKept-single : (b : Basic) (n : ℕ) (committed : Bool) (o : Outline) → o ≡ outline (element b (pos 0) ∷ []) →
+    IsKept (element b (pos 0) ∷ []) n (record { origin = origin.Basic b; committed = committed; outline = o })
+IsKept-single b n committed o e = record { outline_is = e; in_space = single_in_space b; few = single_is_few b; after = tt }
+
+-- ---- an empty table
+
+abbrev table : List Origin → List Bool → List (List ℕ × TypeId) → Table
+table origins committed live = record { origins = origins; committed = committed; live = live }
+
+abbrev numbered : ℕ → TypeId
+numbered n = record { 0 = n }
+
+pub table_of-empty : (t : Inside) → t.types.items ≡ [] → t.live.entries ≡ [] → table_of t ≡ table_of_basics []
+unfolding table_of_basics
+table_of-empty t e f =
+    ap (λ (ks : List Kept). table (origins_of ks) (map (λ (k : Kept). k.committed) ks) t.live.entries) e
+    ∙ ap (λ live. table [] [] live) f
+
+-- ---- one more basic datatype
+
+insert_past : (t : Bool) (e : List ℕ × TypeId) (es rest grown : List (List ℕ × TypeId)) (id : TypeId) (later : Option TypeId) →
+    (if t then Some e.1 else later) ≡ None → (later ≡ None → rest ≡ grown) → (if t then (e.0, id) ∷ es else e ∷ rest) ≡ e ∷ grown
+insert_past true e es rest grown id later h k = absurd (cc)
+insert_past false e es rest grown id later h k = ap (λ xs. e ∷ xs) (k h)
+
+insert-fresh : (live : List (List ℕ × TypeId)) (name : List ℕ) (id : TypeId) → id_of live name ≡ None → insert_entry (pointwise nat_eq) live name id ≡ live ++ (name, id) ∷ []
+insert-fresh [] name id h = refl
+insert-fresh (e ∷ es) name id h =
+    insert_past (pointwise nat_eq name e.0) e es (insert_entry (pointwise nat_eq) es name id) (es ++ (name, id) ∷ []) id (id_of es name) h
+    (λ k. insert-fresh es name id k)
+
+words_from-push : (n : ℕ) (bs : List Basic) (b : Basic) (id : TypeId) → id.0 ≡ n + length bs → words_from n (bs ++ b ∷ []) ≡ words_from n bs ++ (basic_word b, id) ∷ []
+words_from-push n [] b id e = ap (λ m. (basic_word b, record { 0 = m }) ∷ []) (omega arith)
+words_from-push n (x ∷ xs) b id e = ap (λ es. (basic_word x, record { 0 = n }) ∷ es) (words_from-push (n + 1) xs b id (omega arith))
+
+pub table_of_basics-push : (old new : Table) (bs : List Basic) (b : Basic) → old ≡ table_of_basics bs → id_of (words_from 0 bs) (basic_word b) ≡ None → IsWithBasic old new b → new ≡ table_of_basics (bs ++ b ∷ [])
+unfolding table_of_basics
+table_of_basics-push old new bs b e fresh h =
+    let origins : new.origins ≡ map origin.Basic (bs ++ b ∷ []) =
+    h.origins ∙ ap (λ (t : Table). t.origins ++ origin.Basic b ∷ []) e ∙ sym (map-append origin.Basic bs (b ∷ [])) in
+    let committed : new.committed ≡ map (λ (x : Basic). true) (bs ++ b ∷ []) =
+    h.commits ∙ ap (λ (t : Table). t.committed ++ true ∷ []) e ∙ sym (map-append (λ (x : Basic). true) bs (b ∷ [])) in
+    let id : TypeId = record { 0 = length old.origins } in
+    let number : id.0 ≡ 0 + length bs = ap (λ (t : Table). length t.origins) e ∙ length-map bs origin.Basic ∙ omega arith in
+    let live : new.live ≡ words_from 0 (bs ++ b ∷ []) =
+    h.entries ∙ ap (λ (t : Table). insert_entry (pointwise nat_eq) t.live (basic_word b) id) e
+    ∙ insert-fresh (words_from 0 bs) (basic_word b) id fresh
+    ∙ sym (words_from-push 0 bs b id number) in
+    ap (λ os. table os new.committed new.live) origins
+    ∙ ap (λ cs. table (map origin.Basic (bs ++ b ∷ [])) cs new.live) committed
+    ∙ ap (λ es. table (map origin.Basic (bs ++ b ∷ [])) (map (λ (x : Basic). true) (bs ++ b ∷ [])) es) live
+
+-- ---- words that differ
+
+not_true : (a : Bool) → not a ≡ true → a ≡ false
+not_true true h = sym h
+not_true false h = refl
+
+holds_at : (p : Basic → Bool) (bs : List Basic) (i : ℕ) (d : Basic) → list_all p bs ≡ true → i < length bs → p (get_or bs i d) ≡ true
+holds_at p [] i d h lt = absurd (omega arith)
+holds_at p (b ∷ bs) zero d h lt = and_left (p b) (list_all p bs) h
+holds_at p (b ∷ bs) (suc i) d h lt = holds_at p bs i d (and_right (p b) (list_all p bs) h) (omega arith)
+
+pub word_is_fresh : (n : ℕ) (bs : List Basic) (i : ℕ) (d : Basic) → words_differ bs ≡ true → i < length bs → id_of (words_from n (take i bs)) (basic_word (get_or bs i d)) ≡ None
+word_is_fresh n [] i d h lt = absurd (omega arith)
+word_is_fresh n (b ∷ bs) zero d h lt = refl
+word_is_fresh n (b ∷ bs) (suc i) d h lt =
+    let differ = λ (later : Basic). not (pointwise nat_eq (basic_word later) (basic_word b)) in
+    let at = get_or bs i d in
+    let other : pointwise nat_eq (basic_word at) (basic_word b) ≡ false =
+    not_true (pointwise nat_eq (basic_word at) (basic_word b)) (holds_at differ bs i d (and_left (list_all differ bs) (words_differ bs) h) (omega arith)) in
+    ap (λ (t : Bool). if t then Some (numbered n) else id_of (words_from (n + 1) (take i bs)) (basic_word at)) other
+    ∙ word_is_fresh (n + 1) bs i d (and_right (list_all differ bs) (words_differ bs) h) (omega arith)
+
+pub length-basics : (bs : List Basic) (i : ℕ) → i ≤ length bs → length (table_of_basics (take i bs)).origins ≡ i
+unfolding table_of_basics
+length-basics bs i h = length-map (take i bs) origin.Basic ∙ length-take-le i bs h
+
+pub table_of_basics-more : (old new : Table) (bs : List Basic) (i : ℕ) (d : Basic) → words_differ bs ≡ true → i < length bs → old ≡ table_of_basics (take i bs) →
+    IsWithBasic old new (get_or bs i d) → new ≡ table_of_basics (take (i + 1) bs)
+table_of_basics-more old new bs i d differ lt e h =
+    table_of_basics-push old new (take i bs) (get_or bs i d) e (word_is_fresh 0 bs i d differ lt) h
+    ∙ sym (ap table_of_basics (take_more bs i d lt))

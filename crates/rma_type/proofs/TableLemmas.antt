@@ -1,0 +1,96 @@
+-- What a table keeps of a datatype.
+use Rattle.std.proofs.Common.{◌≡◌, ℕ, zero, suc, ◌<◌, ◌≤◌, ◌^◌, List, [], ◌∷◌, length, get_or, slice_get, Some, set, inl, inr, ⊎_elim, ◌⊎◌, refl, sym, ap, subst, ◌∙◌, arith}
+use Rattle.rma_type.specs.declared.table.Kept.{Kept}
+use Rattle.rma_type.specs.declared.outlines.Outline.{Outline}
+use Rattle.rma_type.specs.Near.{IsNearby, IsSound}
+use Rattle.rma_type.specs.Space.{space}
+use Rattle.std.proofs.Common.{ℤ, Bool}
+use Rattle.rma_type.specs.declared.types.Made.{Made}
+use Rattle.rma_type.specs.Bounds.{size, lower_bound, upper_bound, extent, entry_count, is_solid}
+use Rattle.rma_type.specs.Typemap.{Typemap, elements, block_count}
+use Rattle.rma_type.specs.Outline.{outline, made_of, lower_end, upper_end, reach, blocks_in}
+use Rattle.rma_type.specs.Told.{told_of}
+use Rattle.rma_type.specs.TableInside.{IsKept, origins_of, IsTable}
+use Rattle.rma_type.specs.declared.table.TypeTable.TheInside.{Inside}
+use Rattle.rma_type.specs.declared.origins.Origin.{Origin}
+use Rattle.rma_type.specs.Tables.{typemaps}
+use Rattle.std.specs.Vec.{with_item}
+use Rattle.std.proofs.Common.{true, slice_index_or}
+use Rattle.std.proofs.lemmas.List.{length-set}
+use Rattle.rma_type.proofs.BoundLemmas.{IsSound-outline, entry_count_is, lower_bound_is, upper_bound_is, extent_is, size_is, block_count_is, is_solid_is}
+use Rattle.rma_type.proofs.SpaceLemmas.{IsNearby-in_space}
+
+-- an element that indexing gave
+pub read_at : {X : Type 0} (xs : List X) (i : ℕ) (x : X) → i < length xs → x ≡ get_or xs i x → slice_get xs i ≡ Some x
+read_at [] i x h e = absurd (omega arith)
+read_at (y ∷ ys) zero x h e = ap Some (sym e)
+read_at (y ∷ ys) (suc i) x h e = read_at ys i x (omega arith) e
+
+pub kept_near : (parts : Typemap) (n : ℕ) (kept : Kept) → IsKept parts n kept → IsNearby space kept.outline
+kept_near parts n kept h = subst (IsNearby space) (sym h.outline_is) (IsNearby-in_space parts h.in_space)
+
+pub kept_sound : (parts : Typemap) (n : ℕ) (kept : Kept) → IsKept parts n kept → IsSound kept.outline
+kept_sound parts n kept h = subst IsSound (sym h.outline_is) (IsSound-outline parts)
+
+pub kept_few : (parts : Typemap) (n : ℕ) (kept : Kept) → IsKept parts n kept → kept.outline.entries ≤ 2 ^ 26
+kept_few parts n kept h =
+    let few = h.few in
+    let e = ap (λ (o : Outline). o.entries) h.outline_is in
+    omega (arith, e, entry_count_is parts)
+
+-- ---- after a write
+
+pub slice_get-set : {X : Type 0} (xs : List X) (i : ℕ) (y : X) (n : ℕ) (z : X) → slice_get (set xs i y) n ≡ Some z → ((n ≡ i) × (z ≡ y)) ⊎ (slice_get xs n ≡ Some z)
+slice_get-set [] i y n z h = inr h
+slice_get-set (x ∷ xs) zero y zero z h = inl (refl, cc)
+slice_get-set (x ∷ xs) zero y (suc n) z h = inr h
+slice_get-set (x ∷ xs) (suc i) y zero z h = inr h
+slice_get-set (x ∷ xs) (suc i) y (suc n) z h = ⊎_elim (λ p. inl (ap suc p.0, p.1)) (λ q. inr q) (slice_get-set xs i y n z h)
+
+pub origins_of-set : (kept : List Kept) (i : ℕ) (new : Kept) (old : Kept) → slice_get kept i ≡ Some old → new.origin ≡ old.origin → origins_of (set kept i new) ≡ origins_of kept
+origins_of-set [] i new old h e = refl
+origins_of-set (k ∷ ks) zero new old h e = let same : k ≡ old = cc in ap (λ o. o ∷ origins_of ks) (e ∙ ap (λ x. x.origin) (sym same))
+origins_of-set (k ∷ ks) (suc i) new old h e = ap (λ os. k.origin ∷ os) (origins_of-set ks i new old h e)
+
+-- ---- what is told of a datatype
+
+abbrev told : ℕ → ℤ → ℤ → ℤ → ℕ → ℕ → Bool → Made
+told size lb ub extent entries blocks solid = record { size = size; lb = lb; ub = ub; extent = extent; entries = entries; blocks = blocks; solid = solid }
+
+pub told_of-outline : (parts : Typemap) → made_of (outline parts) ≡ told_of parts
+told_of-outline parts = sym (
+    ap (λ x. told x (lower_bound parts) (upper_bound parts) (extent parts) (entry_count parts) (block_count (elements parts)) (is_solid parts)) (size_is parts)
+    ∙ ap (λ x. told (outline parts).size x (upper_bound parts) (extent parts) (entry_count parts) (block_count (elements parts)) (is_solid parts)) (lower_bound_is parts)
+    ∙ ap (λ x. told (outline parts).size (lower_end (outline parts)) x (extent parts) (entry_count parts) (block_count (elements parts)) (is_solid parts)) (upper_bound_is parts)
+    ∙ ap (λ x. told (outline parts).size (lower_end (outline parts)) (upper_end (outline parts)) x (entry_count parts) (block_count (elements parts)) (is_solid parts)) (extent_is parts)
+    ∙ ap (λ x. told (outline parts).size (lower_end (outline parts)) (upper_end (outline parts)) (reach (outline parts)) x (block_count (elements parts)) (is_solid parts)) (entry_count_is parts)
+    ∙ ap (λ x. told (outline parts).size (lower_end (outline parts)) (upper_end (outline parts)) (reach (outline parts)) (outline parts).entries x (is_solid parts)) (block_count_is parts)
+    ∙ ap (λ x. told (outline parts).size (lower_end (outline parts)) (upper_end (outline parts)) (reach (outline parts)) (outline parts).entries (blocks_in (outline parts).chain) x) (is_solid_is parts))
+
+-- ---- a commit
+
+abbrev pub as_committed : Kept → Kept
+as_committed kept = record { origin = kept.origin; committed = true; outline = kept.outline }
+
+IsKept-committed : (parts : Typemap) (n : ℕ) (kept : Kept) → IsKept parts n kept → IsKept parts n (as_committed kept)
+IsKept-committed parts n kept h = record { outline_is = h.outline_is; in_space = h.in_space; few = h.few; after = h.after }
+
+pub IsTable-committed : (t : Inside) (i : ℕ) (old : Kept) → IsTable t → slice_get t.types.items i ≡ Some old → IsTable (record { types = with_item t.types i (as_committed old); live = t.live })
+IsTable-committed t i old h at =
+    let items = t.types.items in
+    let same = origins_of-set items i (as_committed old) old at refl in
+    let long = length-set items i (as_committed old) in
+    record {
+      each = λ n kept k.
+          let P : List Origin → Type 0 = λ os. IsKept (slice_index_or (typemaps os) n []) n kept in
+          subst P (sym same)
+          (⊎_elim
+          (λ p.
+          let Q : Kept → Type 0 = λ x. IsKept (slice_index_or (typemaps (origins_of items)) n []) n x in
+          let there : slice_get items n ≡ Some old = ap (slice_get items) p.0 ∙ at in
+          subst Q (sym p.1) (IsKept-committed (slice_index_or (typemaps (origins_of items)) n []) n old (h.each n old there)))
+          (λ q. h.each n kept q)
+          (slice_get-set items i (as_committed old) n kept k));
+      ids = λ name id k. let P : ℕ → Type 0 = λ m. id.0 < m in subst P (sym long) (h.ids name id k);
+      small = let P : ℕ → Type 0 = λ m. m < 2 ^ 32 in subst P (sym long) h.small;
+    }

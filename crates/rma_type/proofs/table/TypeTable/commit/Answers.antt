@@ -1,0 +1,29 @@
+use Rattle.std.proofs.Common.{◌≡◌, slice_get, slice_set, Some, IfSome, set, map, true, refl, sym, ap, subst, ◌∙◌, Option}
+use Rattle.std.proofs.lemmas.List.{map-set}
+use Rattle.rma_type.specs.declared.types.TypeId.{TypeId}
+use Rattle.rma_type.specs.declared.table.Kept.{Kept}
+use Rattle.rma_type.specs.Tables.{Table, id_of}
+use Rattle.rma_type.proofs.TableLemmas.{read_at, as_committed, IsTable-committed, origins_of-set}
+use Rattle.rma_type.proofs.table.TypeTable.commit.Goals as goal
+
+there : (c : goal.After-self-1) → slice_get c.self.inside.types.items c.in-Some.id.0 ≡ Some c.index_mut.result.now
+there c =
+    let live = ap (λ (t : Table). id_of t.live c.args.name.now) c.self.view_is in
+    let named : id_of c.self.inside.live.entries c.args.name.now ≡ Some c.in-Some.id = live ∙ sym c.find.ensures.value ∙ c.in-Some.is in
+    read_at c.self.inside.types.items c.in-Some.id.0 c.index_mut.result.now (c.self.invariant.ids c.args.name.now c.in-Some.id named) c.index_mut.ensures.value
+
+pub invariant_of-self : goal.invariant_of-self
+invariant_of-self c = IsTable-committed c.self.inside c.in-Some.id.0 c.index_mut.result.now c.self.invariant (there c)
+
+pub returns-clause-ok : goal.returns-clause-ok
+returns-clause-ok c =
+    let items = c.self.inside.types.items in
+    let i = c.in-Some.id.0 in
+    let old = c.index_mut.result.now in
+    let P : Option TypeId → Type 0 = λ o. IfSome o (λ id. map (λ (k : Kept). k.committed) (set items i (as_committed old)) ≡ slice_set c.args.self.now.committed id.0 true) in
+    record {
+      origins = origins_of-set items i (as_committed old) old (there c) refl ∙ ap (λ (t : Table). t.origins) c.self.view_is;
+      live = ap (λ (t : Table). t.live) c.self.view_is;
+      committed = subst P (sym (sym c.find.ensures.value ∙ c.in-Some.is))
+          (map-set (λ (k : Kept). k.committed) items i (as_committed old) ∙ ap (λ (t : Table). slice_set t.committed i true) c.self.view_is);
+    }

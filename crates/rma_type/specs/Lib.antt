@@ -1,0 +1,17 @@
+pub mod Typemap
+pub mod Bounds
+pub mod Constructors
+pub mod Arrays
+pub mod Space
+pub mod Outline
+pub mod Near
+pub mod Counts
+pub mod Told
+pub mod Tables
+pub mod Adds
+pub mod Puts
+pub mod FirstTable
+pub mod Words
+pub mod TableInside
+pub mod Members
+pub mod Makes
