@@ -1,13 +1,13 @@
 -- Ascending lists of numbers without repeats.
-use Rattle.std.proofs.Common.{◌≡◌, ℕ, zero, suc, ◌+◌, ◌-◌, ◌<◌, ◌≤◌, ◌||◌, ◌⊎◌, inl, inr, Bool, true, false, List, [], ◌∷◌, ◌++◌, length, get_or, refl, sym, ap, subst, ◌∙◌, arith, eq-eqb, ⊎_elim, cond, eqb}
+use Rattle.std.proofs.Common.{◌≡◌, ℕ, zero, suc, ◌+◌, ◌-◌, ◌<◌, ◌≤◌, ◌||◌, ◌⊎◌, inl, inr, Bool, true, false, List, [], ◌∷◌, ◌++◌, length, get_or, refl, sym, ap, subst, ◌∙◌, arith, eq-eqb, ⊎_elim, cond, eqb, ltb}
 use Rattle.std.specs.List.{list_any, insert}
 use Rattle.std.specs.List.Sorted.{IsStrictlyIncreasing, IsPermutation}
 use Rattle.std.proofs.lemmas.List.Folds.{list_any_at, list_any-append}
 use Rattle.std.proofs.lemmas.List.Edits.{get_or-insert_at, get_or-insert_below, get_or-insert_above, length-insert}
-use Rattle.std.proofs.lemmas.Bool.{cases_lt, false≢true}
+use Rattle.std.proofs.lemmas.Bool.{cases_lt, false≢true, lt-ltb, le-ltb}
 use Rattle.std.proofs.lemmas.Bool.Decides.{nat_tests}
 use Rattle.std.proofs.lemmas.Grind.{common_steps}
-use Rattle.rma_base.specs.RankSets.{has_repeat, has_number}
+use Rattle.rma_base.specs.RankSets.{has_repeat, has_number, placed}
 
 rises : (xs : List ℕ) → IsStrictlyIncreasing xs → (i n : ℕ) → i + n < length xs → get_or xs i 0 ≤ get_or xs (i + n) 0
 rises xs up i zero h = grind arith
@@ -42,34 +42,34 @@ increasing-insert xs n i up within below above k lt =
     let len : length (insert xs i n) ≡ length xs + 1 = length-insert xs i n within in
     ⊎_elim
     (λ (low : k < i). ⊎_elim
-    (λ (lower : k + 1 < i).
-    let left : get_or (insert xs i n) k 0 ≡ get_or xs k 0 = get_or-insert_below xs i n 0 k low within in
-    let right : get_or (insert xs i n) (k + 1) 0 ≡ get_or xs (k + 1) 0 = get_or-insert_below xs i n 0 (k + 1) lower within in
-    let rising : get_or xs k 0 < get_or xs (k + 1) 0 = up k (omega arith) in
-    omega arith)
-    (λ (next : i ≤ k + 1).
-    let at : k + 1 ≡ i = omega arith in
-    let left : get_or (insert xs i n) k 0 ≡ get_or xs k 0 = get_or-insert_below xs i n 0 k low within in
-    let right : get_or (insert xs i n) (k + 1) 0 ≡ n = ap (λ j. get_or (insert xs i n) j 0) at ∙ get_or-insert_at xs i n 0 within in
-    let rising : get_or xs k 0 < n = below k low in
-    omega arith)
-    (cases_lt (k + 1) i))
+        (λ (lower : k + 1 < i).
+            let left : get_or (insert xs i n) k 0 ≡ get_or xs k 0 = get_or-insert_below xs i n 0 k low within in
+            let right : get_or (insert xs i n) (k + 1) 0 ≡ get_or xs (k + 1) 0 = get_or-insert_below xs i n 0 (k + 1) lower within in
+            let rising : get_or xs k 0 < get_or xs (k + 1) 0 = up k (omega arith) in
+            omega arith)
+        (λ (next : i ≤ k + 1).
+            let at : k + 1 ≡ i = omega arith in
+            let left : get_or (insert xs i n) k 0 ≡ get_or xs k 0 = get_or-insert_below xs i n 0 k low within in
+            let right : get_or (insert xs i n) (k + 1) 0 ≡ n = ap (λ j. get_or (insert xs i n) j 0) at ∙ get_or-insert_at xs i n 0 within in
+            let rising : get_or xs k 0 < n = below k low in
+            omega arith)
+        (cases_lt (k + 1) i))
     (λ (high : i ≤ k).
-    let right : get_or (insert xs i n) (k + 1) 0 ≡ get_or xs k 0 = get_or-insert_above xs i n 0 k high within in
-    ⊎_elim
-    (λ (higher : i < k).
-    let back : k - 1 + 1 ≡ k = omega arith in
-    let beyond : i ≤ k - 1 = omega arith in
-    let left : get_or (insert xs i n) k 0 ≡ get_or xs (k - 1) 0 = ap (λ j. get_or (insert xs i n) j 0) (sym back) ∙ get_or-insert_above xs i n 0 (k - 1) beyond within in
-    let rising : get_or xs (k - 1) 0 < get_or xs (k - 1 + 1) 0 = up (k - 1) (omega arith) in
-    let same : get_or xs (k - 1 + 1) 0 ≡ get_or xs k 0 = ap (λ j. get_or xs j 0) back in
-    omega arith)
-    (λ (next : k ≤ i).
-    let at : k ≡ i = omega arith in
-    let left : get_or (insert xs i n) k 0 ≡ n = ap (λ j. get_or (insert xs i n) j 0) at ∙ get_or-insert_at xs i n 0 within in
-    let rising : n < get_or xs k 0 = above k high (omega arith) in
-    omega arith)
-    (cases_lt i k))
+        let right : get_or (insert xs i n) (k + 1) 0 ≡ get_or xs k 0 = get_or-insert_above xs i n 0 k high within in
+        ⊎_elim
+        (λ (higher : i < k).
+            let back : k - 1 + 1 ≡ k = omega arith in
+            let beyond : i ≤ k - 1 = omega arith in
+            let left : get_or (insert xs i n) k 0 ≡ get_or xs (k - 1) 0 = ap (λ j. get_or (insert xs i n) j 0) (sym back) ∙ get_or-insert_above xs i n 0 (k - 1) beyond within in
+            let rising : get_or xs (k - 1) 0 < get_or xs (k - 1 + 1) 0 = up (k - 1) (omega arith) in
+            let same : get_or xs (k - 1 + 1) 0 ≡ get_or xs k 0 = ap (λ j. get_or xs j 0) back in
+            omega arith)
+        (λ (next : k ≤ i).
+            let at : k ≡ i = omega arith in
+            let left : get_or (insert xs i n) k 0 ≡ n = ap (λ j. get_or (insert xs i n) j 0) at ∙ get_or-insert_at xs i n 0 within in
+            let rising : n < get_or xs k 0 = above k high (omega arith) in
+            omega arith)
+        (cases_lt i k))
     (cases_lt k i)
 
 test-sym : (x y : ℕ) → eqb x y ≡ eqb y x
@@ -105,3 +105,14 @@ has_repeat-front (x ∷ xs) ys h =
     (λ here. true-or _ _ (list_any-append (λ m. eqb m x) xs ys ∙ true-or _ _ here))
     (λ later. or-right _ _ (has_repeat-front xs ys later))
     (or-true (has_number x xs) (has_repeat xs) h)
+
+pub placed-insert : (xs : List ℕ) (n i : ℕ) → i ≤ length xs → ((k : ℕ) → k < i → get_or xs k 0 < n) → ((k : ℕ) → i ≤ k → k < length xs → n < get_or xs k 0)
+    → placed n xs ≡ insert xs i n
+placed-insert [] n zero within below above = refl
+placed-insert [] n (suc i) within below above = absurd (omega arith)
+placed-insert (x ∷ xs) n zero within below above =
+    let first : ltb n x ≡ true = lt-ltb n x (above 0 (omega arith) (omega arith)) in rw first
+placed-insert (x ∷ xs) n (suc i) within below above =
+    let first : ltb n x ≡ false = le-ltb n x (let under = below 0 (omega arith) in omega arith) in
+    rw first
+    (ap (λ them. x ∷ them) (placed-insert xs n i (omega arith) (λ k low. below (suc k) (omega arith)) (λ k high there. above (suc k) (omega arith) (omega arith))))

@@ -1,7 +1,7 @@
 //! Sets of ranks, as groups and communicators have them.
 ghost use Rattle.std.specs.Prelude.{◌≡◌, map, true, false, IfOk, OnOk, IsErrOf, ◌∷◌};
 ghost use Rattle.std.specs.List.Sorted.{IsStrictlyIncreasing, IsPermutation};
-ghost use Rattle.rma_base.specs.RankSets.{number_of, has_repeat, has_number};
+ghost use Rattle.rma_base.specs.RankSets.{number_of, has_repeat, has_number, placed, ascending};
 
 use crate::allocation::Memory;
 use crate::ranks::Rank;
@@ -42,6 +42,7 @@ impl RankSet {
     pub fn new(alloc: Global, ranks: &[Rank]) -> Result<RankSet, RankSetError>
         ensures ok { IfOk result (λ set. IsPermutation (map number_of ranks.now) set) }
         ensures ascending { IfOk result (λ set. IsStrictlyIncreasing set) }
+        ensures sorted { IfOk result (λ set. set ≡ ascending (map number_of ranks.now)) }
         ensures none { OnOk result (has_repeat (map number_of ranks.now) ≡ false) }
         ensures repeated { IsErrOf result RankSetError.Repeated → has_repeat (map number_of ranks.now) ≡ true }
     {
@@ -84,6 +85,7 @@ fn place(numbers: &mut Vec<u32>, number: u32) -> Result<(), RankSetError>
     requires { IsStrictlyIncreasing numbers.old.items }
     ensures ascending { OnOk result (IsStrictlyIncreasing numbers.new.items) }
     ensures placed { OnOk result (IsPermutation (number ∷ numbers.old.items) numbers.new.items) }
+    ensures sorted { OnOk result (numbers.new.items ≡ placed number numbers.old.items) }
     ensures is_new { OnOk result (has_number number numbers.old.items ≡ false) }
     ensures repeated { IsErrOf result RankSetError.Repeated → has_number number numbers.old.items ≡ true }
 {

@@ -2,3 +2,5 @@ pub mod LineLemmas
 pub mod CutLemmas
 pub mod MaskLemmas
 pub mod FeedLemmas
+pub mod FieldLemmas
+pub mod TextLemmas

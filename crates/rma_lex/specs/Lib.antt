@@ -5,3 +5,6 @@ pub mod Masks
 pub mod Found
 pub mod Kept
 pub mod Handing
+pub mod Fields
+pub mod Tokens
+pub mod Texts

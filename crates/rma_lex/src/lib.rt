@@ -4,3 +4,5 @@
 pub mod cutter;
 pub mod laws;
 mod line_feeds;
+pub mod texts;
+pub mod tokens;

@@ -1,9 +1,9 @@
-use Rattle.std.proofs.Common.{◌≡◌, ℕ, ◌<◌, ◌≤◌, length, get_or, Ok, Err, arith, rules, MatchResult}
+use Rattle.std.proofs.Common.{◌≡◌, ℕ, ◌<◌, ◌≤◌, length, get_or, Ok, Err, sym, ◌∙◌}
 use Rattle.std.specs.List.{insert}
 use Rattle.std.specs.List.Sorted.{IsBinarySearchResult, IsStrictlyIncreasing, IsPermutation}
 use Rattle.std.specs.Ordering.{nat_cmp}
 use Rattle.std.proofs.lemmas.List.Sorted.{searched, IsPermutation-insert}
-use Rattle.rma_base.proofs.RankSetLemmas.{rises_to, has_number-at, has_number-between, increasing-insert}
+use Rattle.rma_base.proofs.RankSetLemmas.{rises_to, has_number-at, has_number-between, increasing-insert, placed-insert}
 use Rattle.rma_base.proofs.rank_sets.place.Goals as goal
 
 pub returns-in-Ok-clause-repeated : goal.returns-in-Ok-clause-repeated
@@ -23,3 +23,8 @@ pub returns-in-Ok-insert-clause-is_new : goal.returns-in-Ok-insert-clause-is_new
 returns-in-Ok-insert-clause-is_new c =
     let place = searched c.args.numbers.now.items c.args.number (Err c.in-Err.index) (rw c.deref.ensures.value at c.in-Err.ensures.position) (rises_to _ c.requires) in
     has_number-between _ _ c.in-Err.index place.1 place.2
+
+pub returns-in-Ok-insert-clause-sorted : goal.returns-in-Ok-insert-clause-sorted
+returns-in-Ok-insert-clause-sorted c =
+    let place = searched c.args.numbers.now.items c.args.number (Err c.in-Err.index) (rw c.deref.ensures.value at c.in-Err.ensures.position) (rises_to _ c.requires) in
+    c.in-Ok-insert.ensures.items ∙ sym (placed-insert c.args.numbers.now.items c.args.number c.in-Err.index place.0 place.1 place.2)

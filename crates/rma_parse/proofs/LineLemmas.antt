@@ -1,0 +1,72 @@
+-- The steps of reading a line, one after another.
+use Rattle.std.proofs.Common.{◌≡◌, ℕ, zero, suc, ◌+◌, ◌-◌, ◌≤◌, Bool, true, false, List, [], ◌∷◌, length, take, drop, Option, Some, None, Result, Ok, Err, refl, sym, ap, subst, ◌∙◌, arith, eq-eqb, eqb, ⊎_elim}
+use Rattle.std.specs.Prelude.{is_some}
+use Rattle.std.proofs.lemmas.Bool.{cases_Bool}
+use Rattle.std.proofs.lemmas.List.{drop-take}
+use Rattle.std.proofs.Common.{length-take-le}
+use Rattle.std.proofs.Math.Seq.{take-length}
+use Rattle.rma_base.specs.declared.reasons.FormReason.{FormReason}
+use Rattle.rma_parse.specs.declared.events.Event.{Event}
+use Rattle.rma_parse.specs.declared.events.Stated.{Stated}
+use Rattle.rma_parse.specs.declared.faults.ParseError.{ParseError}
+use Rattle.rma_parse.specs.declared.faults.ParseError.TheVariants.{Fault, Memory}
+use Rattle.rma_parse.specs.declared.forms.LineForm.{LineForm}
+use Rattle.rma_parse.specs.Forms.{form_at, form_of, event_of}
+use Rattle.rma_parse.specs.Kinds.{Kind, Made, made_of, meaning}
+use Rattle.rma_parse.specs.Lines.{fields_of, site_text, site_of, stated_by, counted}
+use Rattle.rma_parse.specs.Steps.{◌>>=◌, Gives, Fails}
+
+pub read_as : (form at : LineForm) (result : Result Event ParseError) (words : List (List ℕ)) → form ≡ at → Gives result (event_of at words) → Gives result (event_of form words)
+read_as form at result words is given = subst (λ f. Gives result (event_of f words)) (sym is) given
+
+bind-equal : {A B : Type 0} (read : Result A FormReason) (f g : A → Result B FormReason) → ((a : A) → f a ≡ g a) → (read >>= f) ≡ (read >>= g)
+bind-equal (Ok a) f g same = same a
+bind-equal (Err reason) f g same = refl
+
+-- fields behind those that are read do not count
+made_of-take : {A : Type 0} (kinds : List Kind) (make : Made kinds A) (n : ℕ) (words : List (List ℕ)) → length kinds ≤ n → made_of kinds make (take n words) ≡ made_of kinds make words
+made_of-take [] make n words enough = refl
+made_of-take (kind ∷ kinds) make zero words enough = absurd (omega arith)
+made_of-take (kind ∷ kinds) make (suc n) [] enough = refl
+made_of-take (kind ∷ kinds) make (suc n) (word ∷ words) enough = bind-equal (meaning kind word) _ _ (λ value. made_of-take kinds (make value) n words (omega arith))
+
+fields-front : (words : List (List ℕ)) (n : ℕ) → length (fields_of words) ≡ n → fields_of words ≡ take n words
+fields-front words n is =
+    ⊎_elim
+    (λ (sited : is_some (site_text words) ≡ true).
+    let cut : fields_of words ≡ take (length words - 1) words = rw sited in
+    let long : length (take (length words - 1) words) ≡ length words - 1 = length-take-le (length words - 1) words (omega arith) in
+    let same : length words - 1 ≡ n = sym long ∙ ap length (sym cut) ∙ is in
+    cut ∙ ap (λ m. take m words) same)
+    (λ (bare : is_some (site_text words) ≡ false).
+    let whole : fields_of words ≡ words = rw bare in
+    whole ∙ sym (take-length words) ∙ ap (λ m. take m words) (ap length (sym whole) ∙ is))
+    (cases_Bool (is_some (site_text words)))
+
+-- the site does not count where the further fields are read
+event_of-fields : (form : LineForm) (words : List (List ℕ)) → length (fields_of words) ≡ (form_at form).kind_words + length (form_at form).kinds
+    → event_of form (drop (form_at form).kind_words (fields_of words)) ≡ event_of form (drop (form_at form).kind_words words)
+event_of-fields form words counts =
+    let kinds = (form_at form).kinds in
+    let behind = (form_at form).kind_words in
+    ap (λ them. event_of form (drop behind them)) (fields-front words (behind + length kinds) counts)
+    ∙ ap (event_of form) (drop-take behind (length kinds) words)
+    ∙ made_of-take kinds (form_at form).event (length kinds) (drop behind words) (omega arith)
+
+counted-fits : (form : LineForm) (words : List (List ℕ)) → length words ≡ (form_at form).kind_words + length (form_at form).kinds → counted form words ≡ Ok form
+counted-fits form words fits = rw (eq-eqb _ _ fits)
+
+-- the last step, where the steps before it found nothing
+pub stated_by-last : (verb : List ℕ) (words left : List (List ℕ)) (form : LineForm) (site : Option (List ℕ))
+    → form_of verb (fields_of words) ≡ Ok form → length (fields_of words) ≡ (form_at form).kind_words + length (form_at form).kinds → site_of (site_text words) ≡ Ok site
+    → left ≡ drop (form_at form).kind_words words
+    → stated_by verb words ≡ (event_of form left >>= λ event. Ok (record { event = event; site = site }))
+stated_by-last verb words left form site formed counts sited is =
+    ap (λ read. read >>= λ form. counted form (fields_of words) >>= λ form. site_of (site_text words) >>= λ site. event_of form (drop (form_at form).kind_words (fields_of words)) >>= λ event. Ok (record { event = event; site = site })) formed
+    ∙ ap (λ read. read >>= λ form. site_of (site_text words) >>= λ site. event_of form (drop (form_at form).kind_words (fields_of words)) >>= λ event. Ok (record { event = event; site = site })) (counted-fits form (fields_of words) counts)
+    ∙ ap (λ read. read >>= λ site. event_of form (drop (form_at form).kind_words (fields_of words)) >>= λ event. Ok (record { event = event; site = site })) sited
+    ∙ ap (λ read. read >>= λ event. Ok (record { event = event; site = site })) (event_of-fields form words counts ∙ ap (event_of form) (sym is))
+
+pub Fails-bind : {A B : Type 0} (error : ParseError) (read : Result A FormReason) (f : A → Result B FormReason) → Fails error read → Fails error (read >>= f)
+Fails-bind Memory read f fails = tt
+Fails-bind (Fault fault) read f fails = rw fails

@@ -1,0 +1,20 @@
+-- Steps of reading, each of which may find the line bad.
+use Rattle.std.specs.Prelude.{◌≡◌, ℕ, Result, Ok, Err}
+use Rattle.rma_base.specs.declared.reasons.FormReason.{FormReason}
+use Rattle.rma_parse.specs.declared.faults.ParseError.{ParseError}
+use Rattle.rma_parse.specs.declared.faults.ParseError.TheVariants.{Fault, Memory}
+
+-- one step and then the next: the first fault is that of both
+infixl 10 ◌>>=◌
+abbrev pub ◌>>=◌ : {A B : Type 0} → Result A FormReason → (A → Result B FormReason) → Result B FormReason
+(Ok x) >>= f = f x
+(Err reason) >>= f = Err reason
+
+abbrev pub Fails : {X : Type 0} → ParseError → Result X FormReason → Type 0
+Fails Memory read = Unit {0}
+Fails (Fault fault) read = read ≡ Err fault.reason
+
+-- what was answered is what reading gives, unless memory ran out
+abbrev pub Gives : {X : Type 0} → Result X ParseError → Result X FormReason → Type 0
+Gives (Ok x) read = read ≡ Ok x
+Gives (Err error) read = Fails error read
