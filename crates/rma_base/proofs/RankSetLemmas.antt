@@ -1,12 +1,11 @@
 -- Ascending lists of numbers without repeats.
-use Rattle.std.proofs.Common.{◌≡◌, ℕ, zero, suc, ◌+◌, ◌-◌, ◌<◌, ◌≤◌, ◌||◌, ◌⊎◌, inl, inr, Bool, true, false, List, [], ◌∷◌, ◌++◌, length, get_or, refl, sym, ap, subst, ◌∙◌, arith, eq-eqb, ⊎_elim, cond, eqb, ltb}
-use Rattle.std.specs.List.{list_any, insert}
-use Rattle.std.specs.List.Sorted.{IsStrictlyIncreasing, IsPermutation}
+use Rattle.std.proofs.Common.{◌≡◌, ℕ, zero, suc, ◌+◌, ◌-◌, ◌<◌, ◌≤◌, ◌||◌, ◌⊎◌, inl, inr, Bool, true, false, List, [], ◌∷◌, ◌++◌, length, get_or, refl, sym, ap, subst, ◌∙◌, arith, eq-eqb, ⊎_elim, eqb, ltb}
+use Rattle.std.specs.List.{insert}
+use Rattle.std.specs.List.Sorted.{IsStrictlyIncreasing}
 use Rattle.std.proofs.lemmas.List.Folds.{list_any_at, list_any-append}
 use Rattle.std.proofs.lemmas.List.Edits.{get_or-insert_at, get_or-insert_below, get_or-insert_above, length-insert}
 use Rattle.std.proofs.lemmas.Bool.{cases_lt, false≢true, lt-ltb, le-ltb}
 use Rattle.std.proofs.lemmas.Bool.Decides.{nat_tests}
-use Rattle.std.proofs.lemmas.Grind.{common_steps}
 use Rattle.rma_base.specs.RankSets.{has_repeat, has_number, placed}
 
 rises : (xs : List ℕ) → IsStrictlyIncreasing xs → (i n : ℕ) → i + n < length xs → get_or xs i 0 ≤ get_or xs (i + n) 0
@@ -42,34 +41,34 @@ increasing-insert xs n i up within below above k lt =
     let len : length (insert xs i n) ≡ length xs + 1 = length-insert xs i n within in
     ⊎_elim
     (λ (low : k < i). ⊎_elim
-        (λ (lower : k + 1 < i).
-            let left : get_or (insert xs i n) k 0 ≡ get_or xs k 0 = get_or-insert_below xs i n 0 k low within in
-            let right : get_or (insert xs i n) (k + 1) 0 ≡ get_or xs (k + 1) 0 = get_or-insert_below xs i n 0 (k + 1) lower within in
-            let rising : get_or xs k 0 < get_or xs (k + 1) 0 = up k (omega arith) in
-            omega arith)
-        (λ (next : i ≤ k + 1).
-            let at : k + 1 ≡ i = omega arith in
-            let left : get_or (insert xs i n) k 0 ≡ get_or xs k 0 = get_or-insert_below xs i n 0 k low within in
-            let right : get_or (insert xs i n) (k + 1) 0 ≡ n = ap (λ j. get_or (insert xs i n) j 0) at ∙ get_or-insert_at xs i n 0 within in
-            let rising : get_or xs k 0 < n = below k low in
-            omega arith)
-        (cases_lt (k + 1) i))
+    (λ (lower : k + 1 < i).
+    let left : get_or (insert xs i n) k 0 ≡ get_or xs k 0 = get_or-insert_below xs i n 0 k low within in
+    let right : get_or (insert xs i n) (k + 1) 0 ≡ get_or xs (k + 1) 0 = get_or-insert_below xs i n 0 (k + 1) lower within in
+    let rising : get_or xs k 0 < get_or xs (k + 1) 0 = up k (omega arith) in
+    omega arith)
+    (λ (next : i ≤ k + 1).
+    let at : k + 1 ≡ i = omega arith in
+    let left : get_or (insert xs i n) k 0 ≡ get_or xs k 0 = get_or-insert_below xs i n 0 k low within in
+    let right : get_or (insert xs i n) (k + 1) 0 ≡ n = ap (λ j. get_or (insert xs i n) j 0) at ∙ get_or-insert_at xs i n 0 within in
+    let rising : get_or xs k 0 < n = below k low in
+    omega arith)
+    (cases_lt (k + 1) i))
     (λ (high : i ≤ k).
-        let right : get_or (insert xs i n) (k + 1) 0 ≡ get_or xs k 0 = get_or-insert_above xs i n 0 k high within in
-        ⊎_elim
-        (λ (higher : i < k).
-            let back : k - 1 + 1 ≡ k = omega arith in
-            let beyond : i ≤ k - 1 = omega arith in
-            let left : get_or (insert xs i n) k 0 ≡ get_or xs (k - 1) 0 = ap (λ j. get_or (insert xs i n) j 0) (sym back) ∙ get_or-insert_above xs i n 0 (k - 1) beyond within in
-            let rising : get_or xs (k - 1) 0 < get_or xs (k - 1 + 1) 0 = up (k - 1) (omega arith) in
-            let same : get_or xs (k - 1 + 1) 0 ≡ get_or xs k 0 = ap (λ j. get_or xs j 0) back in
-            omega arith)
-        (λ (next : k ≤ i).
-            let at : k ≡ i = omega arith in
-            let left : get_or (insert xs i n) k 0 ≡ n = ap (λ j. get_or (insert xs i n) j 0) at ∙ get_or-insert_at xs i n 0 within in
-            let rising : n < get_or xs k 0 = above k high (omega arith) in
-            omega arith)
-        (cases_lt i k))
+    let right : get_or (insert xs i n) (k + 1) 0 ≡ get_or xs k 0 = get_or-insert_above xs i n 0 k high within in
+    ⊎_elim
+    (λ (higher : i < k).
+    let back : k - 1 + 1 ≡ k = omega arith in
+    let beyond : i ≤ k - 1 = omega arith in
+    let left : get_or (insert xs i n) k 0 ≡ get_or xs (k - 1) 0 = ap (λ j. get_or (insert xs i n) j 0) (sym back) ∙ get_or-insert_above xs i n 0 (k - 1) beyond within in
+    let rising : get_or xs (k - 1) 0 < get_or xs (k - 1 + 1) 0 = up (k - 1) (omega arith) in
+    let same : get_or xs (k - 1 + 1) 0 ≡ get_or xs k 0 = ap (λ j. get_or xs j 0) back in
+    omega arith)
+    (λ (next : k ≤ i).
+    let at : k ≡ i = omega arith in
+    let left : get_or (insert xs i n) k 0 ≡ n = ap (λ j. get_or (insert xs i n) j 0) at ∙ get_or-insert_at xs i n 0 within in
+    let rising : n < get_or xs k 0 = above k high (omega arith) in
+    omega arith)
+    (cases_lt i k))
     (cases_lt k i)
 
 test-sym : (x y : ℕ) → eqb x y ≡ eqb y x

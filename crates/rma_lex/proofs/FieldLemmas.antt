@@ -1,5 +1,5 @@
 -- The first field of a text, and the fields behind it.
-use Rattle.std.proofs.Common.{◌≡◌, ℕ, suc, ◌+◌, ◌<◌, ◌≤◌, Bool, true, false, not, List, [], ◌∷◌, ◌++◌, length, take, drop, refl, sym, ap, subst, ◌∙◌, cond, ⊎_elim, ◌⊎◌, inl, inr, arith, add-zero, add_assoc, eqb}
+use Rattle.std.proofs.Common.{◌≡◌, ℕ, suc, ◌+◌, ◌<◌, ◌≤◌, Bool, true, false, List, [], ◌∷◌, length, take, drop, refl, sym, ap, ◌∙◌, ⊎_elim, ◌⊎◌, inl, inr, arith, add-zero}
 use Rattle.std.proofs.Math.Numerals.{one-add}
 use Rattle.std.specs.List.{prefix_len, take_while}
 use Rattle.std.proofs.lemmas.List.Folds.{length-prefix_len}
@@ -32,8 +32,8 @@ fields_from-blanks place [] = refl
 fields_from-blanks place (b ∷ bs) =
     ⊎_elim
     (λ (blank : is_blank b ≡ true).
-        rw (prefix_len-passes is_blank b bs blank)
-        (fields_from-blank place b bs blank ∙ fields_from-blanks (place + 1) bs ∙ ap (λ at. fields_from at (drop (prefix_len is_blank bs) bs)) (next_place place (prefix_len is_blank bs))))
+    rw (prefix_len-passes is_blank b bs blank)
+    (fields_from-blank place b bs blank ∙ fields_from-blanks (place + 1) bs ∙ ap (λ at. fields_from at (drop (prefix_len is_blank bs) bs)) (next_place place (prefix_len is_blank bs))))
     (λ (field : is_blank b ≡ false). rw (prefix_len-fails is_blank b bs field, add-zero))
     (cases_Bool (is_blank b))
 
@@ -70,11 +70,11 @@ fields_from-field place (b ∷ bs) h =
     let more = prefix_len is_field bs in
     ⊎_elim
     (λ (next : begins_field bs ≡ true).
-        rw (prefix_len-passes is_field b bs h)
-        (fields_from-joined place b bs here next ∙ ap (onto_first_field place b) (fields_from-field (place + 1) bs next)
-        ∙ ap (λ at. record { start = place; text = b ∷ take more bs } ∷ fields_from at (drop more bs)) (next_place place more)))
+    rw (prefix_len-passes is_field b bs h)
+    (fields_from-joined place b bs here next ∙ ap (onto_first_field place b) (fields_from-field (place + 1) bs next)
+    ∙ ap (λ at. record { start = place; text = b ∷ take more bs } ∷ fields_from at (drop more bs)) (next_place place more)))
     (λ (next : begins_field bs ≡ false).
-        rw (prefix_len-passes is_field b bs h, prefix_len-no_field bs next) (fields_from-alone place b bs here next))
+    rw (prefix_len-passes is_field b bs h, prefix_len-no_field bs next) (fields_from-alone place b bs here next))
     (cases_Bool (begins_field bs))
 
 -- the fields of a text, where so many blanks and then so many bytes of a field stand in front
@@ -103,7 +103,7 @@ module _ (place : ℕ) (bs : List ℕ) (skipped held : ℕ) (blanks : skipped �
       ⊎_elim
       (λ (ended : drop skipped bs ≡ []). absurd (let none : prefix_len is_field (drop skipped bs) ≡ 0 = rw ended in omega (arith, some, held_is, none)))
       (λ (begins : begins_field (drop skipped bs) ≡ true).
-          fields_from-blanks place bs ∙ rw (← skipped_is, held_is) (fields_from-field (place + skipped) (drop skipped bs) begins))
+      fields_from-blanks place bs ∙ rw (← skipped_is, held_is) (fields_from-field (place + skipped) (drop skipped bs) begins))
       behind
 
 -- one field is handed out: what was left is that field and what is left then
@@ -133,7 +133,7 @@ length_fields_from place (b ∷ bs) =
     ⊎_elim
     (λ (blank : is_blank b ≡ true). rw (fields_from-blank place b bs blank) (omega arith))
     (λ (field : is_blank b ≡ false). ⊎_elim
-        (λ (next : begins_field bs ≡ true). rw (fields_from-joined place b bs field next) (length-onto_first_field place b (fields_from (place + 1) bs) (length bs) later))
-        (λ (next : begins_field bs ≡ false). rw (fields_from-alone place b bs field next) (omega arith))
-        (cases_Bool (begins_field bs)))
+    (λ (next : begins_field bs ≡ true). rw (fields_from-joined place b bs field next) (length-onto_first_field place b (fields_from (place + 1) bs) (length bs) later))
+    (λ (next : begins_field bs ≡ false). rw (fields_from-alone place b bs field next) (omega arith))
+    (cases_Bool (begins_field bs)))
     (cases_Bool (is_blank b))

@@ -1,5 +1,5 @@
 -- The carriage return at the end of a line.
-use Rattle.std.proofs.Common.{◌≡◌, ℕ, true, false, List, [], ◌∷◌, ◌++◌, refl, ap, eqb}
+use Rattle.std.proofs.Common.{◌≡◌, ℕ, true, false, List, [], ◌∷◌, ◌++◌, ap, eqb}
 use Rattle.rma_lex.specs.Texts.{without_return}
 
 pub without_return-return : (front : List ℕ) (byte : ℕ) → eqb byte 13 ≡ true → without_return (front ++ byte ∷ []) ≡ front

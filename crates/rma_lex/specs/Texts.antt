@@ -1,5 +1,5 @@
 -- The text of a line, and the reasons for which a line has none (the log format of this product).
-use Rattle.std.specs.Prelude.{ℕ, Bool, true, false, ◌||◌, ◌&&◌, ◌==◌, nat_le, nat_lt, List, [], ◌∷◌, length, Result, Ok, Err, if◌then◌else◌}
+use Rattle.std.specs.Prelude.{ℕ, Bool, ◌||◌, ◌&&◌, ◌==◌, nat_le, nat_lt, List, [], ◌∷◌, length, Result, Ok, Err, if◌then◌else◌}
 use Rattle.std.specs.List.{list_all}
 use Rattle.rma_base.specs.declared.limits.TheConstants.{LINE}
 use Rattle.rma_base.specs.declared.reasons.FormReason.{FormReason}

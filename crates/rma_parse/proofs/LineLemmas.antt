@@ -1,5 +1,5 @@
 -- The steps of reading a line, one after another.
-use Rattle.std.proofs.Common.{◌≡◌, ℕ, zero, suc, ◌+◌, ◌-◌, ◌≤◌, Bool, true, false, List, [], ◌∷◌, length, take, drop, Option, Some, None, Result, Ok, Err, refl, sym, ap, subst, ◌∙◌, arith, eq-eqb, eqb, ⊎_elim}
+use Rattle.std.proofs.Common.{◌≡◌, ℕ, zero, suc, ◌+◌, ◌-◌, ◌≤◌, true, false, List, [], ◌∷◌, length, take, drop, Option, Result, Ok, Err, refl, sym, ap, subst, ◌∙◌, arith, eq-eqb, ⊎_elim}
 use Rattle.std.specs.Prelude.{is_some}
 use Rattle.std.proofs.lemmas.Bool.{cases_Bool}
 use Rattle.std.proofs.lemmas.List.{drop-take}
@@ -7,7 +7,6 @@ use Rattle.std.proofs.Common.{length-take-le}
 use Rattle.std.proofs.Math.Seq.{take-length}
 use Rattle.rma_base.specs.declared.reasons.FormReason.{FormReason}
 use Rattle.rma_parse.specs.declared.events.Event.{Event}
-use Rattle.rma_parse.specs.declared.events.Stated.{Stated}
 use Rattle.rma_parse.specs.declared.faults.ParseError.{ParseError}
 use Rattle.rma_parse.specs.declared.faults.ParseError.TheVariants.{Fault, Memory}
 use Rattle.rma_parse.specs.declared.forms.LineForm.{LineForm}

@@ -1,5 +1,5 @@
 -- Numbers whose magnitude is cut off above the range of every field.
-use Rattle.std.proofs.Common.{◌≡◌, ℕ, zero, suc, ◌+◌, ◌*◌, ◌<◌, ◌≤◌, min, Bool, true, false, Ok, Err, refl, sym, ap, ◌∙◌, subst, ⊎_elim, ◌⊎◌, arith, le-leb, leb, ◌&&◌, rules}
+use Rattle.std.proofs.Common.{◌≡◌, ℕ, zero, suc, ◌+◌, ◌*◌, ◌<◌, ◌≤◌, min, Bool, true, false, Ok, Err, refl, ⊎_elim, ◌⊎◌, arith, le-leb, leb, ◌&&◌}
 use Rattle.std.proofs.Math.Nat.{mul-le-mul_left, mul_comm}
 use Rattle.std.proofs.lemmas.Bool.{cases_lt}
 use Rattle.std.proofs.lemmas.Bool.Decides.{nat_tests}

@@ -1,5 +1,5 @@
 -- The pieces of a field, and the numbers that they are.
-use Rattle.std.proofs.Common.{◌≡◌, ℕ, ℤ, suc, ◌+◌, ◌<◌, ◌≤◌, ◌⊎◌, inl, inr, Bool, true, false, not, ◌&&◌, ◌||◌, List, [], ◌∷◌, ◌++◌, length, take, drop, map, Option, Some, None, refl, sym, ap, subst, ◌∙◌, cond, eqb, ⊎_elim, arith, append_assoc}
+use Rattle.std.proofs.Common.{◌≡◌, ℕ, ℤ, suc, ◌+◌, ◌<◌, ◌≤◌, Bool, true, false, not, ◌&&◌, ◌||◌, List, [], ◌∷◌, length, take, drop, map, Option, Some, None, refl, sym, ap, subst, ◌∙◌, eqb, ⊎_elim, arith}
 use Rattle.std.specs.Prelude.{option_map, option_and_then, pos, negsuc, filter, codes, nat_eq, Ok, Err, if◌then◌else◌}
 use Rattle.std.specs.Cmp.Lexicographic.{pointwise}
 use Rattle.std.specs.Borrow.{Bor}
@@ -7,7 +7,7 @@ use Rattle.std.specs.List.{prefix_len, take_while, list_all, list_any}
 use Rattle.std.proofs.Math.Numerals.{one-add}
 use Rattle.std.proofs.lemmas.Bool.{cases_Bool, false≢true}
 use Rattle.std.proofs.lemmas.List.Folds.{length-prefix_len}
-use Rattle.rma_base.specs.RankSets.{number_of, has_repeat, has_number, ascending}
+use Rattle.rma_base.specs.RankSets.{has_repeat, has_number, ascending}
 use Rattle.std.proofs.Common.{◌-◌, add-one}
 use Rattle.std.proofs.lemmas.List.{take_rest}
 use Rattle.rma_base.specs.declared.reasons.FormReason.TheVariants.{BadNumber}

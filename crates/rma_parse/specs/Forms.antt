@@ -1,5 +1,5 @@
 -- The forms of lines (the log format of this product).
-use Rattle.std.specs.Prelude.{ℕ, ◌^◌, List, [], ◌∷◌, Result, Ok, Err, codes, if◌then◌else◌}
+use Rattle.std.specs.Prelude.{ℕ, List, [], ◌∷◌, Result, Ok, Err, codes, if◌then◌else◌}
 use Rattle.rma_base.specs.declared.reasons.FormReason.{FormReason}
 use Rattle.rma_base.specs.declared.reasons.FormReason.TheVariants.{UnknownVerb, WrongCount, BadWord}
 use Rattle.rma_parse.specs.declared.events.Event.{Event}

@@ -1,5 +1,5 @@
 -- What a field means as a set of ranks (the log format of this product).
-use Rattle.std.specs.Prelude.{ℕ, ℤ, pos, negsuc, Bool, true, false, not, ◌||◌, ◌==◌, nat_le, nat_eq, List, [], ◌∷◌, map, Option, Some, None, Result, Ok, Err, codes, option_and_then, option_map, if◌then◌else◌}
+use Rattle.std.specs.Prelude.{ℕ, ℤ, pos, negsuc, Bool, false, not, ◌||◌, ◌==◌, nat_le, nat_eq, List, [], ◌∷◌, map, Option, Some, None, Result, Ok, Err, codes, option_and_then, option_map, if◌then◌else◌}
 use Rattle.std.specs.Borrow.{Bor}
 use Rattle.std.specs.List.{list_all, list_any}
 use Rattle.std.specs.Cmp.Lexicographic.{pointwise}

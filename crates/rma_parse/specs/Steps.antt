@@ -1,5 +1,5 @@
 -- Steps of reading, each of which may find the line bad.
-use Rattle.std.specs.Prelude.{◌≡◌, ℕ, Result, Ok, Err}
+use Rattle.std.specs.Prelude.{◌≡◌, Result, Ok, Err}
 use Rattle.rma_base.specs.declared.reasons.FormReason.{FormReason}
 use Rattle.rma_parse.specs.declared.faults.ParseError.{ParseError}
 use Rattle.rma_parse.specs.declared.faults.ParseError.TheVariants.{Fault, Memory}

@@ -1,7 +1,4 @@
-use Rattle.std.proofs.Common.{◌≡◌, ℕ, ◌<◌, ◌≤◌, length, get_or, Ok, Err, sym, ◌∙◌}
-use Rattle.std.specs.List.{insert}
-use Rattle.std.specs.List.Sorted.{IsBinarySearchResult, IsStrictlyIncreasing, IsPermutation}
-use Rattle.std.specs.Ordering.{nat_cmp}
+use Rattle.std.proofs.Common.{Ok, Err, sym, ◌∙◌}
 use Rattle.std.proofs.lemmas.List.Sorted.{searched, IsPermutation-insert}
 use Rattle.rma_base.proofs.RankSetLemmas.{rises_to, has_number-at, has_number-between, increasing-insert, placed-insert}
 use Rattle.rma_base.proofs.rank_sets.place.Goals as goal

@@ -1,4 +1,4 @@
-use Rattle.std.proofs.Common.{◌≡◌, ℕ, min, take, get_or, ap, sym, ◌∙◌}
+use Rattle.std.proofs.Common.{take}
 use Rattle.std.specs.Str.Parse.{digits_value}
 use Rattle.std.proofs.lemmas.Int.Digits.{digits_value_more}
 use Rattle.rma_parse.specs.declared.numbers.TheConstants.{CAP}

@@ -1,4 +1,4 @@
-use Rattle.std.proofs.Common.{◌≡◌, map, sym, ap, ◌∙◌, false, rules}
+use Rattle.std.proofs.Common.{◌≡◌, map, ap, ◌∙◌, false, rules}
 use Rattle.std.specs.Prelude.{codes, nat_eq}
 use Rattle.std.specs.Cmp.Lexicographic.{pointwise}
 use Rattle.rma_base.specs.RankSets.{number_of}

@@ -1,7 +1,7 @@
-use Rattle.std.proofs.Common.{◌≡◌, List, ◌++◌, None, ap, ◌∙◌, sym}
+use Rattle.std.proofs.Common.{◌++◌, ap, ◌∙◌}
 use Rattle.std.specs.Prelude.{option_map}
 use Rattle.std.proofs.lemmas.Result.{err_from_is_err_and}
-use Rattle.rma_parse.specs.Ranks.{numbers, pieces, pieces_left}
+use Rattle.rma_parse.specs.Ranks.{numbers, pieces_left}
 use Rattle.rma_parse.proofs.RankFieldLemmas.{numbers-none, Fails-none}
 use Rattle.rma_parse.proofs.rank_fields.read_numbers.Goals as goal
 

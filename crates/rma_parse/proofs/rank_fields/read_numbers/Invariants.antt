@@ -1,4 +1,4 @@
-use Rattle.std.proofs.Common.{◌≡◌, ℤ, List, ◌++◌, length, Option, Some, None, ◌+◌}
+use Rattle.std.proofs.Common.{◌≡◌, ℤ, List, ◌++◌}
 use Rattle.std.specs.Prelude.{option_map}
 use Rattle.rma_parse.specs.Listed.{Lists}
 use Rattle.rma_parse.specs.Ranks.{numbers, pieces, pieces_left}

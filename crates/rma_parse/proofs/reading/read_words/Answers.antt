@@ -1,8 +1,8 @@
-use Rattle.std.proofs.Common.{◌≡◌, ℕ, ◌+◌, length, sym, ap, ◌∙◌, Ok, rules, arith}
+use Rattle.std.proofs.Common.{◌≡◌, ◌+◌, length, ap, ◌∙◌, Ok, arith}
 use Rattle.std.proofs.lemmas.Result.{err_from_is_err_and}
 use Rattle.rma_lex.specs.Fields.{texts}
 use Rattle.rma_parse.specs.Forms.{form_at}
-use Rattle.rma_parse.specs.Lines.{fields_of, site_of}
+use Rattle.rma_parse.specs.Lines.{fields_of}
 use Rattle.rma_parse.specs.Steps.{◌>>=◌}
 use Rattle.rma_parse.proofs.LineLemmas.{stated_by-last, Fails-bind}
 use Rattle.rma_parse.proofs.reading.read_words.Goals as goal

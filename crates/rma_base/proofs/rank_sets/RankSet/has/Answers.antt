@@ -1,4 +1,4 @@
-use Rattle.std.proofs.Common.{◌≡◌, ℕ, List, subst, ◌∙◌, ap, sym, Bool, true, false, length, get_or, Result, Ok, Err, is_ok, refl}
+use Rattle.std.proofs.Common.{◌≡◌, ℕ, List, subst, ◌∙◌, sym, Result, Ok, Err, is_ok}
 use Rattle.std.specs.List.Sorted.{IsBinarySearchResult, IsStrictlyIncreasing}
 use Rattle.std.specs.Ordering.{nat_cmp}
 use Rattle.std.proofs.lemmas.List.Sorted.{searched}

@@ -1,6 +1,6 @@
-use Rattle.std.proofs.Common.{◌≡◌, ℕ, ◌+◌, ◌<◌, ◌||◌, ◌++◌, [], ◌∷◌, List, true, false, ◌∙◌, ap, sym, subst, map, take, drop, length, get_or, refl, Err, add-one, drop-cons}
+use Rattle.std.proofs.Common.{◌≡◌, ℕ, ◌+◌, ◌<◌, ◌||◌, ◌++◌, [], ◌∷◌, List, true, false, ◌∙◌, ap, sym, map, take, drop, length, get_or, Err, add-one, drop-cons}
 use Rattle.rma_base.specs.declared.rank_sets.RankSetError.TheVariants.{Repeated}
-use Rattle.std.specs.List.Sorted.{IsStrictlyIncreasing, IsPermutation}
+use Rattle.std.specs.List.Sorted.{IsPermutation}
 use Rattle.std.proofs.lemmas.List.{take_more, map-append}
 use Rattle.std.proofs.lemmas.List.Sorted.{list_any-IsPermutation, IsPermutation-push_more}
 use Rattle.std.proofs.Common.{eqb, take-append-drop}
@@ -42,14 +42,14 @@ returns-in_err-place-clause-repeated c =
     let numbers = c.loop-rank.numbers.items in
     rw (returned.1, returned.2)
     (λ is_repeated. let same : c.in_err-place.field-0.0 ≡ Repeated = cc is_repeated in
-        repeat-all ranks (i + 1)
-        (repeat-more ranks i (record { 0 = 0 }) numbers c.loop-rank-test.true c.loop-rank.invariant.same c.loop-rank.invariant.single
-        ∙ c.in_err-place.ensures.repeated (ap Err same)))
+    repeat-all ranks (i + 1)
+    (repeat-more ranks i (record { 0 = 0 }) numbers c.loop-rank-test.true c.loop-rank.invariant.same c.loop-rank.invariant.single
+    ∙ c.in_err-place.ensures.repeated (ap Err same)))
 
 pub loop-rank-preserved : goal.loop-rank-preserved
 loop-rank-preserved c = record {
   ascending = c.in_ok-place.ensures.ascending;
   same = rw (numbers-more c.args.ranks.now c.loop-rank.rank-index (record { 0 = 0 }) c.loop-rank-test.true) (IsPermutation-push_more _ _ _ _ c.loop-rank.invariant.same c.in_ok-place.ensures.placed);
   sorted = rw c.in_ok-place.ensures.sorted (next-placed c.args.ranks.now c.loop-rank.rank-index (record { 0 = 0 }) c.loop-rank.numbers.items c.loop-rank-test.true ∙ c.loop-rank.invariant.sorted);
-  single = repeat-more c.args.ranks.now c.loop-rank.rank-index (record { 0 = 0 }) c.loop-rank.numbers.items c.loop-rank-test.true c.loop-rank.invariant.same c.loop-rank.invariant.single ∙ c.in_ok-place.ensures.is_new
+  single = repeat-more c.args.ranks.now c.loop-rank.rank-index (record { 0 = 0 }) c.loop-rank.numbers.items c.loop-rank-test.true c.loop-rank.invariant.same c.loop-rank.invariant.single ∙ c.in_ok-place.ensures.is_new;
 }

@@ -8,5 +8,5 @@ invariant-loop-rank l = record {
   ascending : IsStrictlyIncreasing l.numbers.items;
   same : IsPermutation (map number_of (take l.rank-index l.ranks)) l.numbers.items;
   sorted : placed_all l.numbers.items (map number_of (drop l.rank-index l.ranks)) ≡ placed_all [] (map number_of l.ranks);
-  single : has_repeat (map number_of (take l.rank-index l.ranks)) ≡ false
+  single : has_repeat (map number_of (take l.rank-index l.ranks)) ≡ false;
 }
