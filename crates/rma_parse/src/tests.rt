@@ -146,18 +146,21 @@ fn sites_lose_their_sign(rt: HostRuntime) -> Result<(), Fail> {
 
 #[test]
 fn communicators_have_their_ranks_in_order(rt: HostRuntime) -> Result<(), Fail> {
-    match stated(&rt, b"comm C.1-a 7,0x2,063,0")?.event {
+    let some = stated(&rt, b"comm C.1-a 7,0x2,063,0")?;
+    match &some.event {
         Event::Frame(Frame::Comm { comm, ranks }) => {
             assert_eq!(rt; comm.bytes(), b"C.1-a".as_slice());
             assert_eq!(rt; ranks.numbers(), [0, 2, 7, 63].as_slice());
         }
         _ => assert!(rt; false),
     }
-    match stated(&rt, b"comm _ none")?.event {
+    let none = stated(&rt, b"comm _ none")?;
+    match &none.event {
         Event::Frame(Frame::Comm { ranks, .. }) => assert!(rt; ranks.numbers().is_empty()),
         _ => assert!(rt; false),
     }
-    match stated(&rt, b"barrier world")?.event {
+    let barrier = stated(&rt, b"barrier world")?;
+    match &barrier.event {
         Event::Frame(Frame::Barrier { comm }) => assert_eq!(rt; comm.bytes(), b"world".as_slice()),
         _ => assert!(rt; false),
     }
@@ -166,12 +169,11 @@ fn communicators_have_their_ranks_in_order(rt: HostRuntime) -> Result<(), Fail> 
 
 #[test]
 fn windows_are_read_field_by_field(rt: HostRuntime) -> Result<(), Fail> {
-    match stated(
+    let created = stated(
         &rt,
         b"win create W C 281474976710656 0x8 2147483647 separate same_op_no_op @a",
-    )?
-    .event
-    {
+    )?;
+    match &created.event {
         Event::Window(
             Window::Create {
                 window,
@@ -185,15 +187,16 @@ fn windows_are_read_field_by_field(rt: HostRuntime) -> Result<(), Fail> {
         ) => {
             assert_eq!(rt; window.bytes(), b"W".as_slice());
             assert_eq!(rt; comm.bytes(), b"C".as_slice());
-            assert_eq!(rt; base, 281_474_976_710_656);
-            assert_eq!(rt; size, 8);
-            assert_eq!(rt; unit, 2_147_483_647);
-            assert_eq!(rt; model, WinModel::Separate);
-            assert_eq!(rt; ops, AccOps::SameOpNoOp);
+            assert_eq!(rt; *base, 281_474_976_710_656);
+            assert_eq!(rt; *size, 8);
+            assert_eq!(rt; *unit, 2_147_483_647);
+            assert_eq!(rt; *model, WinModel::Separate);
+            assert_eq!(rt; *ops, AccOps::SameOpNoOp);
         }
         _ => assert!(rt; false),
     }
-    match stated(&rt, b"win free W")?.event {
+    let freed = stated(&rt, b"win free W")?;
+    match &freed.event {
         Event::Window(Window::Free { window }) => assert_eq!(rt; window.bytes(), b"W".as_slice()),
         _ => assert!(rt; false),
     }
