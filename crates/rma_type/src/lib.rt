@@ -14,6 +14,8 @@ mod makes;
 mod members;
 pub mod origins;
 mod outlines;
+#[cfg(test)]
+mod plans;
 mod spans;
 pub mod table;
 #[cfg(test)]

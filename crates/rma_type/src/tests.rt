@@ -1,7 +1,11 @@
 //! Values from the rules of datatypes (MPI 4.0, "Datatypes") with the sizes of LP64.
+use crate::plans::{Plan, how, name};
 use crate::table::TypeTable;
-use crate::types::{Made, TypeFault, TypeId};
+use crate::types::{Made, TypeError, TypeFault, TypeId};
+use rma_base::makes::Order;
 use rma_base::names::Name;
+use std::alloc::Global;
+use std::process::Abort;
 use std::test::Fail;
 
 #[test]
@@ -61,5 +65,173 @@ fn basic_datatypes_stay_and_unknown_names_are_refused(rt: HostRuntime) -> Result
     assert_eq!(rt; table.find(&basic), Some(TypeId(4)));
     assert_eq!(rt; table.types(), 26);
     assert!(rt; table.committed(TypeId(4)));
+    Ok(())
+}
+
+/// The size, the lower and the upper bound, the extent, the entries, the blocks, and whether it is solid.
+type Told = (u64, i64, i64, i64, u64, u64, bool);
+
+/// Constructors, and what is counted by hand.
+const MADE: [(&str, Plan, Told); 7] = [
+    (
+        "v",
+        Plan::Vector(2, 1, 3, "INT"),
+        (8, 0, 16, 16, 2, 2, false),
+    ),
+    (
+        "wide",
+        Plan::Resized("v", -4, 20),
+        (8, -4, 16, 20, 2, 2, false),
+    ),
+    (
+        "pair",
+        Plan::Struct(&[(1, 0, "INT"), (1, 4, "CHAR")]),
+        (5, 0, 8, 8, 2, 1, false),
+    ),
+    (
+        "whole",
+        Plan::Subarray(Order::LastFastest, "INT", &[(4, 4, 0)]),
+        (16, 0, 16, 16, 4, 1, true),
+    ),
+    (
+        "part",
+        Plan::Subarray(Order::LastFastest, "INT", &[(4, 2, 1)]),
+        (8, 0, 16, 16, 2, 1, false),
+    ),
+    (
+        "none",
+        Plan::Contiguous(0, "INT"),
+        (0, 0, 0, 0, 0, 0, false),
+    ),
+    (
+        "many",
+        Plan::Vector(67_108_864, 1, 2, "CHAR"),
+        (
+            67_108_864,
+            0,
+            134_217_727,
+            134_217_727,
+            67_108_864,
+            67_108_864,
+            false,
+        ),
+    ),
+];
+
+/// Constructors behind these, and why each is refused.
+const REFUSED: [(&str, Plan, TypeFault); 11] = [
+    ("t", Plan::Contiguous(1, "unknown"), TypeFault::UnknownType),
+    (
+        "t",
+        Plan::Struct(&[(1, 0, "INT"), (-1, 0, "unknown")]),
+        TypeFault::UnknownType,
+    ),
+    ("v", Plan::Contiguous(-1, "INT"), TypeFault::NameInUse),
+    ("t", Plan::Contiguous(-1, "INT"), TypeFault::NegativeCount),
+    (
+        "t",
+        Plan::Hvector(0, -1, 0, "INT"),
+        TypeFault::NegativeCount,
+    ),
+    (
+        "t",
+        Plan::Hindexed("INT", &[(1, 0), (-1, 0)]),
+        TypeFault::NegativeCount,
+    ),
+    (
+        "t",
+        Plan::Subarray(Order::LastFastest, "INT", &[(4, 2, 3)]),
+        TypeFault::BadSubarray,
+    ),
+    (
+        "t",
+        Plan::Subarray(Order::FirstFastest, "INT", &[(4, 2, 2), (4, 0, 1)]),
+        TypeFault::BadSubarray,
+    ),
+    ("t", Plan::Contiguous(2, "many"), TypeFault::TooManyElements),
+    (
+        "t",
+        Plan::Hindexed("INT", &[(1, 281_474_976_710_653)]),
+        TypeFault::OutOfSpace,
+    ),
+    (
+        "t",
+        Plan::Resized("INT", 0, 281_474_976_710_657),
+        TypeFault::OutOfSpace,
+    ),
+];
+
+/// What a constructor is answered.
+fn make(
+    rt: &impl Abort,
+    alloc: Global,
+    table: &mut TypeTable,
+    word: &str,
+    plan: Plan,
+) -> Result<Result<TypeId, TypeError>, Fail> {
+    let name = name(alloc, word)?;
+    let how = how(alloc, plan)?;
+    assert!(rt; table.types() < 1000);
+    Ok(table.make(&name, &how))
+}
+
+/// What is told of a datatype.
+fn told(rt: &impl Abort, table: &TypeTable, id: TypeId) -> Told {
+    assert!(rt; id.0 < table.types());
+    let made = table.made(id);
+    (
+        made.size,
+        made.lb,
+        made.ub,
+        made.extent,
+        made.entries,
+        made.blocks,
+        made.solid,
+    )
+}
+
+/// Whether a datatype is committed.
+fn committed(rt: &impl Abort, table: &TypeTable, id: TypeId) -> bool {
+    assert!(rt; id.0 < table.types());
+    table.committed(id)
+}
+
+#[test]
+fn constructors_make_what_is_counted_by_hand_and_faults_refuse(
+    rt: HostRuntime,
+) -> Result<(), Fail> {
+    let alloc = rt.alloc();
+    let mut table = TypeTable::new(alloc)?;
+    for (word, plan, want) in MADE {
+        let id = make(&rt, alloc, &mut table, word, plan)??;
+        assert_eq!(rt; told(&rt, &table, id), want, "{word}");
+    }
+    for (word, plan, fault) in REFUSED {
+        let answer = make(&rt, alloc, &mut table, word, plan)?;
+        assert_eq!(rt; answer, Err(TypeError::Fault(fault)));
+    }
+    assert_eq!(rt; table.types(), 33);
+    assert_eq!(rt; table.find(&name(alloc, "t")?), None);
+    Ok(())
+}
+
+#[test]
+fn a_freed_name_is_made_again_and_what_was_built_stays(rt: HostRuntime) -> Result<(), Fail> {
+    let alloc = rt.alloc();
+    let mut table = TypeTable::new(alloc)?;
+    let pair = name(alloc, "pair")?;
+    let first = make(&rt, alloc, &mut table, "pair", Plan::Contiguous(2, "INT"))??;
+    let built = make(&rt, alloc, &mut table, "six", Plan::Contiguous(3, "pair"))??;
+    assert_eq!(rt; table.free(&pair), Ok(()));
+    let second = make(&rt, alloc, &mut table, "pair", Plan::Contiguous(1, "CHAR"))??;
+    assert_eq!(rt;
+        (first, built, second),
+        (TypeId(26), TypeId(27), TypeId(28))
+    );
+    assert_eq!(rt; told(&rt, &table, built), (24, 0, 24, 24, 6, 1, true));
+    assert_eq!(rt; told(&rt, &table, second), (1, 0, 1, 1, 1, 1, true));
+    assert!(rt; !committed(&rt, &table, second));
+    assert_eq!(rt; table.commit(&pair), Ok(()));
+    assert!(rt; committed(&rt, &table, second) && !committed(&rt, &table, first));
     Ok(())
 }
