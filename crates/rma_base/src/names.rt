@@ -64,11 +64,18 @@ impl Name {
         }
     }
 
+    /// The text of the name.
+    pub fn text(&self) -> &str
+        ensures { result.now ≡ self.now }
+    {
+        self.text.as_str()
+    }
+
     /// The bytes of the name.
     pub fn bytes(&self) -> &[u8]
         ensures { result.now ≡ self.now }
     {
-        self.text.as_str().as_bytes()
+        self.text().as_bytes()
     }
 
     /// A name with the same bytes.

@@ -47,11 +47,18 @@ impl Site {
         }
     }
 
+    /// The text of the site.
+    pub fn text(&self) -> &str
+        ensures { result.now ≡ self.now }
+    {
+        self.text.as_str()
+    }
+
     /// The bytes of the site.
     pub fn bytes(&self) -> &[u8]
         ensures { result.now ≡ self.now }
     {
-        self.text.as_str().as_bytes()
+        self.text().as_bytes()
     }
 
     /// A site with the same bytes.
