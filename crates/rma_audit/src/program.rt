@@ -18,6 +18,9 @@ use rma_io::sinks::Sink;
 use rma_io::sources::Logs;
 use std::alloc::Global;
 
+/// How many bytes are read at once: a piece of every log, and what its reader keeps of it, stay in the caches together.
+const ROOM: usize = 16_384;
+
 /// Does what the words of the command line say: opens the logs that they name, in order, one log a rank; reads them
 /// to their ends; audits them; and writes the report to `out`.
 ///
@@ -62,9 +65,9 @@ fn read_logs<L: Logs>(alloc: Global, names: &[String], logs: &mut L) -> Result<F
 
 // Room for the bytes that are read at once.
 fn new_room(alloc: Global) -> Result<Vec<u8>, Memory>
-    ensures { IfOk result (λ room. vec_len room ≡ 65536) }
+    ensures { IfOk result (λ room. vec_len room ≡ ROOM) }
 {
-    Ok(vec![in alloc; 0; 65536]?)
+    Ok(vec![in alloc; 0; ROOM]?)
 }
 
 // Writes the report.

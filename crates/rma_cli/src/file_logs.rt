@@ -1,15 +1,16 @@
 //! Files as the logs of a run.
-ghost use Rattle.std.specs.Prelude.{◌≡◌, ◌<◌, ◌≤◌, vec_len, vec_capacity, length, IfOk, IfErr, OnOk, refl};
+ghost use Rattle.std.specs.Prelude.{◌≡◌, ◌+◌, ◌^◌, ◌<◌, ◌≤◌, [], ◌∷◌, ◌++◌, vec_len, vec_capacity, length, IfErr, OnOk, OnErr, refl};
+ghost use Rattle.rma_io.specs.Counts.{raised};
 ghost use Rattle.std.specs.Io.{ReadsAtMost};
 ghost use Rattle.std.specs.Io.KnownBytes.{ReadConsumes};
 ghost use Rattle.rma_cli.specs.Edges.{no_files};
 
 use rma_io::sources::{Failed, Logs, OpenFault, Pull, Pulls};
 use std::alloc::{AllocError, Global};
+use std::fs;
 use std::io::{ErrorKind, Read};
 use std::marker::Model;
 use std::rt::Files;
-use std::{fs, io};
 
 /// The most bytes that one turn of a file reads.
 const TURN: usize = 65_536;
@@ -38,12 +39,14 @@ impl<R: Files + Drop> Model for FileLogs<R> {
 
     ghost view = { λ s. record {
       names = map string_bytes s.names.items;
+      unended = s.turns.items;
       refused = option_map string_bytes s.refused;
       taken = s.taken;
       faults = s.faults;
     } };
 
-    ghost invariant = { λ s. (length s.files.items ≡ length s.names.items) × All (λ rank. rank < length s.names.items) s.turns.items };
+    ghost invariant = { λ s. (length s.files.items ≡ length s.names.items) × All (λ rank. rank < length s.names.items) s.turns.items
+        × (0 < s.next → s.next < length s.turns.items) };
 }
 
 impl<R: Files + Drop> FileLogs<R> {
@@ -81,43 +84,55 @@ fn make_room<T>(items: &mut Vec<T>) -> Result<(), OpenFault>
 fn turn_at(place: usize, turns: usize) -> usize
     ensures there { place < turns → result ≡ place }
     ensures behind { turns ≤ place → result ≡ 0 }
+    ensures within { 0 < result → result < turns }
 {
     if place < turns { place } else { 0 }
 }
 
-/// Reads at most one turn of a file.
-fn read_turn<F: Read>(file: &mut F, room: &mut [u8]) -> io::Result<usize>
+/// Reads at most one turn of a file, and counts a read that failed.
+fn read_turn<F: Read>(file: &mut F, room: &mut [u8], faults: &mut u64) -> Result<usize, Failed>
     ensures bound { ReadsAtMost result room.new }
     ensures bytes { ReadConsumes (F.remaining file.old) (F.remaining file.new) result room.new }
+    ensures counted { OnErr result (faults.new ≡ raised faults.old 1) }
+    ensures not_counted { OnOk result (faults.new ≡ faults.old) }
 {
     let most = room.len().min(TURN);
-    file.read(&mut room[..most])
+    match file.read(&mut room[..most]) {
+        Ok(len) => Ok(len),
+        Err(_) => {
+            *faults = faults.saturating_add(1);
+            Err(Failed)
+        }
+    }
 }
 
 impl<R: Files + Drop> Pulls for FileLogs<R> {
     ghost use Rattle.std.specs.Prelude.{◌≡◌};
-    ghost use Rattle.rma_cli.specs.Edges.{source_of, opened_of};
+    ghost use Rattle.rma_cli.specs.Edges.{source_of, opened_of, SawEnds};
+    ghost use Rattle.rma_io.specs.Sources.{IsPulled};
 
     ghost source = { source_of };
 
     ghost stays = { λ before after. opened_of after ≡ opened_of before };
 
-    fn pull(&mut self, room: &mut [u8]) -> Result<Pull, Failed> {
+    fn pull(&mut self, room: &mut [u8]) -> Result<Pull, Failed>
+        requires room { 0 < length room.old }
+        requires small { self.old.taken + length room.old ≤ 2 ^ 62 }
+        ensures pulled { IsPulled (source_of self.old) room.new result (source_of self.new) }
+        ensures stays { opened_of self.new ≡ opened_of self.old }
+        ensures ends { SawEnds result self.new }
+    {
         while self.next < self.turns.len() {
             let rank = self.turns[self.next];
             let file = &mut self.files[rank as usize];
-            match read_turn(file, room) {
-                Ok(0) => {
+            match read_turn(file, room, &mut self.faults)? {
+                0 => {
                     let _ = self.turns.remove(self.next);
                 }
-                Ok(len) => {
+                len => {
                     self.next = turn_at(self.next + 1, self.turns.len());
                     self.taken += len as u64;
                     return Ok(Pull::Bytes { rank, len });
-                }
-                Err(_) => {
-                    self.faults = self.faults.saturating_add(1);
-                    return Err(Failed);
                 }
             }
             self.next = turn_at(self.next, self.turns.len());
@@ -129,11 +144,17 @@ impl<R: Files + Drop> Pulls for FileLogs<R> {
 }
 
 impl<R: Files + Drop> Logs for FileLogs<R> {
-    ghost use Rattle.rma_cli.specs.Edges.{opened_of};
+    ghost use Rattle.rma_cli.specs.Edges.{source_of, opened_of};
+    ghost use Rattle.rma_io.specs.Sources.{IsOpened};
 
     ghost opened = { opened_of };
 
-    fn open(&mut self, name: &str) -> Result<(), OpenFault> {
+    fn open(&mut self, name: &str) -> Result<(), OpenFault>
+        requires few { length self.old.names + 1 < 2 ^ 32 }
+        ensures opened { IsOpened (source_of self.old) (opened_of self.old) name.now result (source_of self.new) (opened_of self.new) }
+        ensures unended { OnOk result (self.new.unended ≡ self.old.unended ++ length self.old.names ∷ []) }
+        ensures kept { OnErr result (self.new.unended ≡ self.old.unended) }
+    {
         let Ok(copy) = String::from_str(self.alloc, name) else {
             return Err(OpenFault::Memory);
         };

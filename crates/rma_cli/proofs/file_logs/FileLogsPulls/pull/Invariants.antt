@@ -5,6 +5,7 @@ abbrev pub invariant-loop-self : goal.invariant-loop-self
 invariant-loop-self g l = record {
   one_a_name : length l.self-inside.files.items ≡ length l.self-inside.names.items;
   ranks : All (λ rank. rank < length l.self-inside.names.items) l.self-inside.turns.items;
+  turn : 0 < l.self-inside.next → l.self-inside.next < length l.self-inside.turns.items;
   names : l.self-inside.names ≡ l.initial.self-inside.names;
   refused : l.self-inside.refused ≡ l.initial.self-inside.refused;
   taken : l.self-inside.taken ≡ l.initial.self-inside.taken;
