@@ -6,7 +6,7 @@ use Rattle.rma_type.specs.declared.types.TypeId.{TypeId}
 use Rattle.rma_type.specs.declared.table.Kept.{Kept}
 use Rattle.rma_type.specs.declared.table.TypeTable.TheInside.{Inside}
 use Rattle.rma_type.specs.declared.origins.Origin.{Origin}
-use Rattle.rma_type.specs.Typemap.{Typemap}
+use Rattle.rma_typemap.specs.Typemap.{Typemap}
 use Rattle.rma_type.specs.Tables.{typemaps, typemap_of, with_typemap, id_of}
 use Rattle.rma_type.specs.TableInside.{IsKept, IsTable, origins_of}
 

@@ -8,10 +8,10 @@ use Rattle.rma_base.specs.declared.makes.Block.{Block}
 use Rattle.rma_base.specs.declared.makes.ByteBlock.{ByteBlock}
 use Rattle.rma_base.specs.declared.makes.Make.{Make}
 use Rattle.rma_base.specs.declared.makes.Make.TheVariants.{Contiguous, Vector, Hvector, Indexed, Hindexed, IndexedBlock, Struct, Resized, Subarray}
-use Rattle.rma_type.specs.Arrays.{is_part, cuts_of, whole_of_cuts}
-use Rattle.rma_type.specs.Space.{space}
+use Rattle.rma_typemap.specs.Arrays.{is_part, cuts_of, whole_of_cuts}
+use Rattle.rma_typemap.specs.Space.{space}
 use Rattle.rma_type.specs.Tables.{is_negative, has_negative, breaks_array, has_large_array}
-use Rattle.rma_type.specs.Counts.{IsCounted, IsSingle}
+use Rattle.rma_typemap.specs.Counts.{IsCounted, IsSingle}
 
 -- a constructor with one old datatype
 abbrev pub HasOneOld : Make → Type 0

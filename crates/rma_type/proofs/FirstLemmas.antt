@@ -1,48 +1,30 @@
 -- Tables of basic datatypes.
-use Rattle.std.proofs.Common.{◌≡◌, ℕ, zero, suc, ◌+◌, ◌<◌, ◌≤◌, ◌^◌, ℤ, pos, ◌+ℤ◌, Bool, true, false, not, List, [], ◌∷◌, ◌++◌, map, length, take, get_or, nat_eq, Option, Some, None, if◌then◌else◌, refl, sym, ap, ◌∙◌, arith}
+use Rattle.std.proofs.Common.{◌≡◌, ℕ, zero, suc, ◌+◌, ◌<◌, ◌≤◌, ◌^◌, pos, Bool, true, false, not, List, [], ◌∷◌, ◌++◌, map, length, take, get_or, nat_eq, Option, Some, None, if◌then◌else◌, refl, sym, ap, ◌∙◌, arith}
 use Rattle.std.specs.List.{list_all}
 use Rattle.std.specs.Cmp.Lexicographic.{pointwise}
-use Rattle.std.proofs.lemmas.Int.{ints}
 use Rattle.std.proofs.lemmas.List.{map-append, length-map, length-take-le, take_more}
-use Rattle.std.proofs.lemmas.List.Sums.{sum_by-cons}
 use Rattle.indexmap.specs.IndexMap.{insert_entry}
 use Rattle.rma_base.specs.declared.basics.Basic.{Basic}
-use Rattle.rma_base.specs.Basics.{basic_size, basic_word}
+use Rattle.rma_base.specs.Basics.{basic_word}
 use Rattle.rma_base.specs.declared.basics.Basic.TheVariants.{SignedChar}
 use Rattle.rma_type.specs.declared.types.TypeId.{TypeId}
-use Rattle.rma_type.specs.declared.outlines.Outline.{Outline}
+use Rattle.rma_typemap.specs.declared.outlines.Outline.{Outline}
 use Rattle.rma_type.specs.declared.table.TypeTable.TheInside.{Inside}
 use Rattle.rma_type.specs.declared.table.Kept.{Kept}
 use Rattle.rma_type.specs.declared.origins.Origin.{Origin}
 use Rattle.rma_type.specs.declared.origins.Origin.TheVariants as origin
-use Rattle.rma_type.specs.Typemap.{element}
-use Rattle.rma_type.specs.Bounds.{entry_count}
-use Rattle.rma_type.specs.Space.{is_all_in_space}
-use Rattle.rma_type.specs.Outline.{outline, span, chain}
+use Rattle.rma_typemap.specs.Typemap.{element}
+use Rattle.rma_typemap.specs.Bounds.{entry_count}
+use Rattle.rma_typemap.specs.Space.{is_all_in_space}
+use Rattle.rma_typemap.specs.Outline.{outline}
 use Rattle.rma_type.specs.Tables.{Table, id_of}
 use Rattle.rma_type.specs.TableInside.{IsKept, origins_of, table_of}
 use Rattle.rma_type.specs.Puts.{IsWithBasic}
 use Rattle.rma_type.specs.FirstTable.{words_from, table_of_basics}
 use Rattle.rma_type.specs.Words.{words_differ}
-use Rattle.rma_type.proofs.OutlineLemmas.{same_outline}
-use Rattle.rma_type.proofs.SpaceLemmas.{and_left, and_right}
+use Rattle.rma_typemap.proofs.SpaceLemmas.{and_left, and_right}
 
 -- ---- one element
-
-abbrev pub single : ℕ → ℤ → Outline
-single size end = record { entries = 1; size = size; alignment = size; bytes = Some (span (pos 0) end); lower = None; upper = None; chain = Some (chain 0 (pos 0) end) }
-
-pub outline-single : (b : Basic) (size : ℕ) (end : ℤ) → size ≡ basic_size b → end ≡ pos (basic_size b) → single size end ≡ outline (element b (pos 0) ∷ [])
-unfolding outline
-outline-single b size end e f =
-    let reached : end ≡ pos 0 +ℤ pos (basic_size b) = omega (arith, ints) in
-    same_outline _ _ refl
-    (omega (arith, sum_by-cons (λ (x : Basic × ℤ). basic_size x.0) (b, pos 0) []))
-    (omega arith)
-    (ap (λ z. Some (span (pos 0) z)) reached)
-    refl
-    refl
-    (ap (λ z. Some (chain 0 (pos 0) z)) reached)
 
 single_in_space : (b : Basic) → is_all_in_space (element b (pos 0) ∷ []) ≡ true
 unfolding is_all_in_space

@@ -5,16 +5,16 @@ use Rattle.rma_type.specs.declared.types.TypeId.{TypeId}
 use Rattle.rma_type.specs.declared.types.TypeFault.TheVariants.{UnknownType, NameInUse, NegativeCount, BadSubarray, OutOfSpace}
 use Rattle.rma_type.specs.declared.types.TypeError.{TypeError}
 use Rattle.rma_type.specs.declared.types.TypeError.TheVariants.{Fault, Memory}
-use Rattle.rma_type.specs.declared.outlines.Outline.{Outline}
-use Rattle.rma_type.specs.Typemap.{Typemap}
-use Rattle.rma_type.specs.Bounds.{entry_count}
-use Rattle.rma_type.specs.Constructors.{constructed}
-use Rattle.rma_type.specs.Space.{is_all_in_space}
-use Rattle.rma_type.specs.Outline.{outline, outline_is_in_space}
+use Rattle.rma_typemap.specs.declared.outlines.Outline.{Outline}
+use Rattle.rma_typemap.specs.Typemap.{Typemap}
+use Rattle.rma_typemap.specs.Bounds.{entry_count}
+use Rattle.rma_typemap.specs.Constructors.{constructed}
+use Rattle.rma_typemap.specs.Space.{is_all_in_space}
+use Rattle.rma_typemap.specs.Outline.{outline, outline_is_in_space}
 use Rattle.rma_type.specs.Tables.{Table, typemaps, typemap_in, id_of, old_names, olds_of, all_live, has_negative, breaks_array, has_large_array, first_fault, new_typemap, refusal}
 use Rattle.rma_type.specs.Makes.{IsToldOf, IsChecked, IsMeasured, typemap_of_new, refusal_of_new}
 use Rattle.rma_type.proofs.CheckLemmas.{not_above}
-use Rattle.rma_type.proofs.SpaceLemmas.{is_all_in_space_is}
+use Rattle.rma_typemap.proofs.SpaceLemmas.{is_all_in_space_is}
 
 new_typemap_is : (t : Table) (how : Make) (olds : List TypeId) → olds ≡ olds_of t.live (old_names how) → new_typemap t how ≡ typemap_of_new t.origins how olds
 unfolding new_typemap

@@ -5,9 +5,9 @@ use Rattle.std.proofs.lemmas.Slice.Zip.{get_or-zip, length-zip}
 use Rattle.std.proofs.lemmas.List.Sums.{fold_more, sum_by_more, sum_by_more_le}
 use Rattle.rma_base.specs.declared.makes.Member.{Member}
 use Rattle.rma_type.specs.declared.types.TypeId.{TypeId}
-use Rattle.rma_type.specs.declared.outlines.Outline.{Outline}
+use Rattle.rma_typemap.specs.declared.outlines.Outline.{Outline}
 use Rattle.rma_type.specs.declared.origins.Origin.{Origin}
-use Rattle.rma_type.specs.Outline.{with_member, struct_of, empty_outline}
+use Rattle.rma_typemap.specs.Outline.{with_member, struct_of, empty_outline}
 use Rattle.rma_type.specs.Members.{outline_in, with_outlines, member_entries, all_entries}
 
 module _ (origins : List Origin) (members : List Member) (olds : List TypeId) (fit : length olds ≡ length members) where

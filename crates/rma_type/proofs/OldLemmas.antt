@@ -8,18 +8,19 @@ use Rattle.rma_base.specs.declared.makes.Make.TheVariants.{Contiguous, Vector, H
 use Rattle.rma_type.specs.declared.types.TypeId.{TypeId}
 use Rattle.rma_type.specs.declared.origins.Origin.{Origin}
 use Rattle.rma_type.specs.declared.origins.Origin.TheVariants.{Derived}
-use Rattle.rma_type.specs.Typemap.{Typemap}
-use Rattle.rma_type.specs.Bounds.{entry_count}
-use Rattle.rma_type.specs.Constructors.{constructed}
-use Rattle.rma_type.specs.Counts.{copies_of, IsCounted}
-use Rattle.rma_type.specs.Outline.{outline, struct_of}
+use Rattle.rma_typemap.specs.Typemap.{Typemap}
+use Rattle.rma_typemap.specs.Bounds.{entry_count}
+use Rattle.rma_typemap.specs.Constructors.{constructed}
+use Rattle.rma_typemap.specs.Counts.{copies_of, IsCounted}
+use Rattle.rma_typemap.specs.Outline.{outline, struct_of}
 use Rattle.rma_type.specs.Members.{with_outlines, all_entries}
 use Rattle.rma_type.specs.Tables.{id_of, old_names, olds_of, all_live, typemaps, typemap_in}
 use Rattle.rma_type.specs.Adds.{ComesAfter}
 use Rattle.rma_type.specs.Makes.{typemap_of_new}
-use Rattle.rma_type.proofs.SpaceLemmas.{and_left, and_right}
+use Rattle.rma_typemap.proofs.SpaceLemmas.{and_left, and_right}
 use Rattle.rma_type.proofs.CheckLemmas.{HasOneOld}
-use Rattle.rma_type.proofs.EntryLemmas.{entry_count-constructed, entry_count-struct, outline-struct}
+use Rattle.rma_typemap.proofs.EntryLemmas.{entry_count-constructed}
+use Rattle.rma_type.proofs.StructLemmas.{entry_count-struct, outline-struct}
 
 abbrev Live : Type 0
 Live = List (List ℕ × TypeId)

@@ -1,15 +1,10 @@
 -- What a table keeps of a datatype.
 use Rattle.std.proofs.Common.{◌≡◌, ℕ, zero, suc, ◌<◌, ◌≤◌, ◌^◌, List, [], ◌∷◌, length, get_or, slice_get, Some, set, inl, inr, ⊎_elim, ◌⊎◌, refl, sym, ap, subst, ◌∙◌, arith}
 use Rattle.rma_type.specs.declared.table.Kept.{Kept}
-use Rattle.rma_type.specs.declared.outlines.Outline.{Outline}
-use Rattle.rma_type.specs.Near.{IsNearby, IsSound}
-use Rattle.rma_type.specs.Space.{space}
-use Rattle.std.proofs.Common.{ℤ, Bool}
-use Rattle.rma_type.specs.declared.types.Made.{Made}
-use Rattle.rma_type.specs.Bounds.{size, lower_bound, upper_bound, extent, entry_count, is_solid}
-use Rattle.rma_type.specs.Typemap.{Typemap, elements, block_count}
-use Rattle.rma_type.specs.Outline.{outline, made_of, lower_end, upper_end, reach, blocks_in}
-use Rattle.rma_type.specs.Told.{told_of}
+use Rattle.rma_typemap.specs.declared.outlines.Outline.{Outline}
+use Rattle.rma_typemap.specs.Near.{IsNearby, IsSound}
+use Rattle.rma_typemap.specs.Space.{space}
+use Rattle.rma_typemap.specs.Typemap.{Typemap}
 use Rattle.rma_type.specs.TableInside.{IsKept, origins_of, IsTable}
 use Rattle.rma_type.specs.declared.table.TypeTable.TheInside.{Inside}
 use Rattle.rma_type.specs.declared.origins.Origin.{Origin}
@@ -17,8 +12,8 @@ use Rattle.rma_type.specs.Tables.{typemaps}
 use Rattle.std.specs.Vec.{with_item}
 use Rattle.std.proofs.Common.{true, slice_index_or}
 use Rattle.std.proofs.lemmas.List.{length-set}
-use Rattle.rma_type.proofs.BoundLemmas.{IsSound-outline, entry_count_is, lower_bound_is, upper_bound_is, extent_is, size_is, block_count_is, is_solid_is}
-use Rattle.rma_type.proofs.SpaceLemmas.{IsNearby-in_space}
+use Rattle.rma_typemap.proofs.BoundLemmas.{IsSound-outline, entry_count_is}
+use Rattle.rma_typemap.proofs.SpaceLemmas.{IsNearby-in_space}
 
 -- an element that indexing gave
 pub read_at : {X : Type 0} (xs : List X) (i : ℕ) (x : X) → i < length xs → x ≡ get_or xs i x → slice_get xs i ≡ Some x
@@ -51,21 +46,6 @@ pub origins_of-set : (kept : List Kept) (i : ℕ) (new : Kept) (old : Kept) → 
 origins_of-set [] i new old h e = refl
 origins_of-set (k ∷ ks) zero new old h e = let same : k ≡ old = cc in ap (λ o. o ∷ origins_of ks) (e ∙ ap (λ x. x.origin) (sym same))
 origins_of-set (k ∷ ks) (suc i) new old h e = ap (λ os. k.origin ∷ os) (origins_of-set ks i new old h e)
-
--- ---- what is told of a datatype
-
-abbrev told : ℕ → ℤ → ℤ → ℤ → ℕ → ℕ → Bool → Made
-told size lb ub extent entries blocks solid = record { size = size; lb = lb; ub = ub; extent = extent; entries = entries; blocks = blocks; solid = solid }
-
-pub told_of-outline : (parts : Typemap) → made_of (outline parts) ≡ told_of parts
-told_of-outline parts = sym (
-    ap (λ x. told x (lower_bound parts) (upper_bound parts) (extent parts) (entry_count parts) (block_count (elements parts)) (is_solid parts)) (size_is parts)
-    ∙ ap (λ x. told (outline parts).size x (upper_bound parts) (extent parts) (entry_count parts) (block_count (elements parts)) (is_solid parts)) (lower_bound_is parts)
-    ∙ ap (λ x. told (outline parts).size (lower_end (outline parts)) x (extent parts) (entry_count parts) (block_count (elements parts)) (is_solid parts)) (upper_bound_is parts)
-    ∙ ap (λ x. told (outline parts).size (lower_end (outline parts)) (upper_end (outline parts)) x (entry_count parts) (block_count (elements parts)) (is_solid parts)) (extent_is parts)
-    ∙ ap (λ x. told (outline parts).size (lower_end (outline parts)) (upper_end (outline parts)) (reach (outline parts)) x (block_count (elements parts)) (is_solid parts)) (entry_count_is parts)
-    ∙ ap (λ x. told (outline parts).size (lower_end (outline parts)) (upper_end (outline parts)) (reach (outline parts)) (outline parts).entries x (is_solid parts)) (block_count_is parts)
-    ∙ ap (λ x. told (outline parts).size (lower_end (outline parts)) (upper_end (outline parts)) (reach (outline parts)) (outline parts).entries (blocks_in (outline parts).chain) x) (is_solid_is parts))
 
 -- ---- a commit
 

@@ -2,10 +2,10 @@
 use Rattle.std.specs.Prelude.{◌≡◌, ℕ, ◌<◌, List, length, All}
 use Rattle.rma_base.specs.declared.makes.Make.{Make}
 use Rattle.rma_type.specs.declared.types.TypeId.{TypeId}
-use Rattle.rma_type.specs.declared.outlines.Outline.{Outline}
+use Rattle.rma_typemap.specs.declared.outlines.Outline.{Outline}
 use Rattle.rma_type.specs.declared.origins.Origin.{Origin}
 use Rattle.rma_type.specs.declared.origins.Origin.TheVariants.{Basic, Derived}
-use Rattle.rma_type.specs.Outline.{outline}
+use Rattle.rma_typemap.specs.Outline.{outline}
 use Rattle.rma_type.specs.Tables.{typemaps, typemap_of, old_names}
 
 -- the old datatypes of a constructor are as many as its old names, and come before it

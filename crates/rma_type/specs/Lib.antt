@@ -1,12 +1,3 @@
-pub mod Typemap
-pub mod Bounds
-pub mod Constructors
-pub mod Arrays
-pub mod Space
-pub mod Outline
-pub mod Near
-pub mod Counts
-pub mod Told
 pub mod Tables
 pub mod Adds
 pub mod Puts

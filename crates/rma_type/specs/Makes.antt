@@ -5,13 +5,13 @@ use Rattle.rma_type.specs.declared.types.TypeId.{TypeId}
 use Rattle.rma_type.specs.declared.types.TypeFault.{TypeFault}
 use Rattle.rma_type.specs.declared.types.TypeError.{TypeError}
 use Rattle.rma_type.specs.declared.types.TypeError.TheVariants.{Fault, Memory}
-use Rattle.rma_type.specs.declared.outlines.Outline.{Outline}
+use Rattle.rma_typemap.specs.declared.outlines.Outline.{Outline}
 use Rattle.rma_type.specs.declared.origins.Origin.{Origin}
 use Rattle.rma_type.specs.declared.origins.Origin.TheVariants.{Derived}
-use Rattle.rma_type.specs.Typemap.{Typemap}
-use Rattle.rma_type.specs.Bounds.{entry_count}
-use Rattle.rma_type.specs.Space.{is_all_in_space}
-use Rattle.rma_type.specs.Outline.{outline}
+use Rattle.rma_typemap.specs.Typemap.{Typemap}
+use Rattle.rma_typemap.specs.Bounds.{entry_count}
+use Rattle.rma_typemap.specs.Space.{is_all_in_space}
+use Rattle.rma_typemap.specs.Outline.{outline}
 use Rattle.rma_type.specs.Tables.{Table, typemaps, typemap_of, id_of, old_names, olds_of, all_live, has_negative, breaks_array, has_large_array, first_fault}
 use Rattle.rma_type.specs.Adds.{ComesAfter}
 

@@ -3,10 +3,10 @@ use Rattle.std.specs.Prelude.{ℕ, ◌*◌, List, map, sum_by}
 use Rattle.std.specs.List.{zip}
 use Rattle.rma_base.specs.declared.makes.Member.{Member}
 use Rattle.rma_type.specs.declared.types.TypeId.{TypeId}
-use Rattle.rma_type.specs.declared.outlines.Outline.{Outline}
+use Rattle.rma_typemap.specs.declared.outlines.Outline.{Outline}
 use Rattle.rma_type.specs.declared.origins.Origin.{Origin}
-use Rattle.rma_type.specs.Constructors.{times}
-use Rattle.rma_type.specs.Outline.{outline}
+use Rattle.rma_typemap.specs.Constructors.{times}
+use Rattle.rma_typemap.specs.Outline.{outline}
 use Rattle.rma_type.specs.Tables.{typemaps, typemap_in}
 
 -- what a datatype of a table comes to

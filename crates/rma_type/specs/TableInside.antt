@@ -4,10 +4,10 @@ use Rattle.rma_type.specs.declared.types.TypeId.{TypeId}
 use Rattle.rma_type.specs.declared.origins.Origin.{Origin}
 use Rattle.rma_type.specs.declared.table.Kept.{Kept}
 use Rattle.rma_type.specs.declared.table.TypeTable.TheInside.{Inside}
-use Rattle.rma_type.specs.Typemap.{Typemap}
-use Rattle.rma_type.specs.Bounds.{entry_count}
-use Rattle.rma_type.specs.Space.{is_all_in_space}
-use Rattle.rma_type.specs.Outline.{outline}
+use Rattle.rma_typemap.specs.Typemap.{Typemap}
+use Rattle.rma_typemap.specs.Bounds.{entry_count}
+use Rattle.rma_typemap.specs.Space.{is_all_in_space}
+use Rattle.rma_typemap.specs.Outline.{outline}
 use Rattle.rma_type.specs.Adds.{ComesAfter}
 use Rattle.rma_type.specs.Tables.{Table, typemaps, id_of}
 

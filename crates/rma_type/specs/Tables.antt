@@ -11,11 +11,11 @@ use Rattle.rma_type.specs.declared.types.TypeFault.{TypeFault}
 use Rattle.rma_type.specs.declared.types.TypeFault.TheVariants.{UnknownType, NameInUse, NegativeCount, BadSubarray, TooManyElements, OutOfSpace}
 use Rattle.rma_type.specs.declared.origins.Origin.{Origin}
 use Rattle.rma_type.specs.declared.origins.Origin.TheVariants.{Basic, Derived}
-use Rattle.rma_type.specs.Typemap.{Typemap, element}
-use Rattle.rma_type.specs.Bounds.{entry_count}
-use Rattle.rma_type.specs.Constructors.{constructed}
-use Rattle.rma_type.specs.Arrays.{is_part, cuts_of, whole_of_cuts}
-use Rattle.rma_type.specs.Space.{space, is_all_in_space}
+use Rattle.rma_typemap.specs.Typemap.{Typemap, element}
+use Rattle.rma_typemap.specs.Bounds.{entry_count}
+use Rattle.rma_typemap.specs.Constructors.{constructed}
+use Rattle.rma_typemap.specs.Arrays.{is_part, cuts_of, whole_of_cuts}
+use Rattle.rma_typemap.specs.Space.{space, is_all_in_space}
 
 -- a table: where each datatype comes from, whether it is committed, and what each live name stands for
 pub record Table : Type 0 where

@@ -3,8 +3,8 @@ ghost use Rattle.std.specs.Prelude.{◌≡◌, ◌||◌, false};
 ghost use Rattle.std.specs.List.{list_any};
 ghost use Rattle.rma_type.specs.Tables.{is_negative, has_negative, breaks_array, has_large_array};
 
-use crate::arrays;
 use rma_base::makes::{Block, ByteBlock, Make, Member};
+use rma_typemap::arrays;
 
 /// Whether a count is negative.
 fn below_zero(count: i32) -> bool

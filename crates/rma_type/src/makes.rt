@@ -1,21 +1,21 @@
 //! New datatypes of a table.
 ghost use Rattle.std.specs.Prelude.{◌≡◌, ◌^◌, ◌+◌, ◌<◌, ◌≤◌, length, Some, None, IfOk, OnOk, OnErr, IfErr, true, false, nat_lt};
 ghost use Rattle.rma_type.specs.declared.origins.Origin.TheVariants.{Derived};
-ghost use Rattle.rma_type.specs.Bounds.{entry_count};
+ghost use Rattle.rma_typemap.specs.Bounds.{entry_count};
 ghost use Rattle.rma_type.specs.Adds.{ComesAfter, outline_of_new};
 ghost use Rattle.rma_type.specs.Tables.{refusal, IsMade, has_negative, breaks_array, has_large_array};
 ghost use Rattle.rma_type.specs.Makes.{IsToldOf, IsChecked, IsMeasured, typemap_of_new, refusal_of_new};
 
-use crate::bounds::in_space;
-use crate::builds::build;
 use crate::checks::{broken, large, negative};
-use crate::counts::exceeds;
-use crate::outlines::Outline;
 use crate::table::TypeTable;
 use crate::types::{TypeError, TypeFault, TypeId};
 use rma_base::lists::Sequence;
 use rma_base::makes::Make;
 use rma_base::names::Name;
+use rma_typemap::bounds::in_space;
+use rma_typemap::builds::build;
+use rma_typemap::counts::exceeds;
+use rma_typemap::outlines::Outline;
 
 impl TypeTable {
     /// Whether a constructor would make more than `ELEMENTS` elements of its old datatypes.

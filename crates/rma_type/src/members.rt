@@ -1,15 +1,15 @@
 //! The members of a struct, each of a datatype of its own.
 ghost use Rattle.std.specs.Prelude.{◌≡◌, ◌^◌, ◌+◌, ◌<◌, ◌≤◌, ◌≤ℤ◌, pos, length, All, nat_lt};
-ghost use Rattle.rma_type.specs.Near.{IsNearby, IsSound};
-ghost use Rattle.rma_type.specs.Outline.{with_member, struct_of};
+ghost use Rattle.rma_typemap.specs.Near.{IsNearby, IsSound};
+ghost use Rattle.rma_typemap.specs.Outline.{with_member, struct_of};
 ghost use Rattle.rma_type.specs.Members.{outline_in, with_outlines, member_entries, all_entries};
 
-use crate::blocks::{append_block, copies, wide};
-use crate::outlines::{Outline, empty};
 use crate::table::TypeTable;
 use crate::types::TypeId;
 use rma_base::limits::ELEMENTS;
 use rma_base::makes::Member;
+use rma_typemap::blocks::{append_block, copies, wide};
+use rma_typemap::outlines::{Outline, empty};
 
 impl TypeTable {
     /// The number of elements of a member.

@@ -3,16 +3,14 @@ ghost use Rattle.std.specs.Prelude.{◌≡◌, ◌≢◌, ◌+◌, ◌-◌, ◌^
 ghost use Rattle.std.specs.Cmp.Lexicographic.{pointwise};
 ghost use Rattle.rma_type.specs.Tables.{id_of, typemaps, typemap_in, how_of, olds_in, HasOld, IsCommitted, IsFreed, stands_for_derived, typemap_of, IsAdded, all_live, olds_of, member_names, old_names};
 ghost use Rattle.rma_type.specs.declared.origins.Origin.TheVariants.{Derived};
-ghost use Rattle.rma_type.specs.Bounds.{entry_count};
-ghost use Rattle.rma_type.specs.Outline.{outline};
-ghost use Rattle.rma_type.specs.Space.{space, is_all_in_space};
-ghost use Rattle.rma_type.specs.Near.{IsNearby, IsSound};
-ghost use Rattle.rma_type.specs.Told.{told_of};
+ghost use Rattle.rma_typemap.specs.Bounds.{entry_count};
+ghost use Rattle.rma_typemap.specs.Outline.{outline};
+ghost use Rattle.rma_typemap.specs.Space.{space, is_all_in_space};
+ghost use Rattle.rma_typemap.specs.Near.{IsNearby, IsSound};
+ghost use Rattle.rma_typemap.specs.Told.{told_of};
 
 use crate::basics::{self, BASICS};
-use crate::bounds;
 use crate::origins::Origin;
-use crate::outlines::{self, Outline};
 use crate::types::{Made, TypeError, TypeFault, TypeId};
 use indexmap::IndexMap;
 use rma_base::allocation::Memory;
@@ -20,6 +18,8 @@ use rma_base::basics::Basic;
 use rma_base::lists::Sequence;
 use rma_base::makes::{Make, Member};
 use rma_base::names::Name;
+use rma_typemap::bounds;
+use rma_typemap::outlines::{self, Outline};
 use std::alloc::Global;
 use std::marker::Model;
 

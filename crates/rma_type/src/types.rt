@@ -1,29 +1,11 @@
 //! What is told of a datatype.
 use rma_base::basics::Basic;
+pub use rma_typemap::told::Made;
 use thiserror::Error;
 
 /// A datatype of a table, by its number.
 #[derive(Clone, Copy, Debug, PartialEq, Eq, PartialOrd, Ord, Hash)]
 pub struct TypeId(pub u32);
-
-/// The size, bounds and blocks of a datatype.
-#[derive(Clone, Copy, Debug, PartialEq, Eq)]
-pub struct Made {
-    /// The bytes of all elements together.
-    pub size: u64,
-    /// The lower bound.
-    pub lb: i64,
-    /// The upper bound.
-    pub ub: i64,
-    /// The distance of one copy from the next.
-    pub extent: i64,
-    /// The number of elements.
-    pub entries: u64,
-    /// The blocks of elements, counted in order.
-    pub blocks: u64,
-    /// Whether the elements in order form one block from the lower to the upper bound, of the size of the extent.
-    pub solid: bool,
-}
 
 /// So many equal basic datatypes, one after another.
 #[derive(Clone, Copy, Debug, PartialEq, Eq)]

@@ -1,10 +1,10 @@
 use Rattle.std.proofs.Common.{◌≡◌, ◌^◌, ℕ, ℤ, ap, ◌∙◌, arith, rules, to_z, of_z, FitsSigned}
 use Rattle.std.specs.Int.{w32, w64, w128}
 use Rattle.std.proofs.lemmas.Int.{to_z-of_z}
-use Rattle.rma_type.specs.Constructors.{times}
-use Rattle.rma_type.specs.Outline.{with_block}
-use Rattle.rma_type.proofs.NearLemmas.{near_wider}
-use Rattle.rma_type.proofs.Wide.{near_kept}
+use Rattle.rma_typemap.specs.Constructors.{times}
+use Rattle.rma_typemap.specs.Outline.{with_block}
+use Rattle.rma_typemap.proofs.NearLemmas.{near_wider}
+use Rattle.rma_typemap.proofs.Wide.{near_kept}
 use Rattle.rma_type.proofs.table.TypeTable.append_member.Goals as goal
 
 pub returns-clause-value : goal.returns-clause-value

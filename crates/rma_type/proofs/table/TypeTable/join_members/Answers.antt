@@ -1,6 +1,6 @@
 use Rattle.std.proofs.Common.{◌+◌, sym, ap, ◌∙◌, get_or, arith}
 use Rattle.rma_type.specs.declared.types.TypeId.{TypeId}
-use Rattle.rma_type.specs.Outline.{with_member, struct_of}
+use Rattle.rma_typemap.specs.Outline.{with_member, struct_of}
 use Rattle.rma_type.specs.Members.{outline_in, member_entries}
 use Rattle.rma_type.proofs.MemberLemmas.{member_more, entries_more, entries_more_le, all_taken}
 use Rattle.rma_type.proofs.table.TypeTable.join_members.Goals as goal

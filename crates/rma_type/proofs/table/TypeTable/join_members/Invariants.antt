@@ -1,6 +1,6 @@
 use Rattle.std.proofs.Common.{◌≡◌, ◌^◌, take}
-use Rattle.rma_type.specs.Near.{IsNearby, IsSound}
-use Rattle.rma_type.specs.Outline.{struct_of}
+use Rattle.rma_typemap.specs.Near.{IsNearby, IsSound}
+use Rattle.rma_typemap.specs.Outline.{struct_of}
 use Rattle.rma_type.specs.Members.{with_outlines, all_entries}
 use Rattle.rma_type.proofs.table.TypeTable.join_members.Given as goal
 

@@ -1,10 +1,10 @@
 use Rattle.std.proofs.Common.{◌*◌, ap, sym, ◌∙◌, arith}
 use Rattle.rma_type.specs.declared.types.TypeId.{TypeId}
-use Rattle.rma_type.specs.declared.outlines.Outline.{Outline}
-use Rattle.rma_type.specs.Counts.{copies_of}
+use Rattle.rma_typemap.specs.declared.outlines.Outline.{Outline}
+use Rattle.rma_typemap.specs.Counts.{copies_of}
 use Rattle.rma_type.proofs.CheckLemmas.{IsCounted-checked, IsSingle-checked}
 use Rattle.rma_type.proofs.OldLemmas.{has_one_old, typemap_of_one, entry_count_of_one, entry_count_of_struct, outline_of_struct}
-use Rattle.rma_type.specs.Outline.{outline}
+use Rattle.rma_typemap.specs.Outline.{outline}
 use Rattle.rma_type.proofs.table.TypeTable.joined.Goals as goal
 
 abbrev no_type : TypeId

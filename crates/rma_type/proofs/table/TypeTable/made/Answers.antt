@@ -1,7 +1,7 @@
 use Rattle.std.proofs.Common.{ap, ◌∙◌}
 use Rattle.rma_type.specs.Tables.{typemaps, typemap_in}
-use Rattle.rma_type.specs.Outline.{made_of}
-use Rattle.rma_type.proofs.TableLemmas.{told_of-outline}
+use Rattle.rma_typemap.specs.Outline.{made_of}
+use Rattle.rma_typemap.proofs.BoundLemmas.{told_of-outline}
 use Rattle.rma_type.proofs.table.TypeTable.made.Goals as goal
 
 pub returns : goal.returns

@@ -1,7 +1,7 @@
 use Rattle.std.proofs.Common.{◌<◌, length, slice_index_or, [], arith, ap, ◌∙◌}
 use Rattle.std.proofs.lemmas.List.{length-map}
 use Rattle.rma_type.specs.declared.table.Kept.{Kept}
-use Rattle.rma_type.specs.Outline.{outline}
+use Rattle.rma_typemap.specs.Outline.{outline}
 use Rattle.rma_type.specs.Tables.{Table, typemaps}
 use Rattle.rma_type.specs.TableInside.{IsKept, origins_of}
 use Rattle.rma_type.proofs.TableLemmas.{read_at, kept_near, kept_sound, kept_few}

@@ -1,7 +1,7 @@
 use Rattle.std.proofs.Common.{◌*◌, nat_lt, ap, sym, ◌∙◌}
 use Rattle.rma_type.specs.declared.types.TypeId.{TypeId}
-use Rattle.rma_type.specs.declared.outlines.Outline.{Outline}
-use Rattle.rma_type.specs.Counts.{copies_of}
+use Rattle.rma_typemap.specs.declared.outlines.Outline.{Outline}
+use Rattle.rma_typemap.specs.Counts.{copies_of}
 use Rattle.rma_type.proofs.CheckLemmas.{IsCounted-checked}
 use Rattle.rma_type.proofs.OldLemmas.{has_one_old, entry_count_of_one, entry_count_of_struct}
 use Rattle.rma_type.proofs.table.TypeTable.too_many.Goals as goal

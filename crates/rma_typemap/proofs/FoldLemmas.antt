@@ -1,0 +1,24 @@
+-- One more block, or member, at a loop's step.
+use Rattle.std.proofs.Common.{◌≡◌, ℕ, ◌+◌, ◌*◌, ◌<◌, ◌≤◌, ℤ, List, length, get_or, take, map, sum_by, ap, ◌∙◌, arith}
+use Rattle.std.proofs.lemmas.List.{map_more}
+use Rattle.std.proofs.lemmas.List.Sums.{fold_push, sum_by_more, sum_by_more_le}
+use Rattle.std.proofs.Math.Nat.{mul-le-mul_right}
+use Rattle.rma_typemap.specs.declared.outlines.Outline.{Outline}
+use Rattle.rma_typemap.specs.Outline.{with_block, blocks_of, empty_outline}
+
+module _ {B : Type 0} (block : B → ℕ × ℤ) (old : Outline) where
+  pub blocks_of-more : (bs : List B) (i : ℕ) (d : B) → i < length bs →
+      blocks_of old (map block (take (i + 1) bs)) ≡ with_block old (blocks_of old (map block (take i bs))) (block (get_or bs i d))
+  blocks_of-more bs i d h =
+      ap (blocks_of old) (map_more block bs i d h) ∙ fold_push (with_block old) empty_outline (map block (take i bs)) (block (get_or bs i d))
+
+-- what the blocks so far and the next one have is no more than what all have
+pub few_more : {B : Type 0} (n : B → ℕ) (e limit : ℕ) (bs : List B) (i : ℕ) (d : B) → i < length bs → sum_by n bs * e ≤ limit →
+    sum_by n (take i bs) * e + n (get_or bs i d) * e ≤ limit
+few_more n e limit bs i d h few =
+    let le = mul-le-mul_right e (sum_by_more_le n bs i d h) in
+    omega arith
+
+pub entries_more : {B : Type 0} (n : B → ℕ) (e : ℕ) (bs : List B) (i : ℕ) (d : B) → i < length bs →
+    sum_by n (take i bs) * e + n (get_or bs i d) * e ≡ sum_by n (take (i + 1) bs) * e
+entries_more n e bs i d h = let more = sum_by_more n bs i d h in omega (arith, ap (λ k. k * e) more)

@@ -1,0 +1,14 @@
+pub mod Integers
+pub mod Wide
+pub mod Steps
+pub mod SpanLemmas
+pub mod ChainLemmas
+pub mod OutlineLemmas
+pub mod Copies
+pub mod BoundLemmas
+pub mod NearLemmas
+pub mod FoldLemmas
+pub mod ArrayLemmas
+pub mod BuildLemmas
+pub mod SpaceLemmas
+pub mod EntryLemmas

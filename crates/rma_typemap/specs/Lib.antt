@@ -1,0 +1,9 @@
+pub mod Typemap
+pub mod Bounds
+pub mod Constructors
+pub mod Arrays
+pub mod Space
+pub mod Outline
+pub mod Near
+pub mod Counts
+pub mod Told
