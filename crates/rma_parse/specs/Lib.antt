@@ -6,3 +6,4 @@ pub mod Forms
 pub mod Lines
 pub mod Tails
 pub mod Listed
+pub mod Canonical

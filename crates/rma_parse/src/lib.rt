@@ -13,3 +13,4 @@ mod repeats;
 #[cfg(test)]
 mod tests;
 mod window;
+pub mod writing;
