@@ -3,3 +3,11 @@ pub mod LineLemmas
 pub mod RankFieldLemmas
 pub mod DivisionLemmas
 pub mod JoinLemmas
+pub mod WordLemmas
+pub mod DecimalLemmas
+pub mod RisingLemmas
+pub mod RankTextLemmas
+pub mod KindLemmas
+pub mod PlainLemmas
+pub mod HeadLemmas
+pub mod CanonicalLemmas

@@ -29,7 +29,7 @@ prefix-passes b bs h = rw h (one-add (prefix_len is_comma_free bs))
 prefix-fails : (b : ℕ) (bs : List ℕ) → eqb b 44 ≡ true → prefix_len is_comma_free (b ∷ bs) ≡ 0
 prefix-fails b bs h = rw h
 
-pieces-other : (b : ℕ) (bs : List ℕ) → eqb b 44 ≡ false → pieces (b ∷ bs) ≡ onto_first_piece b (pieces bs)
+pub pieces-other : (b : ℕ) (bs : List ℕ) → eqb b 44 ≡ false → pieces (b ∷ bs) ≡ onto_first_piece b (pieces bs)
 pieces-other b bs h = rw h
 
 pieces-comma : (b : ℕ) (bs : List ℕ) → eqb b 44 ≡ true → pieces (b ∷ bs) ≡ [] ∷ pieces bs
@@ -103,7 +103,7 @@ same-ranks n [] all = refl
 same-ranks n (pos m ∷ zs) all = ap (λ later. eqb m n || later) (same-ranks n zs (and-right (is_rank (pos m)) _ all))
 same-ranks n (negsuc m ∷ zs) all = absurd (false≢true all)
 
-repeats-ranks : (zs : List ℤ) → list_all is_rank zs ≡ true → repeats zs ≡ has_repeat (map natural_of zs)
+pub repeats-ranks : (zs : List ℤ) → list_all is_rank zs ≡ true → repeats zs ≡ has_repeat (map natural_of zs)
 repeats-ranks [] all = refl
 repeats-ranks (pos m ∷ zs) all =
     let later = and-right (is_rank (pos m)) _ all in

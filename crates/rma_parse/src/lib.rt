@@ -6,6 +6,7 @@ pub mod faults;
 mod fields;
 pub mod forms;
 mod frame;
+pub mod laws;
 mod numbers;
 mod rank_fields;
 pub mod reading;

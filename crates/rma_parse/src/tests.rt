@@ -2,6 +2,7 @@
 use crate::events::{Event, Frame, Stated, Window};
 use crate::faults::ParseError;
 use crate::reading::parse_line;
+use crate::writing::line_of;
 use rma_base::ranks::Rank;
 use rma_base::reasons::FormReason;
 use rma_base::windows::{AccOps, WinModel};
@@ -83,6 +84,29 @@ const ORDER: [(&[u8], FormReason); 9] = [
 ];
 
 const NOTHING: [&[u8]; 6] = [b"", b" ", b"\t \t", b"# a", b"  #rma 1 x", b"#"];
+
+// Lines and the canonical lines of what they state.
+const CANONICAL: [(&[u8], &[u8]); 13] = [
+    (b"rma 1 3 16", b"rma 1 3 16"),
+    (b"\trma  1 0x3\t0x10 ", b"rma 1 3 16"),
+    (b"rma 1 0003 000016 @main.c:7", b"rma 1 3 16 @main.c:7"),
+    (b"rma 1 -0 0x40", b"rma 1 0 64"),
+    (b" end", b"end"),
+    (b"end\t@@x", b"end @@x"),
+    (b"comm C.1-a 7,0x2,063,0", b"comm C.1-a 0,2,7,63"),
+    (b"comm  C 0x0 @a", b"comm C 0 @a"),
+    (b"comm _ none", b"comm _ none"),
+    (b"barrier\tworld", b"barrier world"),
+    (
+        b"win\tcreate W world 0x1000 00 01 unified same_op",
+        b"win create W world 4096 0 1 unified same_op",
+    ),
+    (
+        b"win create W C 281474976710656 0x8 2147483647 separate same_op_no_op  @a",
+        b"win create W C 281474976710656 8 2147483647 separate same_op_no_op @a",
+    ),
+    (b"win free  W ", b"win free W"),
+];
 
 fn reason_of(rt: &HostRuntime, line: &[u8]) -> Option<FormReason> {
     match parse_line(rt.alloc(), line) {
@@ -199,6 +223,19 @@ fn windows_are_read_field_by_field(rt: HostRuntime) -> Result<(), Fail> {
     match &freed.event {
         Event::Window(Window::Free { window }) => assert_eq!(rt; window.bytes(), b"W".as_slice()),
         _ => assert!(rt; false),
+    }
+    Ok(())
+}
+
+#[test]
+fn canonical_lines_are_read_back(rt: HostRuntime) -> Result<(), Fail> {
+    for (line, canonical) in CANONICAL {
+        let first = stated(&rt, line)?;
+        let written = line_of(rt.alloc(), &first)?;
+        assert_eq!(rt; written.as_bytes(), canonical);
+        let again = stated(&rt, written.as_bytes())?;
+        let rewritten = line_of(rt.alloc(), &again)?;
+        assert_eq!(rt; rewritten.as_bytes(), canonical);
     }
     Ok(())
 }

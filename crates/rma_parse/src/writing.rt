@@ -1,24 +1,34 @@
 //! Writing a line.
-ghost use Rattle.std.specs.Prelude.{◌≡◌, ◌∷◌, ◌++◌, IfOk, map, decimal, string_bytes};
+ghost use Rattle.std.specs.Prelude.{◌≡◌, ℕ, List, ◌∷◌, ◌++◌, IfOk, OnOk, map, decimal, string_bytes};
 ghost use Rattle.std.specs.List.{join_with_byte};
-ghost use Rattle.rma_parse.specs.Canonical.{canonical, ranks_text, spelled};
+ghost use Rattle.rma_parse.specs.Canonical.{canonical, ranks_text, site_suffix, spelled};
+ghost use Rattle.rma_parse.specs.Lines.{states};
 
 use crate::events::{Event, Frame, Stated, Window};
 use rma_base::allocation::Memory;
 use rma_base::rank_sets::RankSet;
+use rma_base::sites::Site;
 use std::alloc::Global;
 
 /// The canonical line of what a line states, without its line feed: single spaces between the words, numbers in
 /// decimal digits without leading zeros, ranks ascending, and the site last.
 pub fn line_of(alloc: Global, stated: &Stated) -> Result<String, Memory>
-    ensures { IfOk result (λ line. string_bytes line ≡ canonical stated.now) }
+    ensures canonical { IfOk result (λ line. string_bytes line ≡ canonical stated.now) }
+    ensures states { (text : List ℕ) → states text stated.now → IfOk result (λ line. states (string_bytes line) stated.now) }
 {
     let mut line = event_line(alloc, &stated.event)?;
-    if let Some(site) = &stated.site {
-        line.push_str(" @")?;
-        line.push_str(site.text())?;
-    }
+    push_site(&mut line, &stated.site)?;
     Ok(line)
+}
+
+// Puts the site behind the words of a line.
+fn push_site(line: &mut String, site: &Option<Site>) -> Result<(), Memory>
+    ensures { OnOk result (string_bytes line.new ≡ string_bytes line.old ++ site_suffix site.now) }
+{
+    if let Some(site) = site {
+        write!(line, " @{}", site.text())?;
+    }
+    Ok(())
 }
 
 fn event_line(alloc: Global, event: &Event) -> Result<String, Memory>
