@@ -26,7 +26,7 @@ texts-fields_from place (byte ∷ bytes) =
     (cases_Bool (begins_field bytes)))
     (cases_Bool (is_blank byte))
 
--- a byte that is no blank, and no text with one of them in it
+-- one byte or more, and none of them a blank
 abbrev pub is_unbroken : List ℕ → Bool
 is_unbroken word = begins_field word && list_all is_field word
 

@@ -67,18 +67,12 @@ fn window_line(alloc: Global, window: &Window) -> Result<String, Memory>
             model,
             ops,
         } => {
-            let names = two_words(alloc, window.text(), comm.text())?;
-            let info = two_words(alloc, model.word(), ops.word())?;
-            Ok(format!(in alloc; "win create {names} {base} {size} {unit} {info}")?)
+            let info = format!(in alloc; "{unit} {} {}", model.word(), ops.word())?;
+            let memory = format!(in alloc; "{base} {size} {info}")?;
+            Ok(format!(in alloc; "win create {} {} {memory}", window.text(), comm.text())?)
         }
         Window::Free { window } => Ok(format!(in alloc; "win free {}", window.text())?),
     }
-}
-
-fn two_words(alloc: Global, left: &str, right: &str) -> Result<String, Memory>
-    ensures { IfOk result (λ text. string_bytes text ≡ left.now ++ 32 ∷ right.now) }
-{
-    Ok(format!(in alloc; "{left} {right}")?)
 }
 
 fn ranks_line(alloc: Global, ranks: &RankSet) -> Result<String, Memory>
