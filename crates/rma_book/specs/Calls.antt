@@ -1,0 +1,44 @@
+-- The calls that the lines of a log record.
+use Rattle.std.specs.Prelude.{List, map, filter_map, Option, Some, None}
+use Rattle.rma_base.specs.declared.lines.LineNo.{LineNo}
+use Rattle.rma_parse.specs.declared.events.Event.{Event}
+use Rattle.rma_parse.specs.declared.events.Stated.{Stated}
+use Rattle.rma_parse.specs.declared.events.Event.TheVariants as event
+use Rattle.rma_parse.specs.declared.events.Frame.TheVariants as frame
+use Rattle.rma_parse.specs.declared.events.Window.TheVariants as window
+use Rattle.rma_call.specs.declared.calls.Call.{Call}
+use Rattle.rma_call.specs.declared.calls.SyncCall.{SyncCall}
+use Rattle.rma_call.specs.declared.calls.What.TheVariants.{Sync}
+use Rattle.rma_call.specs.declared.calls.SyncCall.TheVariants.{Frame, Window}
+use Rattle.rma_call.specs.declared.calls.FrameCall.TheVariants.{Comm, Barrier}
+use Rattle.rma_call.specs.declared.calls.WindowCall.TheVariants.{Create, Free}
+
+-- a line that states something, with its number
+pub record Entry : Type 0 where
+  pub line : LineNo
+  pub stated : Stated
+
+-- the events of some lines
+abbrev pub events_of : List Entry → List Event
+events_of entries = map (λ entry. entry.stated.event) entries
+
+-- the call that an event is: every event but the header and the end is one
+abbrev pub sync_of : Event → Option SyncCall
+sync_of (event.Frame (frame.Header rank size)) = None
+sync_of (event.Frame frame.End) = None
+sync_of (event.Frame (frame.Comm comm ranks)) = Some (Frame (Comm comm ranks))
+sync_of (event.Frame (frame.Barrier comm)) = Some (Frame (Barrier comm))
+sync_of (event.Window (window.Create name comm base size unit model ops)) = Some (Window (Create name comm base size unit model ops))
+sync_of (event.Window (window.Free name)) = Some (Window (Free name))
+
+-- the call of a line, where it has one
+abbrev pub call_with : Entry → Option SyncCall → Option Call
+call_with entry None = None
+call_with entry (Some call) = Some (record { line = entry.line; site = entry.stated.site; what = Sync call })
+
+abbrev pub call_of : Entry → Option Call
+call_of entry = call_with entry (sync_of entry.stated.event)
+
+-- the calls of some lines, in their order
+abbrev pub calls_of : List Entry → List Call
+calls_of entries = filter_map call_of entries

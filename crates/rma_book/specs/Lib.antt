@@ -1,0 +1,4 @@
+pub mod Events
+pub mod Judging
+pub mod Calls
+pub mod Standing
