@@ -14,17 +14,26 @@ use Rattle.rma_parse.specs.declared.events.Event.{Event}
 use Rattle.rma_parse.specs.declared.events.Event.TheVariants.{Frame, Window}
 use Rattle.rma_parse.specs.declared.events.Frame.TheVariants.{Header, Comm, Barrier}
 use Rattle.rma_parse.specs.declared.events.Window.TheVariants.{Create, Free}
-use Rattle.rma_book.specs.Events.{is_header, is_same, has_comm, had_window, has_window, frees}
+use Rattle.rma_book.specs.Events.{is_header, is_same, has_comm, had_window, has_window, frees, is_end}
 use Rattle.rma_book.specs.Judging.{place_reason, name_reason, first_that_holds, is_of_another_log}
-use Rattle.rma_book.specs.Calls.{Entry, events_of}
+use Rattle.rma_book.specs.Calls.{Entry, events_of, end_line}
 use Rattle.rma_book.specs.Standing.{Standing, StandsFor, window_in}
+
+-- the end was taken where it has a line
+pub is_some-end_line : (entries : List Entry) → is_some (end_line entries) ≡ list_any is_end (events_of entries)
+is_some-end_line [] = refl
+is_some-end_line (entry ∷ entries) = step (is_end entry.stated.event) (is_some-end_line entries)
+  where
+    step : (b : Bool) → is_some (end_line entries) ≡ list_any is_end (events_of entries) → is_some (cond b (Some entry.line) (end_line entries)) ≡ (b || list_any is_end (events_of entries))
+    step true h = refl
+    step false h = h
 
 -- an event that is no header stands behind the header, and before the end
 pub of_place : (rank logs : ℕ) (book : Standing) (entries : List Entry) (event : Event) → StandsFor book entries → is_header event ≡ false
     → is_of_another_log rank logs event ≡ false
-    → place_reason rank logs (events_of entries) event ≡ cond (not book.begun) (Some BadHeader) (cond book.ended (Some AfterEnd) None)
+    → place_reason rank logs (events_of entries) event ≡ cond (not book.begun) (Some BadHeader) (cond (is_some book.ended) (Some AfterEnd) None)
 of_place rank logs book [] event h plain own = rw (h.begun, plain) refl
-of_place rank logs book (entry ∷ entries) event h plain own = rw (h.begun, plain, own, h.ended) refl
+of_place rank logs book (entry ∷ entries) event h plain own = rw (h.begun, plain, own, h.ended, is_some-end_line (entry ∷ entries)) refl
 
 pub of_header : (rank logs : ℕ) (book : Standing) (entries : List Entry) (r : Rank) (n : ℕ) → StandsFor book entries
     → place_reason rank logs (events_of entries) (Frame (Header r n))

@@ -10,15 +10,15 @@ use Rattle.std.proofs.lemmas.List.Folds.{list_any-append}
 use Rattle.rma_base.specs.declared.windows.WinModel.{WinModel}
 use Rattle.rma_base.specs.declared.windows.AccOps.{AccOps}
 use Rattle.rma_base.specs.declared.reasons.FormReason.{FormReason}
-use Rattle.rma_base.specs.declared.reasons.FormReason.TheVariants.{UnknownComm, UnknownWindow, NameInUse}
+use Rattle.rma_base.specs.declared.reasons.FormReason.TheVariants.{UnknownComm, UnknownWindow, NameInUse, AfterEnd, BadHeader, WrongHeader}
 use Rattle.rma_call.specs.declared.calls.Call.{Call}
 use Rattle.std.specs.Option.{option_or}
 use Rattle.rma_parse.specs.declared.events.Event.{Event}
 use Rattle.rma_parse.specs.declared.events.Event.TheVariants.{Frame, Window}
 use Rattle.rma_parse.specs.declared.events.Window.TheVariants.{Create, Free}
 use Rattle.rma_book.specs.Events.{is_end, is_same, world, has_comm, had_window, has_window, declares, creates, frees}
-use Rattle.rma_book.specs.Judging.{reason_of, place_reason, name_reason}
-use Rattle.rma_book.specs.Calls.{Entry, events_of, call_of, calls_of}
+use Rattle.rma_book.specs.Judging.{reason_of, place_reason, name_reason, misplaces_header, is_of_another_log}
+use Rattle.rma_book.specs.Calls.{Entry, events_of, call_of, calls_of, end_line}
 use Rattle.rma_book.specs.Standing.{Standing, StandsFor, IsTaken, has_begun, window_in, window_after}
 
 same_heads : (x y : ℕ) (xs ys : List ℕ) (b : Bool) → eqb x y ≡ b → (b && pointwise nat_eq xs ys) ≡ true → (pointwise nat_eq xs ys ≡ true → xs ≡ ys) → x ∷ xs ≡ y ∷ ys
@@ -49,12 +49,6 @@ any-more p entries entry =
 has_begun-more : (entries : List Entry) (entry : Entry) → has_begun (entries ++ entry ∷ []) ≡ true
 has_begun-more [] entry = refl
 has_begun-more (first ∷ entries) entry = refl
-
-swap : (a b : Bool) → (a || b) ≡ (b || a)
-swap true true = refl
-swap true false = refl
-swap false true = refl
-swap false false = refl
 
 between : (a b c : Bool) → (a || (b || c)) ≡ (b || (c || a))
 between true true c = refl
@@ -113,6 +107,27 @@ good_names rank logs before event good = step (place_reason rank logs before eve
     step : (place : Option FormReason) → option_or place (name_reason rank logs before event) ≡ None → name_reason rank logs before event ≡ None
     step None h = h
     step (Some reason) h = cc
+
+-- nor does it stand behind the end
+good_place : (rank logs : ℕ) (before : List Event) (event : Event) → reason_of rank logs before event ≡ None → list_any is_end before ≡ false
+good_place rank logs before event good =
+    let first = step (place_reason rank logs before event) good in
+    (fails AfterEnd (list_any is_end before) _ (fails WrongHeader (is_of_another_log rank logs event) _ (fails BadHeader (misplaces_header before event) _ first).1).1).0
+  where
+    step : (place : Option FormReason) → option_or place (name_reason rank logs before event) ≡ None → place ≡ None
+    step None h = refl
+    step (Some reason) h = cc
+
+end_line-more : (entries : List Entry) (entry : Entry) → list_any is_end (events_of entries) ≡ false
+    → end_line (entries ++ entry ∷ []) ≡ cond (is_end entry.stated.event) (Some entry.line) (end_line entries)
+end_line-more [] entry none = refl
+end_line-more (first ∷ entries) entry none = step (is_end first.stated.event) none (end_line-more entries entry)
+  where
+    step : (b : Bool) → (b || list_any is_end (events_of entries)) ≡ false
+        → (list_any is_end (events_of entries) ≡ false → end_line (entries ++ entry ∷ []) ≡ cond (is_end entry.stated.event) (Some entry.line) (end_line entries))
+        → cond b (Some first.line) (end_line (entries ++ entry ∷ [])) ≡ cond (is_end entry.stated.event) (Some entry.line) (cond b (Some first.line) (end_line entries))
+    step true h later = absurd (false≢true (sym h))
+    step false h later = later h
 
 -- an event that is good names nothing that is not there, and makes nothing that is
 good_create : (rank logs : ℕ) (before : List Event) (window comm : List ℕ) (base bytes unit : ℕ) (model : WinModel) (operations : AccOps)
@@ -175,7 +190,7 @@ StandsFor-taken old new entries entry taken h good =
     let events = events_of entries in
     record {
       begun = taken.begun ∙ sym (has_begun-more entries entry);
-      ended = taken.ended ∙ ap (λ b. is_end event || b) h.ended ∙ swap (is_end event) (list_any is_end events) ∙ sym (any-more is_end entries entry);
+      ended = taken.ended ∙ ap (λ o. cond (is_end event) (Some entry.line) o) h.ended ∙ sym (end_line-more entries entry (good_place old.rank old.logs events event good));
       comms = λ name. taken.comms name ∙ ap (λ b. declares name event || b) (h.comms name)
           ∙ between (declares name event) (is_same world name) (list_any (declares name) events) ∙ ap (λ b. is_same world name || b) (sym (any-more (declares name) entries entry));
       windows = λ name. taken.windows name ∙ ap (λ o. window_after event name o) (h.windows name)

@@ -1,11 +1,12 @@
 -- The calls that the lines of a log record.
-use Rattle.std.specs.Prelude.{List, map, filter_map, Option, Some, None}
+use Rattle.std.specs.Prelude.{List, map, filter_map, Option, Some, None, if◌then◌else◌, [], ◌∷◌}
 use Rattle.rma_base.specs.declared.lines.LineNo.{LineNo}
 use Rattle.rma_parse.specs.declared.events.Event.{Event}
 use Rattle.rma_parse.specs.declared.events.Stated.{Stated}
 use Rattle.rma_parse.specs.declared.events.Event.TheVariants as event
 use Rattle.rma_parse.specs.declared.events.Frame.TheVariants as frame
 use Rattle.rma_parse.specs.declared.events.Window.TheVariants as window
+use Rattle.rma_book.specs.Events.{is_end}
 use Rattle.rma_call.specs.declared.calls.Call.{Call}
 use Rattle.rma_call.specs.declared.calls.SyncCall.{SyncCall}
 use Rattle.rma_call.specs.declared.calls.What.TheVariants.{Sync}
@@ -21,6 +22,11 @@ pub record Entry : Type 0 where
 -- the events of some lines
 abbrev pub events_of : List Entry → List Event
 events_of entries = map (λ entry. entry.stated.event) entries
+
+-- the line of the end, where one of some lines is the end
+abbrev pub end_line : List Entry → Option LineNo
+end_line [] = None
+end_line (entry ∷ entries) = if is_end entry.stated.event then Some entry.line else end_line entries
 
 -- the call that an event is: every event but the header and the end is one
 abbrev pub sync_of : Event → Option SyncCall

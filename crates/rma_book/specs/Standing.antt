@@ -6,16 +6,18 @@ use Rattle.rma_call.specs.declared.calls.Call.{Call}
 use Rattle.rma_parse.specs.declared.events.Event.{Event}
 use Rattle.rma_parse.specs.declared.events.Event.TheVariants.{Window}
 use Rattle.rma_parse.specs.declared.events.Window.TheVariants.{Create, Free}
+use Rattle.rma_base.specs.declared.lines.LineNo.{LineNo}
 use Rattle.rma_book.specs.Events.{is_end, is_same, has_comm, had_window, declares, frees}
-use Rattle.rma_book.specs.Calls.{Entry, events_of, call_of, calls_of}
+use Rattle.rma_book.specs.Calls.{Entry, events_of, end_line, call_of, calls_of}
 
--- a book: the rank and the number of logs; whether an event was taken, and whether the end was; the communicators; the
+-- a book: the rank and the number of logs; whether an event was taken; the line of the
+-- end, where it was taken; the communicators; the
 -- windows created, each with whether it is still there; and the calls
 pub record Standing : Type 0 where
   pub rank : ℕ
   pub logs : ℕ
   pub begun : Bool
-  pub ended : Bool
+  pub ended : Option LineNo
   pub comms : List (List ℕ)
   pub windows : List (List ℕ × Bool)
   pub calls : List Call
@@ -32,7 +34,7 @@ has_begun (entry ∷ entries) = true
 -- The book took these lines, and no others.
 pub record StandsFor (book : Standing) (entries : List Entry) : Type 0 where
   pub begun : book.begun ≡ has_begun entries
-  pub ended : book.ended ≡ list_any is_end (events_of entries)
+  pub ended : book.ended ≡ end_line entries
   pub comms : (name : List ℕ) → list_any (is_same name) book.comms ≡ has_comm (events_of entries) name
   pub windows : (name : List ℕ) → lookup (is_same name) book.windows ≡ window_in (events_of entries) name
   pub freed : (name : List ℕ) → had_window (events_of entries) name ≡ false → list_any (frees name) (events_of entries) ≡ false
@@ -49,7 +51,7 @@ pub record IsTaken (old new : Standing) (entry : Entry) : Type 0 where
   pub rank : new.rank ≡ old.rank
   pub logs : new.logs ≡ old.logs
   pub begun : new.begun ≡ true
-  pub ended : new.ended ≡ (is_end entry.stated.event || old.ended)
+  pub ended : new.ended ≡ (if is_end entry.stated.event then Some entry.line else old.ended)
   pub comms : (name : List ℕ) → list_any (is_same name) new.comms ≡ (declares name entry.stated.event || list_any (is_same name) old.comms)
   pub windows : (name : List ℕ) → lookup (is_same name) new.windows ≡ window_after entry.stated.event name (lookup (is_same name) old.windows)
   pub calls : new.calls ≡ old.calls ++ option_to_list (call_of entry)

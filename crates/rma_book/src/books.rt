@@ -29,7 +29,8 @@ pub struct Book {
     rank: Rank,
     logs: u32,
     begun: bool,
-    ended: bool,
+    // The line of the end.
+    ended: Option<LineNo>,
     comms: IndexSet<Name>,
     // The windows that were created, each with whether it is still there.
     windows: IndexMap<Name, bool>,
@@ -68,7 +69,7 @@ impl Book {
             rank,
             logs,
             begun: false,
-            ended: false,
+            ended: None,
             comms,
             windows: IndexMap::new(alloc),
             calls: Sequence::new(alloc),
@@ -82,8 +83,8 @@ impl Book {
         self.calls.as_slice()
     }
 
-    /// Whether the book took the end of the log.
-    pub fn ended(&self) -> bool
+    /// The line of the end of the log, where the book took it.
+    pub fn end(&self) -> Option<LineNo>
         ensures { result ≡ self.now.ended }
     {
         self.ended
@@ -126,8 +127,17 @@ impl Book {
         ensures { (entries : List Entry) → StandsFor self.now entries → result ≡ place_reason self.now.rank self.now.logs (events_of entries) event.now }
     {
         match event {
-            Event::Frame(Frame::Header { rank, size }) => self.header_reason(*rank, *size),
-            Event::Frame(_) | Event::Window(_) => self.behind_header(),
+            Event::Frame(frame) => self.frame_place(frame),
+            Event::Window(_) => self.behind_header(),
+        }
+    }
+
+    fn frame_place(&self, frame: &Frame) -> Option<FormReason>
+        ensures { (entries : List Entry) → StandsFor self.now entries → result ≡ place_reason self.now.rank self.now.logs (events_of entries) (Event.Frame frame.now) }
+    {
+        match frame {
+            Frame::Header { rank, size } => self.header_reason(*rank, *size),
+            Frame::End | Frame::Comm { .. } | Frame::Barrier { .. } => self.behind_header(),
         }
     }
 
@@ -167,11 +177,11 @@ impl Book {
     }
 
     fn behind_header(&self) -> Option<FormReason>
-        ensures { result ≡ (if not self.now.begun then Some FormReason.BadHeader else (if self.now.ended then Some FormReason.AfterEnd else None)) }
+        ensures { result ≡ (if not self.now.begun then Some FormReason.BadHeader else (if is_some self.now.ended then Some FormReason.AfterEnd else None)) }
     {
         if !self.begun {
             Some(FormReason::BadHeader)
-        } else if self.ended {
+        } else if self.ended.is_some() {
             Some(FormReason::AfterEnd)
         } else {
             None
@@ -260,7 +270,7 @@ impl Book {
         match frame {
             Frame::Header { .. } => Ok(()),
             Frame::End => {
-                self.ended = true;
+                self.ended = Some(line);
                 Ok(())
             }
             Frame::Comm { comm, ranks } => {
