@@ -112,9 +112,8 @@ fn read_line(cutter: &mut LineCutter, expected_header: &[u8], from: Stage) -> Op
     ensures closed { cutter.new.closed ≡ cutter.old.closed }
     ensures fed { cutter.new.fed ≡ cutter.old.fed }
 {
-    match cutter.next_line() {
-        Some(Ok(line)) => Some(from.after(line.no, line.text, expected_header)),
-        Some(Err(_)) => unreachable!(),
+    match cutter.next_raw_line() {
+        Some(line) => Some(from.after(line.no, line.text, expected_header)),
         None => None,
     }
 }

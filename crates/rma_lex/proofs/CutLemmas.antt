@@ -1,6 +1,7 @@
 -- What a cutter stands for, through each of its calls.
-use Rattle.std.proofs.Common.{◌≡◌, ◌≢◌, ℕ, ◌+◌, ◌-◌, ◌<◌, ◌≤◌, Bool, true, false, List, [], ◌∷◌, ◌++◌, length, take, drop, get_or, refl, sym, ap, subst, ◌∙◌, arith, inl, inr, ⊎_elim, Some}
+use Rattle.std.proofs.Common.{◌≡◌, ◌≢◌, ◌↔◌, ltb, ℕ, ◌+◌, ◌-◌, ◌<◌, ◌≤◌, Bool, true, false, List, [], ◌∷◌, ◌++◌, length, take, drop, get_or, refl, sym, ap, subst, ◌∙◌, arith, inl, inr, ⊎_elim, Some}
 use Rattle.std.specs.Prelude.{slice_get}
+use Rattle.std.proofs.lemmas.Bool.{ltb-false, le-ltb}
 use Rattle.std.proofs.lemmas.List.{length-append, length-drop, length-take, take_rest, take-append-drop, drop-drop, drop_more, drop_all, take_all, get_or-drop, get_or-take, get_or_default}
 use Rattle.rma_lex.specs.Lines.{lines, after_lines}
 use Rattle.rma_lex.specs.Cutting.{Cutting, StandsFor, HasNoLine, CutsOff, TakesLine}
@@ -158,3 +159,22 @@ module _ (now : Cutting) (items shown : List ℕ) (fed handed start count : ℕ)
   pub count-all : (text : List ℕ) → StandsFor now text → handed + count ≡ length (lines text)
   count-all text stands =
       ap (λ c. handed + c) count-tail ∙ ap (λ c. c.handed + length (lines c.rest)) same ∙ length-lines_left now text stands
+
+-- no line feed ends a line that is all that is left
+pub ended_at : (before : Cutting) (items shown : List ℕ) (fed handed start end next : ℕ) (closed : Bool)
+    → ◌≡◌ {A = Cutting} (record { fed = fed; handed = handed; rest = drop start items; closed = closed }) before → shown ≡ items
+    → IsLineAt items closed start end next
+    → (ltb end next ≡ false) ↔ (before.rest ≡ take (end - start) (drop start shown))
+ended_at before items shown fed handed start end next closed same reads is =
+    let rest : before.rest ≡ drop start items = sym (ap (λ c. c.rest) same) in
+    let long = length-drop start items in (
+      λ last.
+          ⊎_elim (λ (at : (next ≡ end + 1) × (get_or items end 0 ≡ 10)). absurd (omega (arith, at.0, ltb-false end next last)))
+          (λ (at : (closed ≡ true) × (end ≡ length items) × (next ≡ end)).
+          rest ∙ sym (take_all (end - start) (drop start items) (omega (arith, at.1))) ∙ ap (λ t. take (end - start) (drop start t)) (sym reads)) is.ended,
+      λ all.
+          ⊎_elim (λ (at : (next ≡ end + 1) × (get_or items end 0 ≡ 10)).
+          let same_length : length (drop start items) ≡ length (take (end - start) (drop start items)) = ap length (sym rest ∙ all ∙ ap (λ t. take (end - start) (drop start t)) reads) in
+          absurd (omega (arith, same_length, length-take (end - start) (drop start items), at.0, is.within, is.ordered)))
+          (λ (at : (closed ≡ true) × (end ≡ length items) × (next ≡ end)). le-ltb end next (omega (arith, at.2))) is.ended,
+    )

@@ -4,3 +4,4 @@ pub mod MaskLemmas
 pub mod FeedLemmas
 pub mod FieldLemmas
 pub mod TextLemmas
+pub mod CheckLemmas

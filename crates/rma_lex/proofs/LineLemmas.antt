@@ -105,7 +105,7 @@ length-onto_first : (byte : ℕ) (them : List (List ℕ)) → 0 < length them �
 length-onto_first byte [] some = absurd (omega arith)
 length-onto_first byte (line ∷ them) some = refl
 
-lines-some : (byte : ℕ) (bytes : List ℕ) → 0 < length (lines (byte ∷ bytes))
+pub lines-some : (byte : ℕ) (bytes : List ℕ) → 0 < length (lines (byte ∷ bytes))
 lines-some byte bytes = step (eqb byte 10) (lines bytes)
   where
     step : (b : Bool) (them : List (List ℕ)) → 0 < length (cond b ([] ∷ them) (onto_first byte them))
@@ -140,7 +140,7 @@ length-lines-le (byte ∷ bytes) = step (eqb byte 10) (lines bytes) (length-line
     step false (line ∷ them) le = omega arith
 
 -- the line at n is the first of what is left behind n lines
-pub slice_get-drop : (n : ℕ) (them : List (List ℕ)) (line : List ℕ) (rest : List (List ℕ)) → drop n them ≡ line ∷ rest → slice_get them n ≡ Some line
+pub slice_get-drop : {X : Type 0} (n : ℕ) (them : List X) (line : X) (rest : List X) → drop n them ≡ line ∷ rest → slice_get them n ≡ Some line
 slice_get-drop zero [] line rest e = cc
 slice_get-drop zero (here ∷ them) line rest e = let same : here ≡ line = cc in ap Some same
 slice_get-drop (suc n) [] line rest e = cc

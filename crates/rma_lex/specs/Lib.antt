@@ -8,3 +8,5 @@ pub mod Handing
 pub mod Fields
 pub mod Tokens
 pub mod Texts
+pub mod Checked
+pub mod Told

@@ -1,9 +1,13 @@
 //! A cutter of lines: it is fed a text in pieces and hands out its lines one by one.
-ghost use Rattle.std.specs.Prelude.{◌≡◌, ◌↔◌, ℕ, ◌+◌, ◌^◌, ◌<◌, ◌≤◌, true, false, List, [], ◌++◌, length, IsNone, IfNone, IfSome, IfOk, IsOkAnd, OnOk, OnErr, slice_get, drop, vec_len, count_by, ◌==◌};
+ghost use Rattle.std.specs.Prelude.{◌≡◌, ◌↔◌, ℕ, ◌+◌, ◌^◌, ◌<◌, ◌≤◌, true, false, List, [], ◌++◌, length, IsNone, IfNone, IfSome, OnOk, OnErr, slice_get, drop, vec_len, count_by, ◌==◌};
 ghost use Rattle.rma_lex.specs.Lines.{lines, has_open_end};
 ghost use Rattle.rma_lex.specs.Cutting.{StandsFor, HasNoLine, IsNextLine};
+ghost use Rattle.rma_lex.specs.Texts.{text_of};
+ghost use Rattle.rma_lex.specs.Checked.{checked_lines};
+ghost use Rattle.rma_lex.specs.Told.{told, number};
 
 use crate::line_feeds::LineFeeds;
+use crate::texts::checked_text;
 use rma_base::allocation::Memory;
 use rma_base::limits::FED;
 use rma_base::lines::LineNo;
@@ -11,14 +15,22 @@ use rma_base::reasons::FormReason;
 use std::alloc::Global;
 use std::marker::Model;
 
-/// A line, without its line feed.
+/// A line as it stands, without its line feed, and whether a line feed ends it.
+#[derive(Clone, Copy, Debug)]
+pub struct RawLine<'a> {
+    pub no: LineNo,
+    pub text: &'a [u8],
+    pub ended: bool,
+}
+
+/// A line, without what ends it.
 #[derive(Clone, Copy, Debug)]
 pub struct Line<'a> {
     pub no: LineNo,
     pub text: &'a [u8],
 }
 
-/// A line that is refused. No line is refused yet.
+/// A line that is refused.
 #[derive(Clone, Copy, Debug, PartialEq, Eq)]
 pub struct LexFault {
     pub no: LineNo,
@@ -50,7 +62,7 @@ impl Model for LineCutter {
 
 impl LineCutter {
     ghost use Rattle.std.specs.Borrow.{sem};
-    ghost use Rattle.rma_lex.specs.Handing.{LendsLine};
+    ghost use Rattle.rma_lex.specs.Handing.{LendsRawLine, LendsLine};
 
     /// A cutter that was fed nothing.
     pub fn new(alloc: Global) -> LineCutter
@@ -97,26 +109,45 @@ impl LineCutter {
         self.closed = true;
     }
 
-    /// The next line, if a whole one is left.
+    /// The next line as it stands, if a whole one is left.
     #[inline]
-    pub fn next_line(&mut self) -> Option<Result<Line<'_>, LexFault>>
+    pub fn next_raw_line(&mut self) -> Option<RawLine<'_>>
         ensures none { IsNone result ↔ HasNoLine self.old }
-        ensures line { IfSome result (λ found. IsOkAnd found (λ line. (line.no.0 ≡ self.old.handed + 1) × IsNextLine self.old line.text.now)) }
+        ensures line { IfSome result (λ line. (line.no.0 ≡ self.old.handed + 1) × IsNextLine self.old line.text.now) }
+
+        // A line that no line feed ends is all that is left.
+        ensures ended { IfSome result (λ line. (line.ended ≡ false) ↔ (self.old.rest ≡ line.text.now)) }
 
         // What that says of the text that the cutter stands for.
-        ensures text { (text : List ℕ) → StandsFor self.old text → IfSome result (λ found. IfOk found (λ line. slice_get (lines text) self.old.handed ≡ Some line.text.now)) }
+        ensures text { (text : List ℕ) → StandsFor self.old text → IfSome result (λ line. slice_get (lines text) self.old.handed ≡ Some line.text.now) }
         ensures all { (text : List ℕ) → StandsFor self.old text → IsNone result → self.old.closed ≡ true → self.old.handed ≡ length (lines text) }
-        ensures* after { sem 𝓛 (LendsLine self.entry result) }
+        ensures* after { sem 𝓛 (LendsRawLine self.entry result) }
     {
         let start = self.feeds.start;
         match self.feeds.next_end(&self.text, self.closed) {
             Some(end) => {
                 self.handed += 1;
-                Some(Ok(Line {
+                Some(RawLine {
                     no: LineNo(self.handed),
                     text: &self.text[start..end],
-                }))
+                    ended: end < self.feeds.start,
+                })
             }
+            None => None,
+        }
+    }
+
+    /// The next line, if a whole one is left: its text, or why it is bad.
+    #[inline]
+    pub fn next_line(&mut self) -> Option<Result<Line<'_>, LexFault>>
+        ensures none { IsNone result ↔ HasNoLine self.old }
+        ensures number { IfSome result (λ found. number found ≡ self.old.handed + 1) }
+        ensures text { (text : List ℕ) → StandsFor self.old text → IfSome result (λ found. slice_get (checked_lines text) self.old.handed ≡ Some (told found)) }
+        ensures all { (text : List ℕ) → StandsFor self.old text → IsNone result → self.old.closed ≡ true → self.old.handed ≡ length (lines text) }
+        ensures* after { sem 𝓛 (LendsLine self.entry result) }
+    {
+        match self.next_raw_line() {
+            Some(line) => Some(checked(line)),
             None => None,
         }
     }
@@ -128,6 +159,21 @@ impl LineCutter {
         ensures bound { result ≤ FED }
     {
         self.handed + line_count(&self.text[self.feeds.start..])
+    }
+}
+
+// The line's text, or why it is bad.
+#[inline]
+fn checked(line: RawLine<'_>) -> Result<Line<'_>, LexFault>
+    ensures text { told result ≡ text_of line.entry.ended line.entry.text.now }
+    ensures number { number result ≡ line.entry.no.0 }
+{
+    match checked_text(line.text, line.ended) {
+        Ok(text) => Ok(Line { no: line.no, text }),
+        Err(reason) => Err(LexFault {
+            no: line.no,
+            reason,
+        }),
     }
 }
 

@@ -1,4 +1,4 @@
-// A text gives the same lines in whatever pieces it comes.
+// A text gives the same lines, and the same reasons of bad ones, in whatever pieces it comes.
 ghost use Rattle.std.specs.Prelude.{◌≡◌, false};
 
 use super::LineCutter;
@@ -7,65 +7,109 @@ use rma_base::limits::FED;
 use std::alloc::Global;
 use std::test::Fail;
 
-// A text, and its lines with their numbers, each with a bar behind it.
+// A text, and its lines with their numbers, or with the reasons of bad ones, each with a bar behind it.
 struct Case {
-    text: &'static str,
+    text: &'static [u8],
     lines: &'static str,
     count: u32,
 }
 
-const CASES: [Case; 10] = [
+const CASES: [Case; 18] = [
     Case {
-        text: "",
+        text: b"",
         lines: "",
         count: 0,
     },
     Case {
-        text: "\n",
+        text: b"\n",
         lines: "1:|",
         count: 1,
     },
     Case {
-        text: "\n\n\n",
+        text: b"\n\n\n",
         lines: "1:|2:|3:|",
         count: 3,
     },
     Case {
-        text: "a",
+        text: b"a",
         lines: "1:a|",
         count: 1,
     },
     Case {
-        text: "a\n",
+        text: b"a\n",
         lines: "1:a|",
         count: 1,
     },
     Case {
-        text: "\na",
+        text: b"\na",
         lines: "1:|2:a|",
         count: 2,
     },
     Case {
-        text: "rma 1 0 2\n# a\r\n\n\tend",
-        lines: "1:rma 1 0 2|2:# a\r|3:|4:\tend|",
+        text: b"rma 1 0 2\n# a\r\n\n\tend",
+        lines: "1:rma 1 0 2|2:# a|3:|4:\tend|",
         count: 4,
     },
     // The line feed is the last byte of a block of 64, then the first of one.
     Case {
-        text: "012345678901234567890123456789012345678901234567890123456789012\n\nx\n",
+        text: b"012345678901234567890123456789012345678901234567890123456789012\n\nx\n",
         lines: "1:012345678901234567890123456789012345678901234567890123456789012|2:|3:x|",
         count: 3,
     },
     // Several line feeds in a block, none in the next one, and a tail.
     Case {
-        text: "a\nb\nc\n0123456789012345678901234567890123456789012345678901234567890123456789012345678901234567890123456789012345678901234567890123456789\nd",
+        text: b"a\nb\nc\n0123456789012345678901234567890123456789012345678901234567890123456789012345678901234567890123456789012345678901234567890123456789\nd",
         lines: "1:a|2:b|3:c|4:0123456789012345678901234567890123456789012345678901234567890123456789012345678901234567890123456789012345678901234567890123456789|5:d|",
         count: 5,
     },
     Case {
-        text: "barrier world\nbarrier world\nbarrier world\nbarrier world\nbarrier world\nend\n",
+        text: b"barrier world\nbarrier world\nbarrier world\nbarrier world\nbarrier world\nend\n",
         lines: "1:barrier world|2:barrier world|3:barrier world|4:barrier world|5:barrier world|6:end|",
         count: 6,
+    },
+    // Carriage returns before line feeds, in the middle of a line, and at the end of a text.
+    Case {
+        text: b"a\r\n\r\nb",
+        lines: "1:a|2:|3:b|",
+        count: 3,
+    },
+    Case {
+        text: b"a\rb\na\r\r\nb\n",
+        lines: "1!BadByte|2!BadByte|3:b|",
+        count: 3,
+    },
+    Case {
+        text: b"a\r",
+        lines: "1!BadByte|",
+        count: 1,
+    },
+    // Tabs, the least and the greatest printable byte, and those beside them.
+    Case {
+        text: b"\ta\t\n ~\n",
+        lines: "1:\ta\t|2: ~|",
+        count: 2,
+    },
+    Case {
+        text: b"a\x7f\nb\x1f\nc\x08\nd\x0b",
+        lines: "1!BadByte|2!BadByte|3!BadByte|4!BadByte|",
+        count: 4,
+    },
+    Case {
+        text: b"\xc3\xa9\n\xff\nok\n\0",
+        lines: "1!BadByte|2!BadByte|3:ok|4!BadByte|",
+        count: 4,
+    },
+    // A bad byte in a block of 64, with good lines before and behind it there and in the next ones.
+    Case {
+        text: b"good\nb\x80d\ngood\n0123456789012345678901234567890123456789012345678901234567890123456789\n0123456789012345678901234567890123456789012345678901234567890123456789\nend\n",
+        lines: "1:good|2!BadByte|3:good|4:0123456789012345678901234567890123456789012345678901234567890123456789|5:0123456789012345678901234567890123456789012345678901234567890123456789|6:end|",
+        count: 6,
+    },
+    // A line over several blocks that ends in a bad byte.
+    Case {
+        text: b"a\n0123456789012345678901234567890123456789012345678901234567890123456789012345678901234567890123456789012345678901234567890123456789\x7f\nb\r\n",
+        lines: "1:a|2!BadByte|3:b|",
+        count: 3,
     },
 ];
 
@@ -75,7 +119,7 @@ fn take_lines(cutter: &mut LineCutter, out: &mut String) -> Result<(), Memory>
     for _ in 0..u64::MAX {
         match cutter.next_line() {
             None => break,
-            Some(Err(_)) => out.push('!')?,
+            Some(Err(fault)) => write!(out, "{}!{:?}|", fault.no.0, fault.reason)?,
             Some(Ok(line)) => {
                 write!(out, "{}:", line.no.0)?;
                 for byte in line.text {
@@ -115,7 +159,7 @@ fn cut(alloc: Global, text: &[u8], size: usize) -> Result<(String, u32), Memory>
 #[test]
 fn every_size_of_piece_gives_the_lines(rt: HostRuntime) -> Result<(), Fail> {
     for case in &CASES {
-        let text = case.text.as_bytes();
+        let text = case.text;
         for size in 1..text.len().min(1000) + 2 {
             let (lines, count) = cut(rt.alloc(), text, size)?;
             assert_eq!(rt; lines.as_str(), case.lines);
