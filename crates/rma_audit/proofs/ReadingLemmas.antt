@@ -1,10 +1,10 @@
 -- A reader, its cutter and the lines of its text.
-use Rattle.std.proofs.Common.{◌≡◌, ◌≢◌, ℕ, zero, suc, ◌+◌, ◌<◌, ◌≤◌, ◌==◌, Bool, true, false, List, [], ◌∷◌, ◌++◌, Some, length, take, count_by, slice_get, refl, ap, sym, ◌∙◌, subst, inl, inr, arith, length-append, cond, if◌then◌else◌}
+use Rattle.std.proofs.Common.{◌≡◌, ◌≢◌, ℕ, ◌+◌, ◌<◌, true, false, List, [], ◌∷◌, ◌++◌, Some, length, take, slice_get, refl, ap, sym, ◌∙◌, subst, inl, inr, arith, length-append}
 use Rattle.std.proofs.lemmas.List.{take_more, length-take}
-use Rattle.std.proofs.lemmas.List.Sums.{sum_by-cons}
 use Rattle.std.proofs.Math.Seq.{take-length}
 use Rattle.std.proofs.lemmas.Option.{slice_get_within, get_or_from_slice_get}
-use Rattle.rma_lex.specs.Lines.{lines, onto_first}
+use Rattle.rma_lex.specs.Lines.{lines}
+use Rattle.rma_lex.proofs.StayLemmas.{lines_stay}
 use Rattle.rma_lex.specs.Cutting.{Cutting, StandsFor, CutsOff}
 use Rattle.rma_audit.specs.Stages.{IsStageOf}
 use Rattle.rma_audit.specs.Reading.{IsAtStage}
@@ -36,38 +36,6 @@ stage_next rank ranks before after text line next stands found one stage = recor
 -- so many lines lie in front of it
 pub lines_before : (cutting : Cutting) (text : List ℕ) → StandsFor cutting text → length (take cutting.handed (lines text)) ≡ cutting.handed
 lines_before cutting text stands = simp length-take (omega (arith, stands.handed))
-
--- one byte in front of the first line, which is there
-onto_stays : (byte n : ℕ) (xs ys : List (List ℕ)) → 0 < length xs → 0 < length ys → take (suc n) xs ≡ take (suc n) ys → take (suc n) (onto_first byte xs) ≡ take (suc n) (onto_first byte ys)
-onto_stays byte n [] ys some more h = absurd (omega arith)
-onto_stays byte n (x ∷ xs) [] some more h = absurd (omega arith)
-onto_stays byte n (x ∷ xs) (y ∷ ys) some more h =
-    let heads : x ≡ y = cc in
-    let tails : take n xs ≡ take n ys = cc in
-    cc
-
--- a text that is not empty has a line
-first_line : (ended : Bool) (byte : ℕ) (xs : List (List ℕ)) → 0 < length (if ended then [] ∷ xs else onto_first byte xs)
-first_line true byte xs = omega arith
-first_line false byte [] = omega arith
-first_line false byte (x ∷ xs) = omega arith
-
--- one byte more in front: it ends a line, or goes to the first
-stay_step : (ended : Bool) (byte n count : ℕ) (xs ys : List (List ℕ)) → suc n ≤ cond ended 1 0 + count → (0 < count → (0 < length xs) × (0 < length ys)) → ((m : ℕ) → m ≤ count → take m xs ≡ take m ys)
-    → take (suc n) (if ended then [] ∷ xs else onto_first byte xs) ≡ take (suc n) (if ended then [] ∷ ys else onto_first byte ys)
-stay_step true byte n count xs ys h some ih = ap (λ ls. [] ∷ ls) (ih n (omega arith))
-stay_step false byte n count xs ys h some ih = let there = some (omega arith) in onto_stays byte n xs ys there.0 there.1 (ih (suc n) (omega arith))
-
-has_lines : (text more : List ℕ) → 0 < count_by (λ byte. byte == 10) text → (0 < length (lines (text ++ more))) × (0 < length (lines text))
-has_lines [] more some = absurd (omega arith)
-has_lines (byte ∷ text) more some = (first_line (byte == 10) byte (lines (text ++ more)), first_line (byte == 10) byte (lines text))
-
--- lines that are ended stay, whatever comes behind them
-lines_stay : (n : ℕ) (text more : List ℕ) → n ≤ count_by (λ byte. byte == 10) text → take n (lines (text ++ more)) ≡ take n (lines text)
-lines_stay zero text more h = refl
-lines_stay (suc n) [] more h = absurd (omega arith)
-lines_stay (suc n) (byte ∷ text) more h =
-    stay_step (byte == 10) byte n (count_by (λ b. b == 10) text) (lines (text ++ more)) (lines text) (rw sum_by-cons at h) (has_lines text more) (λ m below. lines_stay m text more below)
 
 -- a piece more leaves the stage as it is
 pub stage_fed : (rank ranks : ℕ) (before after : Cutting) (text piece : List ℕ) (stage : Stage) → before.closed ≡ false → after.handed ≡ before.handed → StandsFor after (text ++ piece) → IsAtStage rank ranks before text stage → IsAtStage rank ranks after (text ++ piece) stage

@@ -1,10 +1,9 @@
 -- A log has one bad line at most.
-use Rattle.std.proofs.Common.{◌≡◌, ℕ, ◌+◌, ◌<◌, ◌≤◌, ◌⊎◌, List, [], ◌∷◌, ◌++◌, Option, Some, None, length, take, drop, option_to_list, refl, ap, sym, ◌∙◌, subst, inl, inr, arith, append_assoc, append-nil}
-use Rattle.std.proofs.lemmas.List.{take-append-drop, take-take, take_all}
+use Rattle.std.proofs.Common.{◌≡◌, ℕ, ◌+◌, ◌≤◌, List, [], ◌∷◌, ◌++◌, Option, Some, None, length, take, drop, option_to_list, refl, ap, sym, ◌∙◌, subst, inl, inr, arith, append_assoc, append-nil}
+use Rattle.std.proofs.lemmas.List.{take-append-drop, take-take}
 use Rattle.std.proofs.lemmas.Bool.{cases_lt}
 use Rattle.rma_lex.specs.Lines.{lines}
-use Rattle.rma_base.specs.declared.reasons.FormReason.TheVariants.{UnknownVerb, MissingEnd}
-use Rattle.rma_audit.specs.LogForm.{whole_log, IsWhole, BeginsLog, BreaksAt, LacksEnd, BadLine, IsBadLine}
+use Rattle.rma_audit.specs.LogForm.{IsWhole, BeginsLog, BreaksAt, BadLine, IsBadLine}
 use Rattle.rma_audit.specs.Findings.{AreBadLines}
 
 -- bad lines of one rank, number and reason are one

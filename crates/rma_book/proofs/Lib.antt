@@ -1,2 +1,3 @@
 pub mod JudgingLemmas
 pub mod StandingLemmas
+pub mod ReadingLemmas

@@ -2,3 +2,5 @@ pub mod Events
 pub mod Judging
 pub mod Calls
 pub mod Standing
+pub mod Logs
+pub mod Reading

@@ -2,5 +2,7 @@
 #![tactic(auto)]
 
 pub mod books;
+pub mod faults;
+mod readers;
 #[cfg(test)]
 mod tests;

@@ -5,3 +5,4 @@ pub mod FeedLemmas
 pub mod FieldLemmas
 pub mod TextLemmas
 pub mod CheckLemmas
+pub mod StayLemmas

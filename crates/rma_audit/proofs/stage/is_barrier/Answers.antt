@@ -1,4 +1,4 @@
-use Rattle.std.proofs.Common.{◌≡◌, ℕ, List, take, drop, codes, ap, sym, ◌∙◌, refl}
+use Rattle.std.proofs.Common.{ℕ, List, take, drop, codes, ap, sym, ◌∙◌, refl}
 use Rattle.std.proofs.lemmas.Bool.{eq-eqb, eqb-true}
 use Rattle.std.specs.Int.{from_le_bytes, w64}
 use Rattle.rma_audit.proofs.TextLemmas.{same_text, bytes_by_test}

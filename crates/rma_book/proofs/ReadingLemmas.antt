@@ -1,0 +1,157 @@
+-- A reader and one line more.
+use Rattle.std.proofs.Common.{◌≡◌, ℕ, zero, suc, ◌+◌, ◌<◌, ◌≤◌, List, [], ◌∷◌, ◌++◌, length, take, slice_get, Option, Some, None, Result, Ok, Err, true, false, is_some, refl, sym, ap, subst, ◌∙◌, ◌⊎◌, inl, inr, ⊎_elim, arith}
+use Rattle.std.specs.Result.{OnOk}
+use Rattle.std.proofs.lemmas.List.{append_assoc, append-nil}
+use Rattle.std.proofs.lemmas.Bool.{false≢true}
+use Rattle.std.proofs.Math.Seq.{take-length}
+use Rattle.std.proofs.lemmas.Option.{slice_get_within}
+use Rattle.rma_base.specs.declared.reasons.FormReason.{FormReason}
+use Rattle.rma_parse.specs.declared.events.Stated.{Stated}
+use Rattle.rma_book.specs.Logs.{Checked, AreGood, IsFirstBad, entries, entries_from, entry_of, says, line_reason, judged}
+use Rattle.rma_book.specs.declared.faults.FormFault.{FormFault}
+use Rattle.rma_base.specs.declared.lines.LineNo.{LineNo}
+use Rattle.rma_book.specs.Calls.{Entry, events_of}
+use Rattle.rma_book.specs.Judging.{reason_of}
+use Rattle.rma_book.specs.Reading.{HasTaken, HasRead, IsBehind}
+use Rattle.rma_book.specs.declared.readers.Reader.{Reader}
+use Rattle.rma_book.specs.Standing.{Standing, StandsFor}
+
+-- ---- lists with one item more
+
+abbrev pub more : List Checked → Checked → List Checked
+more lines line = lines ++ line ∷ []
+
+slice_get-front : (k : ℕ) (lines : List Checked) (line : Checked) → k < length lines → slice_get (more lines line) k ≡ slice_get lines k
+slice_get-front k [] line below = absurd (omega arith)
+slice_get-front zero (first ∷ lines) line below = refl
+slice_get-front (suc k) (first ∷ lines) line below = slice_get-front k lines line (omega arith)
+
+slice_get-last : (lines : List Checked) (line : Checked) → slice_get (more lines line) (length lines) ≡ Some line
+slice_get-last [] line = refl
+slice_get-last (first ∷ lines) line = slice_get-last lines line
+
+take-front : (k : ℕ) (lines : List Checked) (line : Checked) → k ≤ length lines → take k (more lines line) ≡ take k lines
+take-front zero lines line below = refl
+take-front (suc k) [] line below = absurd (omega arith)
+take-front (suc k) (first ∷ lines) line below = ap (λ rest. first ∷ rest) (take-front k lines line (omega arith))
+
+take-whole : (lines : List Checked) (line : Checked) → take (length lines) (more lines line) ≡ lines
+take-whole lines line = take-front (length lines) lines line (omega arith) ∙ take-length lines
+
+entries_from-more : (number : ℕ) (lines : List Checked) (line : Checked) → entries_from number (more lines line) ≡ entries_from number lines ++ entry_of (number + length lines) (says line)
+entries_from-more number [] line = append-nil (entry_of number (says line)) ∙ ap (λ n. entry_of n (says line)) (omega arith)
+entries_from-more number (first ∷ lines) line =
+    ap (λ rest. entry_of number (says first) ++ rest) (entries_from-more (number + 1) lines line)
+    ∙ sym (append_assoc (entry_of number (says first)) (entries_from (number + 1) lines) (entry_of (number + 1 + length lines) (says line)))
+    ∙ ap (λ n. (entry_of number (says first) ++ entries_from (number + 1) lines) ++ entry_of n (says line)) (omega arith)
+
+entries-more : (lines : List Checked) (line : Checked) → entries (more lines line) ≡ entries lines ++ entry_of (length lines + 1) (says line)
+entries-more lines line = entries_from-more 1 lines line ∙ ap (λ n. entries lines ++ entry_of n (says line)) (omega arith)
+
+-- ---- a line more behind a bad one
+
+pub IsFirstBad-more : (rank logs : ℕ) (lines : List Checked) (line : Checked) (fault : FormFault) → IsFirstBad rank logs lines fault → IsFirstBad rank logs (more lines line) fault
+IsFirstBad-more rank logs lines line fault h =
+    let below = slice_get_within lines h.place h.line h.there in
+    let front = take-front h.place lines line (omega (arith, below)) in
+    record {
+      place = h.place;
+      line = h.line;
+      there = slice_get-front h.place lines line below ∙ h.there;
+      number = h.number;
+      bad = ap (λ before. line_reason rank logs before h.line) front ∙ h.bad;
+      good = subst (λ before. AreGood rank logs before) (sym front) h.good;
+    }
+
+-- the first line that is bad
+pub IsFirstBad-now : (rank logs : ℕ) (lines : List Checked) (line : Checked) (fault : FormFault) → AreGood rank logs lines
+    → line_reason rank logs lines line ≡ Some fault.reason → fault.line.0 ≡ length lines + 1 → IsFirstBad rank logs (more lines line) fault
+IsFirstBad-now rank logs lines line fault good bad number = record {
+  place = length lines;
+  line = line;
+  there = slice_get-last lines line;
+  number = number;
+  bad = ap (λ before. line_reason rank logs before line) (take-whole lines line) ∙ bad;
+  good = subst (λ before. AreGood rank logs before) (sym (take-whole lines line)) good;
+}
+
+-- ---- a good line more
+
+last_or_front : (k : ℕ) (lines : List Checked) (line found : Checked) → slice_get (more lines line) k ≡ Some found → (k < length lines) ⊎ ((k ≡ length lines) × (found ≡ line))
+last_or_front k [] line found h = first k h
+  where
+    first : (k : ℕ) → slice_get (line ∷ []) k ≡ Some found → (k < 0) ⊎ ((k ≡ 0) × (found ≡ line))
+    first zero h = let same : line ≡ found = cc in inr (refl, sym same)
+    first (suc k) h = cc
+last_or_front zero (one ∷ lines) line found h = inl (omega arith)
+last_or_front (suc k) (one ∷ lines) line found h = ⊎_elim
+    (λ (below : k < length lines). inl (omega (arith, below)))
+    (λ (here : (k ≡ length lines) × (found ≡ line)). inr (ap suc here.0, here.1))
+    (last_or_front k lines line found h)
+
+AreGood-more : (rank logs : ℕ) (lines : List Checked) (line : Checked) → AreGood rank logs lines → line_reason rank logs lines line ≡ None → AreGood rank logs (more lines line)
+AreGood-more rank logs lines line good last k found h = ⊎_elim
+    (λ (below : k < length lines).
+    ap (λ before. line_reason rank logs before found) (take-front k lines line (omega (arith, below))) ∙ good k found (sym (slice_get-front k lines line below) ∙ h))
+    (λ (here : (k ≡ length lines) × (found ≡ line)).
+    ap (λ n. line_reason rank logs (take n (more lines line)) found) here.0 ∙ ap (λ before. line_reason rank logs before found) (take-whole lines line)
+    ∙ ap (λ it. line_reason rank logs lines it) here.1 ∙ last)
+    (last_or_front k lines line found h)
+
+-- a line that says nothing
+pub HasTaken-nothing : (rank logs : ℕ) (lines : List Checked) (line : Checked) (book : Standing) → HasTaken rank logs lines book → says line ≡ Ok None → HasTaken rank logs (more lines line) book
+HasTaken-nothing rank logs lines line book h said = record {
+  good = AreGood-more rank logs lines line h.good (ap (λ it. judged rank logs (entries lines) it) said);
+  stands_for = subst (λ es. StandsFor book es)
+      (sym (entries-more lines line ∙ ap (λ it. entries lines ++ entry_of (length lines + 1) it) said ∙ append-nil (entries lines))) h.stands_for;
+  of_rank = h.of_rank;
+  among = h.among;
+}
+
+-- the reason that a book gives is that of the definition
+reason_is : (rank logs : ℕ) (lines : List Checked) (line : Checked) (book : Standing) (stated : Stated) (reason : Option FormReason) → HasTaken rank logs lines book
+    → says line ≡ Ok (Some stated) → ((es : List Entry) → StandsFor book es → reason ≡ reason_of book.rank book.logs (events_of es) stated.event) → line_reason rank logs lines line ≡ reason
+reason_is rank logs lines line book stated reason h said given =
+    ap (λ it. judged rank logs (entries lines) it) said
+    ∙ sym (given (entries lines) h.stands_for ∙ ap (λ r. reason_of r book.logs (events_of (entries lines)) stated.event) h.of_rank ∙ ap (λ n. reason_of rank n (events_of (entries lines)) stated.event) h.among)
+
+pub judge_bad : (rank logs : ℕ) (lines : List Checked) (line : Checked) (book : Standing) (at : LineNo) (stated : Stated) (reason : FormReason) → HasTaken rank logs lines book
+    → says line ≡ Ok (Some stated) → at.0 ≡ length lines + 1 → ((es : List Entry) → StandsFor book es → Some reason ≡ reason_of book.rank book.logs (events_of es) stated.event)
+    → IsFirstBad rank logs (more lines line) (record { line = at; reason = reason })
+judge_bad rank logs lines line book at stated reason h said number given =
+    IsFirstBad-now rank logs lines line (record { line = at; reason = reason }) h.good (reason_is rank logs lines line book stated (Some reason) h said given) number
+
+pub judge_good : (rank logs : ℕ) (lines : List Checked) (line : Checked) (old new : Standing) (at : LineNo) (stated : Stated) → HasTaken rank logs lines old
+    → says line ≡ Ok (Some stated) → at.0 ≡ length lines + 1 → ((es : List Entry) → StandsFor old es → None ≡ reason_of old.rank old.logs (events_of es) stated.event)
+    → ((es : List Entry) → StandsFor old es → StandsFor new (es ++ record { line = at; stated = stated } ∷ []))
+    → new.rank ≡ old.rank → new.logs ≡ old.logs → HasTaken rank logs (more lines line) new
+judge_good rank logs lines line old new at stated h said number given taken same_rank same_logs = record {
+  good = AreGood-more rank logs lines line h.good (reason_is rank logs lines line old stated None h said given);
+  stands_for = subst (λ es. StandsFor new es)
+      (sym (entries-more lines line ∙ ap (λ it. entries lines ++ entry_of (length lines + 1) it) said ∙ ap (λ n. entries lines ++ entry_of n (Ok (Some stated))) (sym number)))
+      (taken (entries lines) h.stands_for);
+  of_rank = same_rank ∙ h.of_rank;
+  among = same_logs ∙ h.among;
+}
+
+-- a reader that found no bad line has taken all
+pub HasTaken-read : (rank logs : ℕ) (lines : List Checked) (reader : Reader) → HasRead rank logs lines reader → reader.fault ≡ None → HasTaken rank logs lines reader.book
+HasTaken-read rank logs lines reader h none = subst (λ fault. IsBehind rank logs lines reader.book fault) none h
+
+-- behind a bad line nothing changes
+pub HasRead-bad : (rank logs : ℕ) (lines : List Checked) (line : Checked) (reader : Reader) → HasRead rank logs lines reader → is_some reader.fault ≡ true → HasRead rank logs (more lines line) reader
+HasRead-bad rank logs lines line reader h bad = step reader.fault refl h bad
+  where
+    step : (fault : Option FormFault) → reader.fault ≡ fault → IsBehind rank logs lines reader.book fault → is_some fault ≡ true → IsBehind rank logs (more lines line) reader.book reader.fault
+    step None e h bad = absurd (false≢true bad)
+    step (Some fault) e h bad = subst (λ f. IsBehind rank logs (more lines line) reader.book f) (sym e) (IsFirstBad-more rank logs lines line fault h)
+
+-- ---- answers
+
+pub OnOk-then : {X E A B : Type 0} → (r : Result X E) → OnOk r A → (A → B) → OnOk r B
+OnOk-then (Ok x) h f = f h
+OnOk-then (Err e) h f = h
+
+pub none_from : {X : Type 0} → (o : Option X) → is_some o ≡ false → o ≡ None
+none_from None h = refl
+none_from (Some x) h = absurd (false≢true (sym h))

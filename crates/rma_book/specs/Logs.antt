@@ -1,0 +1,68 @@
+-- The first bad line of a log, and what its good lines state (the log format of this product).
+use Rattle.std.specs.Prelude.{◌≡◌, ℕ, ◌+◌, List, [], ◌∷◌, ◌++◌, length, take, slice_get, Option, Some, None, IsSome, Result, Ok, Err, ◌⊎◌}
+use Rattle.rma_base.specs.declared.reasons.FormReason.{FormReason}
+use Rattle.rma_base.specs.declared.reasons.FormReason.TheVariants.{MissingEnd}
+use Rattle.rma_parse.specs.declared.events.Stated.{Stated}
+use Rattle.rma_parse.specs.Lines.{reading}
+use Rattle.rma_book.specs.Calls.{Entry, events_of, end_line}
+use Rattle.rma_book.specs.Judging.{reason_of}
+use Rattle.rma_book.specs.declared.faults.FormFault.{FormFault}
+
+-- what is known of a line by itself: its text, or why it has none
+abbrev pub Checked : Type 0
+Checked = Result (List ℕ) FormReason
+
+-- what a line says: nothing, or what it states, or why it is bad by itself
+abbrev pub says : Checked → Result (Option Stated) FormReason
+says (Ok text) = reading text
+says (Err reason) = Err reason
+
+-- the entry of a line with this number that says this
+abbrev pub entry_of : ℕ → Result (Option Stated) FormReason → List Entry
+entry_of number (Ok None) = []
+entry_of number (Ok (Some stated)) = record { line = record { 0 = number }; stated = stated } ∷ []
+entry_of number (Err reason) = []
+
+-- the entries of some lines, of which the first has this number
+abbrev pub entries_from : ℕ → List Checked → List Entry
+entries_from number [] = []
+entries_from number (line ∷ lines) = entry_of number (says line) ++ entries_from (number + 1) lines
+
+-- the entries of the first lines of a log
+abbrev pub entries : List Checked → List Entry
+entries lines = entries_from 1 lines
+
+-- why a line that says this is bad behind these entries, if it is
+abbrev pub judged : ℕ → ℕ → List Entry → Result (Option Stated) FormReason → Option FormReason
+judged rank logs before (Ok None) = None
+judged rank logs before (Ok (Some stated)) = reason_of rank logs (events_of before) stated.event
+judged rank logs before (Err reason) = Some reason
+
+-- why a line is bad behind the lines before it, if it is
+abbrev pub line_reason : ℕ → ℕ → List Checked → Checked → Option FormReason
+line_reason rank logs before line = judged rank logs (entries before) (says line)
+
+-- each line is good behind those before it
+abbrev pub AreGood : ℕ → ℕ → List Checked → Type 0
+AreGood rank logs lines = (k : ℕ) (line : Checked) → slice_get lines k ≡ Some line → line_reason rank logs (take k lines) line ≡ None
+
+-- The line is bad, and each before it is good.
+pub record IsFirstBad (rank logs : ℕ) (lines : List Checked) (fault : FormFault) : Type 0 where
+  pub place : ℕ
+  pub line : Checked
+  pub there : slice_get lines place ≡ Some line
+  pub number : fault.line.0 ≡ place + 1
+  pub bad : line_reason rank logs (take place lines) line ≡ Some fault.reason
+  pub good : AreGood rank logs (take place lines)
+
+-- All lines are good, but none is the end, which is missed behind the last.
+pub record LacksEnd (rank logs : ℕ) (lines : List Checked) (fault : FormFault) : Type 0 where
+  pub good : AreGood rank logs lines
+  pub none : end_line (entries lines) ≡ None
+  pub number : fault.line.0 ≡ length lines + 1
+  pub reason : fault.reason ≡ MissingEnd
+
+-- what is wrong with the lines of a whole log, if something is
+abbrev pub IsLogFault : ℕ → ℕ → List Checked → Option FormFault → Type 0
+IsLogFault rank logs lines None = AreGood rank logs lines × IsSome (end_line (entries lines))
+IsLogFault rank logs lines (Some fault) = IsFirstBad rank logs lines fault ⊎ LacksEnd rank logs lines fault

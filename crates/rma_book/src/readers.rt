@@ -1,0 +1,80 @@
+//! Reading the lines of a log one by one.
+ghost use Rattle.std.specs.Prelude.{◌≡◌, ℕ, ◌+◌, ◌<◌, List, ◌++◌, ◌∷◌, [], length, IfOk, OnOk, true, false, Ok, Err, Some, None};
+ghost use Rattle.rma_lex.specs.Told.{told, number};
+ghost use Rattle.rma_lex.specs.Lines.{lines};
+ghost use Rattle.rma_lex.specs.Cutting.{StandsFor};
+ghost use Rattle.rma_book.specs.Logs.{Checked, says};
+ghost use Rattle.rma_book.specs.Reading.{HasRead, IsReading};
+
+use crate::books::Book;
+use crate::faults::FormFault;
+use rma_base::allocation::Memory;
+use rma_base::lines::LineNo;
+use rma_base::reasons::FormReason;
+use rma_lex::cutter::{LexFault, Line, LineCutter};
+use rma_parse::events::Stated;
+use rma_parse::faults::ParseError;
+use rma_parse::reading::parse_line;
+use std::alloc::Global;
+
+/// The book of the good lines, and the first bad one, behind which nothing is read.
+#[derive(Drop)]
+pub(crate) struct Reader {
+    pub(crate) book: Book,
+    pub(crate) fault: Option<FormFault>,
+}
+
+impl Reader {
+    /// Reads the next line.
+    fn read(&mut self, alloc: Global, found: Result<Line<'_>, LexFault>) -> Result<(), Memory>
+        ensures { OnOk result ((rank logs : ℕ) (before : List Checked) → number found.entry ≡ length before + 1 → HasRead rank logs before self.old
+            → HasRead rank logs (before ++ told found.entry ∷ []) self.new) }
+    {
+        if self.fault.is_some() {
+            return Ok(());
+        }
+        match found {
+            Ok(line) => self.read_text(alloc, line.no, line.text),
+            Err(fault) => {
+                self.refuse(fault.no, fault.reason);
+                Ok(())
+            }
+        }
+    }
+
+    // Reads the text of the next line.
+    fn read_text(&mut self, alloc: Global, no: LineNo, text: &[u8]) -> Result<(), Memory>
+        requires { self.old.fault ≡ None }
+        ensures { OnOk result ((rank logs : ℕ) (before : List Checked) → no.0 ≡ length before + 1 → HasRead rank logs before self.old
+            → HasRead rank logs (before ++ Ok text.now ∷ []) self.new) }
+    {
+        match parse_line(alloc, text) {
+            Ok(None) => Ok(()),
+            Ok(Some(stated)) => self.judge(no, stated),
+            Err(ParseError::Fault(fault)) => {
+                self.refuse(no, fault.reason);
+                Ok(())
+            }
+            Err(ParseError::Memory) => Err(Memory),
+        }
+    }
+
+    // Judges what the next line states.
+    fn judge(&mut self, no: LineNo, stated: Stated) -> Result<(), Memory>
+        requires { self.old.fault ≡ None }
+        ensures { OnOk result ((rank logs : ℕ) (before : List Checked) (line : Checked) → no.0 ≡ length before + 1 → says line ≡ Ok (Some stated)
+            → HasRead rank logs before self.old → HasRead rank logs (before ++ line ∷ []) self.new) }
+    {
+        if let Some(reason) = self.book.read(no, stated)? {
+            self.refuse(no, reason);
+        }
+        Ok(())
+    }
+
+    // The line is the first bad one.
+    fn refuse(&mut self, line: LineNo, reason: FormReason)
+        ensures { self.new ≡ record self.old { fault = Some (record { line = line; reason = reason }) } }
+    {
+        self.fault = Some(FormFault { line, reason });
+    }
+}
