@@ -35,9 +35,8 @@ single_is_few : (b : Basic) → entry_count (element b (pos 0) ∷ []) ≤ 2 ^ 2
 unfolding entry_count
 single_is_few b = omega arith
 
-pub IsKept-single : (b : Basic) (n : ℕ) (committed : Bool) (o : Outline) → o ≡ outline (element b (pos 0) ∷ []) →
-    IsKept (element b (pos 0) ∷ []) n (record { origin = origin.Basic b; committed = committed; outline = o })
-IsKept-single b n committed o e = record { outline_is = e; in_space = single_in_space b; few = single_is_few b; after = tt }
+pub IsKept-single : (b : Basic) (n : ℕ) (o : Outline) → o ≡ outline (element b (pos 0) ∷ []) → IsKept (element b (pos 0) ∷ []) n (origin.Basic b) o
+IsKept-single b n o e = record { outline_is = e; in_space = single_in_space b; few = single_is_few b; after = tt }
 
 -- ---- an empty table
 

@@ -1,3 +1,5 @@
+pub mod RunLemmas
+pub mod PlaceLemmas
 pub mod TableLemmas
 pub mod AddLemmas
 pub mod FirstLemmas
@@ -6,3 +8,5 @@ pub mod MemberLemmas
 pub mod StructLemmas
 pub mod OldLemmas
 pub mod MakeLemmas
+pub mod SigningLemmas
+pub mod ComponentLemmas

@@ -5,6 +5,8 @@ use Rattle.rma_typemap.specs.declared.outlines.Outline.{Outline}
 use Rattle.rma_typemap.specs.Near.{IsNearby, IsSound}
 use Rattle.rma_typemap.specs.Space.{space}
 use Rattle.rma_typemap.specs.Typemap.{Typemap}
+use Rattle.rma_typemap.specs.Bounds.{signature}
+use Rattle.rma_type.specs.Signings.{IsSigned}
 use Rattle.rma_type.specs.TableInside.{IsKept, origins_of, IsTable}
 use Rattle.rma_type.specs.declared.table.TypeTable.TheInside.{Inside}
 use Rattle.rma_type.specs.declared.origins.Origin.{Origin}
@@ -21,13 +23,13 @@ read_at [] i x h e = absurd (omega arith)
 read_at (y ∷ ys) zero x h e = ap Some (sym e)
 read_at (y ∷ ys) (suc i) x h e = read_at ys i x (omega arith) e
 
-pub kept_near : (parts : Typemap) (n : ℕ) (kept : Kept) → IsKept parts n kept → IsNearby space kept.outline
+pub kept_near : (parts : Typemap) (n : ℕ) (kept : Kept) → IsKept parts n kept.origin kept.outline → IsNearby space kept.outline
 kept_near parts n kept h = subst (IsNearby space) (sym h.outline_is) (IsNearby-in_space parts h.in_space)
 
-pub kept_sound : (parts : Typemap) (n : ℕ) (kept : Kept) → IsKept parts n kept → IsSound kept.outline
+pub kept_sound : (parts : Typemap) (n : ℕ) (kept : Kept) → IsKept parts n kept.origin kept.outline → IsSound kept.outline
 kept_sound parts n kept h = subst IsSound (sym h.outline_is) (IsSound-outline parts)
 
-pub kept_few : (parts : Typemap) (n : ℕ) (kept : Kept) → IsKept parts n kept → kept.outline.entries ≤ 2 ^ 26
+pub kept_few : (parts : Typemap) (n : ℕ) (kept : Kept) → IsKept parts n kept.origin kept.outline → kept.outline.entries ≤ 2 ^ 26
 kept_few parts n kept h =
     let few = h.few in
     let e = ap (λ (o : Outline). o.entries) h.outline_is in
@@ -47,30 +49,38 @@ origins_of-set [] i new old h e = refl
 origins_of-set (k ∷ ks) zero new old h e = let same : k ≡ old = cc in ap (λ o. o ∷ origins_of ks) (e ∙ ap (λ x. x.origin) (sym same))
 origins_of-set (k ∷ ks) (suc i) new old h e = ap (λ os. k.origin ∷ os) (origins_of-set ks i new old h e)
 
+-- ---- what holds of each datatype
+
+-- something holds of the typemap and the number of each datatype, and of what is kept of it
+abbrev pub Each : (Typemap → ℕ → Kept → Type 0) → List Kept → Type 0
+Each F items = (n : ℕ) (kept : Kept) → slice_get items n ≡ Some kept → F (slice_index_or (typemaps (origins_of items)) n []) n kept
+
+pub Each-set : (F : Typemap → ℕ → Kept → Type 0) (items : List Kept) (i : ℕ) (old new : Kept) → slice_get items i ≡ Some old → new.origin ≡ old.origin →
+    ((parts : Typemap) (n : ℕ) → F parts n old → F parts n new) → Each F items → Each F (set items i new)
+Each-set F items i old new at same stays each n kept k =
+    let P : List Origin → Type 0 = λ os. F (slice_index_or (typemaps os) n []) n kept in
+    subst P (sym (origins_of-set items i new old at same))
+    (⊎_elim
+    (λ p.
+    let Q : Kept → Type 0 = λ x. F (slice_index_or (typemaps (origins_of items)) n []) n x in
+    let there : slice_get items n ≡ Some old = ap (slice_get items) p.0 ∙ at in
+    subst Q (sym p.1) (stays (slice_index_or (typemaps (origins_of items)) n []) n (each n old there)))
+    (λ q. each n kept q)
+    (slice_get-set items i new n kept k))
+
 -- ---- a commit
 
 abbrev pub as_committed : Kept → Kept
-as_committed kept = record { origin = kept.origin; committed = true; outline = kept.outline }
+as_committed kept = record { origin = kept.origin; committed = true; outline = kept.outline; signature = kept.signature }
 
-IsKept-committed : (parts : Typemap) (n : ℕ) (kept : Kept) → IsKept parts n kept → IsKept parts n (as_committed kept)
-IsKept-committed parts n kept h = record { outline_is = h.outline_is; in_space = h.in_space; few = h.few; after = h.after }
-
-pub IsTable-committed : (t : Inside) (i : ℕ) (old : Kept) → IsTable t → slice_get t.types.items i ≡ Some old → IsTable (record { types = with_item t.types i (as_committed old); live = t.live })
+pub IsTable-committed : (t : Inside) (i : ℕ) (old : Kept) → IsTable t → slice_get t.types.items i ≡ Some old →
+    IsTable (record { types = with_item t.types i (as_committed old); signatures = t.signatures; live = t.live })
 IsTable-committed t i old h at =
     let items = t.types.items in
-    let same = origins_of-set items i (as_committed old) old at refl in
     let long = length-set items i (as_committed old) in
     record {
-      each = λ n kept k.
-          let P : List Origin → Type 0 = λ os. IsKept (slice_index_or (typemaps os) n []) n kept in
-          subst P (sym same)
-          (⊎_elim
-          (λ p.
-          let Q : Kept → Type 0 = λ x. IsKept (slice_index_or (typemaps (origins_of items)) n []) n x in
-          let there : slice_get items n ≡ Some old = ap (slice_get items) p.0 ∙ at in
-          subst Q (sym p.1) (IsKept-committed (slice_index_or (typemaps (origins_of items)) n []) n old (h.each n old there)))
-          (λ q. h.each n kept q)
-          (slice_get-set items i (as_committed old) n kept k));
+      each = Each-set (λ parts n kept. IsKept parts n kept.origin kept.outline) items i old (as_committed old) at refl (λ parts n k. k) h.each;
+      signed = Each-set (λ parts n kept. IsSigned t.signatures.items (signature parts) kept.signature) items i old (as_committed old) at refl (λ parts n k. k) h.signed;
       ids = λ name id k. let P : ℕ → Type 0 = λ m. id.0 < m in subst P (sym long) (h.ids name id k);
       small = let P : ℕ → Type 0 = λ m. m < 2 ^ 32 in subst P (sym long) h.small;
     }

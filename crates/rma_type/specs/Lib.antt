@@ -1,4 +1,7 @@
 pub mod Tables
+pub mod Signatures
+pub mod Prefixes
+pub mod Signings
 pub mod Adds
 pub mod Puts
 pub mod FirstTable

@@ -8,6 +8,9 @@ mod members;
 pub mod origins;
 #[cfg(test)]
 mod plans;
+mod prefixes;
+mod signatures;
+mod signings;
 pub mod table;
 #[cfg(test)]
 mod tests;

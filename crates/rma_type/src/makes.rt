@@ -99,7 +99,10 @@ impl TypeTable {
             Ok(outline) => outline,
             Err(fault) => return Err(TypeError::Fault(fault)),
         };
-        match self.add(name, how, olds, outline) {
+        let Ok(signing) = self.sign(how, olds.as_slice(), outline.entries) else {
+            return Err(TypeError::Memory);
+        };
+        match self.add(name, how, olds, outline, signing) {
             Ok(id) => Ok(id),
             Err(_) => Err(TypeError::Memory),
         }

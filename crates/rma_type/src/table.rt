@@ -3,7 +3,9 @@ ghost use Rattle.std.specs.Prelude.{◌≡◌, ◌≢◌, ◌+◌, ◌-◌, ◌^
 ghost use Rattle.std.specs.Cmp.Lexicographic.{pointwise};
 ghost use Rattle.rma_type.specs.Tables.{id_of, typemaps, typemap_in, how_of, olds_in, HasOld, IsCommitted, IsFreed, stands_for_derived, typemap_of, IsAdded, all_live, olds_of, member_names, old_names};
 ghost use Rattle.rma_type.specs.declared.origins.Origin.TheVariants.{Derived};
-ghost use Rattle.rma_typemap.specs.Bounds.{entry_count};
+ghost use Rattle.rma_typemap.specs.Bounds.{entry_count, signature};
+ghost use Rattle.rma_type.specs.Signatures.{spread, IsRunsOf, IsComponentOf};
+ghost use Rattle.rma_type.specs.Signings.{IsSigning};
 ghost use Rattle.rma_typemap.specs.Outline.{outline};
 ghost use Rattle.rma_typemap.specs.Space.{space, is_all_in_space};
 ghost use Rattle.rma_typemap.specs.Near.{IsNearby, IsSound};
@@ -11,7 +13,9 @@ ghost use Rattle.rma_typemap.specs.Told.{told_of};
 
 use crate::basics::{self, BASICS};
 use crate::origins::Origin;
-use crate::types::{Made, TypeError, TypeFault, TypeId};
+use crate::signatures;
+use crate::signings::Signing;
+use crate::types::{Component, Made, SigRun, TypeError, TypeFault, TypeId};
 use indexmap::IndexMap;
 use rma_base::allocation::Memory;
 use rma_base::basics::Basic;
@@ -23,18 +27,29 @@ use rma_typemap::outlines::{self, Outline};
 use std::alloc::Global;
 use std::marker::Model;
 
-/// What is kept of a datatype.
+/// What is kept of a datatype; its signature by the number of that.
 #[derive(Drop)]
 pub(crate) struct Kept {
     pub(crate) origin: Origin,
     pub(crate) committed: bool,
     pub(crate) outline: Outline,
+    pub(crate) signature: usize,
+}
+
+/// What is to be kept of a new datatype.
+#[derive(Drop)]
+pub(crate) struct Draft {
+    pub(crate) origin: Origin,
+    pub(crate) committed: bool,
+    pub(crate) outline: Outline,
+    pub(crate) signing: Signing,
 }
 
 /// The datatypes of one rank, by the names that it gave them.
 #[derive(Drop)]
 pub struct TypeTable {
     types: Vec<Kept>,
+    signatures: Vec<Vec<SigRun>>,
     live: IndexMap<Name, TypeId>,
 }
 
@@ -74,6 +89,7 @@ impl TypeTable {
     {
         TypeTable {
             types: Vec::new(alloc),
+            signatures: Vec::new(alloc),
             live: IndexMap::new(alloc),
         }
     }
@@ -98,16 +114,22 @@ impl TypeTable {
         requires { length self.old.origins + 1 < 2 ^ 32 }
         ensures { OnOk result (IsWithBasic self.old self.new basic) }
     {
-        let kept = Kept {
+        let draft = Draft {
             origin: Origin::Basic(basic),
             committed: true,
             outline: outlines::single(basic),
+            signing: Signing::Own(signatures::single(alloc, basic)?),
         };
         let name = basics::name_of(alloc, basic)?;
-        match self.put(name, kept) {
+        match self.put(name, draft) {
             Ok(_) => Ok(()),
             Err(error) => Err(error),
         }
+    }
+
+    /// Where the table takes its memory.
+    pub(crate) fn allocator(&self) -> Global {
+        *self.types.allocator()
     }
 
     /// The number of datatypes that the table ever had, the basic ones included.
@@ -150,6 +172,37 @@ impl TypeTable {
         ensures { result ≡ told_of (typemap_in (typemaps self.now.origins) id) }
     {
         bounds::made(self.outline(id))
+    }
+
+    /// The signature of the datatype: the basic datatypes of its elements in order, as runs of equal ones of which
+    /// neighbours differ.
+    pub fn signature(&self, id: TypeId) -> &[SigRun]
+        requires { id.0 < length self.now.origins }
+        ensures runs { IsRunsOf (signature (typemap_in (typemaps self.now.origins) id)) result.now }
+        ensures few { length (spread result.now) ≤ 2 ^ 26 }
+    {
+        self.signatures[self.types[id.0 as usize].signature].as_slice()
+    }
+
+    /// The basic datatype that all elements of the datatype have.
+    pub fn component(&self, id: TypeId) -> Component
+        requires { id.0 < length self.now.origins }
+        ensures { IsComponentOf (signature (typemap_in (typemaps self.now.origins) id)) result }
+    {
+        match self.signature(id) {
+            [] => Component::Empty,
+            [run] => Component::One(run.basic),
+            _ => Component::Mixed,
+        }
+    }
+
+    /// Whether two datatypes are known to have one signature.
+    pub(crate) fn share(&self, a: TypeId, b: TypeId) -> bool
+        requires a_within { a.0 < length self.now.origins }
+        requires b_within { b.0 < length self.now.origins }
+        ensures { IsTrue result → signature (typemap_in (typemaps self.now.origins) a) ≡ signature (typemap_in (typemaps self.now.origins) b) }
+    {
+        self.types[a.0 as usize].signature == self.types[b.0 as usize].signature
     }
 
     /// The constructor that made the datatype, and nothing for a basic one.
@@ -207,14 +260,31 @@ impl TypeTable {
         Ok(())
     }
 
-    /// Puts what is kept of a datatype under a name.
-    fn put(&mut self, name: Name, kept: Kept) -> Result<TypeId, Memory>
+    /// Puts a new datatype under a name.
+    fn put(&mut self, name: Name, draft: Draft) -> Result<TypeId, Memory>
         requires room { length self.old.origins + 1 < 2 ^ 32 }
-        requires kept { IsKept (typemap_of (typemaps self.old.origins) kept.origin) (length self.old.origins) kept }
-        ensures ok { IfOk result (IsPut self.old self.new name kept.origin kept.committed) }
+        requires kept { IsKept (typemap_of (typemaps self.old.origins) draft.origin) (length self.old.origins) draft.origin draft.outline }
+        requires signed { IsSigning self.old.origins (signature (typemap_of (typemaps self.old.origins) draft.origin)) draft.signing }
+        ensures ok { IfOk result (IsPut self.old self.new name draft.origin draft.committed) }
         ensures err { OnErr result (self.new ≡ self.old) }
     {
         let id = TypeId(self.types.len() as u32);
+        let Draft {
+            origin,
+            committed,
+            outline,
+            signing,
+        } = draft;
+        let signature = match signing {
+            Signing::Shared(old) => self.types[old.0 as usize].signature,
+            Signing::Own(runs) => signatures::keep(&mut self.signatures, runs)?,
+        };
+        let kept = Kept {
+            origin,
+            committed,
+            outline,
+            signature,
+        };
         if self.types.push(kept).is_err() {
             return Err(Memory);
         }
@@ -232,23 +302,26 @@ impl TypeTable {
         how: &Make,
         olds: Sequence<TypeId>,
         outline: Outline,
+        signing: Signing,
     ) -> Result<TypeId, Memory>
         requires room { length self.old.origins + 1 < 2 ^ 32 }
         requires olds_fit { ComesAfter (length self.old.origins) (Derived how.now olds) }
         requires outline_is { outline ≡ outline_of_new self.old.origins how.now olds }
         requires in_space { is_all_in_space (typemap_of (typemaps self.old.origins) (Derived how.now olds)) ≡ true }
         requires few { entry_count (typemap_of (typemaps self.old.origins) (Derived how.now olds)) ≤ 2 ^ 26 }
+        requires signed { IsSigning self.old.origins (signature (typemap_of (typemaps self.old.origins) (Derived how.now olds))) signing }
         ensures ok { IfOk result (IsAdded self.old self.new name.now (Derived how.now olds)) }
         ensures err { OnErr result (self.new ≡ self.old) }
     {
         let how = how.copy()?;
         let name = name.copy()?;
-        let kept = Kept {
+        let draft = Draft {
             origin: Origin::Derived { how, olds },
             committed: false,
             outline,
+            signing,
         };
-        self.put(name, kept)
+        self.put(name, draft)
     }
 
     /// Puts what a live name stands for at the end of a list.

@@ -12,3 +12,4 @@ pub mod ArrayLemmas
 pub mod BuildLemmas
 pub mod SpaceLemmas
 pub mod EntryLemmas
+pub mod SignatureLemmas

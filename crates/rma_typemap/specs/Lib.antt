@@ -7,3 +7,4 @@ pub mod Outline
 pub mod Near
 pub mod Counts
 pub mod Told
+pub mod Signatures

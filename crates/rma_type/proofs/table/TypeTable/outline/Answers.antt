@@ -7,7 +7,7 @@ use Rattle.rma_type.specs.TableInside.{IsKept, origins_of}
 use Rattle.rma_type.proofs.TableLemmas.{read_at, kept_near, kept_sound, kept_few}
 use Rattle.rma_type.proofs.table.TypeTable.outline.Goals as goal
 
-kept_at : (c : goal.After-index) → IsKept (slice_index_or (typemaps (origins_of c.self.inside.types.items)) c.args.id.0 []) c.args.id.0 c.index.result.now
+kept_at : (c : goal.After-index) → IsKept (slice_index_or (typemaps (origins_of c.self.inside.types.items)) c.args.id.0 []) c.args.id.0 c.index.result.now.origin c.index.result.now.outline
 kept_at c =
     let items = c.self.inside.types.items in
     let origins = ap (λ (t : Table). length t.origins) c.self.view_is in
@@ -20,10 +20,10 @@ returns-clause-value c =
     (kept_at c).outline_is ∙ ap (λ (t : Table). outline (slice_index_or (typemaps t.origins) c.args.id.0 [])) c.self.view_is
 
 pub returns-clause-near : goal.returns-clause-near
-returns-clause-near c = kept_near _ _ _ (kept_at c)
+returns-clause-near c = kept_near _ _ c.index.result.now (kept_at c)
 
 pub returns-clause-sound : goal.returns-clause-sound
-returns-clause-sound c = kept_sound _ _ _ (kept_at c)
+returns-clause-sound c = kept_sound _ _ c.index.result.now (kept_at c)
 
 pub returns-clause-few : goal.returns-clause-few
-returns-clause-few c = kept_few _ _ _ (kept_at c)
+returns-clause-few c = kept_few _ _ c.index.result.now (kept_at c)

@@ -1,0 +1,30 @@
+use Rattle.std.proofs.Common.{length, List, ap, sym, subst, arith}
+use Rattle.rma_type.specs.declared.types.SigRun.{SigRun}
+use Rattle.rma_type.specs.Signatures.{IsRunsOf}
+use Rattle.rma_type.specs.Signings.{signature_in}
+use Rattle.rma_type.proofs.SigningLemmas.{signed_in, signed_within, signed_at, signature_is_short}
+use Rattle.rma_type.proofs.table.TypeTable.signature.Goals as goal
+
+pub index-requires-2 : goal.index-requires-2
+index-requires-2 c =
+    let t = c.self.inside in
+    let within = signed_within t.signatures.items (signature_in c.args.self.now.origins c.args.id) c.index.result.now.signature
+    (signed_in t c.args.self.now c.self.view_is c.self.invariant c.args.id c.index.result.now c.requires c.index.ensures) in
+    omega (arith, within, t.signatures.ok.0)
+
+stands : (c : goal.After-as_slice) → IsRunsOf (signature_in c.args.self.now.origins c.args.id) c.as_slice.result.now
+stands c =
+    let t = c.self.inside in
+    let basics = signature_in c.args.self.now.origins c.args.id in
+    let P : List SigRun → Type 0 = λ runs. IsRunsOf basics runs in
+    subst P (sym c.as_slice.ensures.value)
+    (signed_at t.signatures.items basics c.index.result.now.signature c.index-2.result.now
+    (signed_in t c.args.self.now c.self.view_is c.self.invariant c.args.id c.index.result.now c.requires c.index.ensures) c.index-2.ensures)
+
+pub returns-clause-runs : goal.returns-clause-runs
+returns-clause-runs c = stands c
+
+pub returns-clause-few : goal.returns-clause-few
+returns-clause-few c =
+    let short = signature_is_short c.self.inside c.args.self.now c.self.view_is c.self.invariant c.args.id c.index.result.now c.requires c.index.ensures in
+    omega (arith, short, ap length (stands c).same)
