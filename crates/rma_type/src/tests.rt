@@ -1,7 +1,8 @@
 //! Values from the rules of datatypes (MPI 4.0, "Datatypes") with the sizes of LP64.
 use crate::plans::{Plan, how, name};
 use crate::table::TypeTable;
-use crate::types::{Made, TypeError, TypeFault, TypeId};
+use crate::types::{Component, Made, TypeError, TypeFault, TypeId};
+use rma_base::basics::Basic;
 use rma_base::makes::Order;
 use rma_base::names::Name;
 use std::alloc::Global;
@@ -233,5 +234,146 @@ fn a_freed_name_is_made_again_and_what_was_built_stays(rt: HostRuntime) -> Resul
     assert!(rt; !committed(&rt, &table, second));
     assert_eq!(rt; table.commit(&pair), Ok(()));
     assert!(rt; committed(&rt, &table, second) && !committed(&rt, &table, first));
+    Ok(())
+}
+
+/// Constructors, the runs of their signatures counted by hand, and the basic datatype that all elements have.
+const SIGNED: [(&str, Plan, &[(Basic, u64)], Component); 8] = [
+    (
+        "three",
+        Plan::Contiguous(3, "INT"),
+        &[(Basic::Int, 3)],
+        Component::One(Basic::Int),
+    ),
+    ("none", Plan::Contiguous(0, "INT"), &[], Component::Empty),
+    (
+        "pair",
+        Plan::Struct(&[(1, 0, "INT"), (1, 4, "CHAR")]),
+        &[(Basic::Int, 1), (Basic::Char, 1)],
+        Component::Mixed,
+    ),
+    (
+        "wide",
+        Plan::Resized("pair", -4, 20),
+        &[(Basic::Int, 1), (Basic::Char, 1)],
+        Component::Mixed,
+    ),
+    (
+        "pairs",
+        Plan::Vector(1, 2, 3, "pair"),
+        &[
+            (Basic::Int, 1),
+            (Basic::Char, 1),
+            (Basic::Int, 1),
+            (Basic::Char, 1),
+        ],
+        Component::Mixed,
+    ),
+    (
+        "ends",
+        Plan::Struct(&[(1, 0, "INT"), (2, 4, "CHAR"), (2, 8, "INT")]),
+        &[(Basic::Int, 1), (Basic::Char, 2), (Basic::Int, 2)],
+        Component::Mixed,
+    ),
+    (
+        "joined",
+        Plan::Vector(2, 1, 3, "ends"),
+        &[
+            (Basic::Int, 1),
+            (Basic::Char, 2),
+            (Basic::Int, 3),
+            (Basic::Char, 2),
+            (Basic::Int, 2),
+        ],
+        Component::Mixed,
+    ),
+    (
+        "five",
+        Plan::Struct(&[(1, 0, "three"), (0, 0, "pair"), (2, 12, "INT")]),
+        &[(Basic::Int, 5)],
+        Component::One(Basic::Int),
+    ),
+];
+
+/// So many copies of a datatype, so many of another, and whether the elements of the first are the start of the others'.
+const FITS: [((&str, u32), (&str, u32), bool); 20] = [
+    (("INT", 3), ("three", 1), true),
+    (("three", 1), ("INT", 3), true),
+    (("three", 1), ("INT", 2), false),
+    (("INT", 4), ("three", 1), false),
+    (("INT", 1), ("INT32_T", 1), false),
+    (("FLOAT", 1), ("INT", 1), false),
+    (("INT", 1), ("FLOAT", 2), false),
+    (("INT", 1), ("pair", 1), true),
+    (("INT", 2), ("pair", 1), false),
+    (("pair", 1), ("INT", 2), false),
+    (("pair", 1), ("pair", 2), true),
+    (("pair", 2), ("pair", 1), false),
+    (("pair", 2), ("pairs", 1), true),
+    (("pairs", 1), ("pair", 2), true),
+    (("wide", 1), ("pair", 1), true),
+    (("ends", 2), ("joined", 1), true),
+    (("joined", 1), ("ends", 2), true),
+    (("ends", 1), ("pairs", 2), false),
+    (("none", 5), ("INT", 0), true),
+    (("none", 5), ("none", 2), true),
+];
+
+/// A table with the constructors of `SIGNED`.
+fn filled(rt: &impl Abort, alloc: Global) -> Result<TypeTable, Fail> {
+    let mut table = TypeTable::new(alloc)?;
+    for (word, plan, runs, component) in SIGNED {
+        let id = make(rt, alloc, &mut table, word, plan)??;
+        is_signed(rt, &table, id, runs, component);
+    }
+    Ok(table)
+}
+
+/// The runs of a datatype are these, and so is the basic datatype that all elements have.
+fn is_signed(
+    rt: &impl Abort,
+    table: &TypeTable,
+    id: TypeId,
+    runs: &[(Basic, u64)],
+    component: Component,
+) {
+    assert!(rt; id.0 < table.types());
+    let signature = table.signature(id);
+    assert_eq!(rt; signature.len(), runs.len());
+    for (run, (basic, count)) in signature.iter().zip(runs) {
+        assert_eq!(rt; (run.basic, run.count), (*basic, *count));
+    }
+    assert_eq!(rt; table.component(id), component);
+}
+
+/// Whether the elements of so many copies of `a` are the start of those of so many of `b`.
+fn fits(rt: &impl Abort, table: &TypeTable, a: TypeId, na: u32, b: TypeId, nb: u32) -> bool {
+    assert!(rt; a.0 < table.types());
+    assert!(rt; b.0 < table.types());
+    let entries = table.made(a).entries;
+    assert!(rt; u128::from(na) * u128::from(entries) <= 67_108_864);
+    table.fits(a, na, b, nb)
+}
+
+/// The same, of the datatypes of two live names.
+fn fit(
+    rt: &impl Abort,
+    table: &TypeTable,
+    alloc: Global,
+    copies: (&str, u32),
+    others: (&str, u32),
+) -> Result<bool, Fail> {
+    let first = table.find(&name(alloc, copies.0)?).ok_or("not live")?;
+    let second = table.find(&name(alloc, others.0)?).ok_or("not live")?;
+    Ok(fits(rt, table, first, copies.1, second, others.1))
+}
+
+#[test]
+fn signatures_are_the_basic_datatypes_in_order(rt: HostRuntime) -> Result<(), Fail> {
+    let table = filled(&rt, rt.alloc())?;
+    for (copies, others, want) in FITS {
+        let fit = fit(&rt, &table, rt.alloc(), copies, others)?;
+        assert_eq!(rt; fit, want);
+    }
     Ok(())
 }
