@@ -10,3 +10,4 @@ pub mod OldLemmas
 pub mod MakeLemmas
 pub mod SigningLemmas
 pub mod ComponentLemmas
+pub mod UniqueLemmas

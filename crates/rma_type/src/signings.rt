@@ -34,7 +34,7 @@ fn member_copies(member: &Member) -> u64
 }
 
 impl TypeTable {
-    /// The signature of so many elements that are copies of an old datatype.
+    /// The signature of so many elements that are copies of an old datatype: of it, where they are as many as its own.
     fn sign_copies(&self, old: TypeId, entries: u64) -> Result<Signing, Memory>
         requires within { old.0 < length self.now.origins }
         requires few { entries ≤ 2 ^ 26 }

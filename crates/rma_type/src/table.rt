@@ -260,7 +260,7 @@ impl TypeTable {
         Ok(())
     }
 
-    /// Puts a new datatype under a name.
+    /// Puts a new datatype under a name. Where memory runs out, a signature of its own may stay that no datatype has.
     fn put(&mut self, name: Name, draft: Draft) -> Result<TypeId, Memory>
         requires room { length self.old.origins + 1 < 2 ^ 32 }
         requires kept { IsKept (typemap_of (typemaps self.old.origins) draft.origin) (length self.old.origins) draft.origin draft.outline }
