@@ -1,0 +1,12 @@
+use Rattle.std.proofs.Common.{◌≡◌, ◌^◌, take, IfSome}
+use Rattle.rma_type.specs.Near.{IsNear}
+use Rattle.rma_type.specs.Typemap.{upper_marks}
+use Rattle.rma_type.specs.Bounds.{greatest}
+use Rattle.rma_typelist.specs.Lists.{typemap_of}
+use Rattle.rma_typelist.proofs.bounds.upper_mark.Given as goal
+
+abbrev pub invariant-loop-entry : goal.invariant-loop-entry
+invariant-loop-entry l = record {
+  value : l.greatest ≡ greatest (upper_marks (typemap_of (take l.entry-index l.list)));
+  near : IfSome l.greatest (IsNear (2 ^ 50));
+}

@@ -1,0 +1,12 @@
+use Rattle.std.proofs.Common.{◌≡◌, ◌^◌, take, flat_map}
+use Rattle.std.specs.List.{All}
+use Rattle.rma_base.specs.declared.makes.Block.{Block}
+use Rattle.rma_type.specs.Near.{IsNear}
+use Rattle.rma_type.specs.Constructors.{times, block_places}
+use Rattle.rma_typelist.proofs.places.of_blocks.Given as goal
+
+abbrev pub invariant-loop-block : goal.invariant-loop-block
+invariant-loop-block l = record {
+  value : l.places ≡ flat_map (λ (b : Block). block_places l.extent (times b.length) b.displacement) (take l.block-index l.blocks);
+  near : All (IsNear (2 ^ 117)) l.places;
+}

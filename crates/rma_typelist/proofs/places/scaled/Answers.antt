@@ -1,0 +1,20 @@
+use Rattle.std.proofs.Common.{◌^◌, ◌*◌, ◌*ℤ◌, ◌∙◌, sym, ap, subst, arith, to_z, of_z}
+use Rattle.std.specs.Int.{w32, w128}
+use Rattle.std.proofs.lemmas.Int.{ints, to_z-of_z}
+use Rattle.rma_type.specs.Near.{IsNear}
+use Rattle.rma_type.proofs.NearLemmas.{near_wider, near_mul}
+use Rattle.rma_typelist.proofs.Wide.{kept}
+use Rattle.rma_typelist.proofs.places.scaled.Goals as goal
+
+pub returns-clause-near : goal.returns-clause-near
+returns-clause-near c =
+    let x = c.args.displacement in
+    let y = c.args.extent in
+    let fits = to_z-of_z w32 x c.ranges.displacement in
+    let small : IsNear (2 ^ 31) x = record { low = omega (arith, ints); high = omega (arith, ints) } in
+    let near : IsNear (2 ^ 84) (x *ℤ y) = near_wider (2 ^ 31 * 2 ^ 52) (2 ^ 84) (x *ℤ y) (omega arith) (near_mul (2 ^ 31) (2 ^ 52) x y small c.requires) in
+    let value = ap (λ z. to_z w128 (of_z w128 (to_z w128 (of_z w128 z) *ℤ to_z w128 (of_z w128 y)))) (c.from.ensures ∙ fits)
+    ∙ ap (λ z. to_z w128 (of_z w128 (z *ℤ to_z w128 (of_z w128 y)))) (kept (2 ^ 31) x (omega arith) small)
+    ∙ ap (λ z. to_z w128 (of_z w128 (x *ℤ z))) (kept (2 ^ 52) y (omega arith) c.requires)
+    ∙ kept (2 ^ 84) (x *ℤ y) (omega arith) near in
+    subst (IsNear (2 ^ 84)) (sym value) near
