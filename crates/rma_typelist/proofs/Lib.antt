@@ -4,3 +4,4 @@ pub mod CopyLemmas
 pub mod PlaceLemmas
 pub mod MemberLemmas
 pub mod PartLemmas
+pub mod MakeLemmas

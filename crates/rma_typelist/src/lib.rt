@@ -8,3 +8,7 @@ mod copies;
 pub mod entries;
 pub mod makes;
 mod places;
+#[cfg(test)]
+mod plans;
+#[cfg(test)]
+mod tests;
