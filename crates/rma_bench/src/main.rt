@@ -2,6 +2,7 @@
 #![tactic(auto)]
 
 mod byte_sets;
+mod datatypes;
 
 use anyhow::Result;
 use std::env;
@@ -10,6 +11,7 @@ fn main(rt: HostRuntime) -> Result<()> {
     for word in env::args(&rt)?.skip(1) {
         if word.as_str() == "run" {
             byte_sets::time_union(&rt)?;
+            datatypes::time_types(&rt)?;
         }
     }
     Ok(())

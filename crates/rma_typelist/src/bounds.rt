@@ -1,5 +1,5 @@
 //! What a typemap comes to, entry by entry.
-ghost use Rattle.std.specs.Prelude.{◌≡◌, ◌^◌, ◌<◌, ◌≤◌, ◌==◌, ◌&&◌, map, sum_by, pos, ◌-ℤ◌, IfSome, length, option_to_list, Some};
+ghost use Rattle.std.specs.Prelude.{◌≡◌, ◌^◌, ◌<◌, ◌≤◌, ◌==◌, ◌&&◌, map, sum_by, pos, ◌-ℤ◌, IfSome, length, option_to_list};
 ghost use Rattle.std.specs.Ordering.{int_eq};
 ghost use Rattle.rma_base.specs.Basics.{basic_size};
 ghost use Rattle.rma_type.specs.Near.{IsNear};
