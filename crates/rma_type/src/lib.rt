@@ -3,6 +3,7 @@
 
 mod basics;
 mod checks;
+pub mod laws;
 mod makes;
 mod members;
 pub mod origins;

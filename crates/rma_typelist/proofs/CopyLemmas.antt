@@ -3,9 +3,9 @@ use Rattle.std.proofs.Common.{◌≡◌, ℕ, ◌+◌, ◌<◌, ℤ, List, [], �
 use Rattle.std.proofs.lemmas.List.{take_more, append-nil, map-append}
 use Rattle.std.proofs.lemmas.List.Concat.{flat_map-append}
 use Rattle.rma_base.specs.declared.basics.Basic.{Basic}
-use Rattle.rma_type.specs.Typemap.{Typemap, copy_at, copies_at, element, lower_mark, upper_mark}
-use Rattle.rma_type.specs.Typemap as typemap
-use Rattle.rma_type.specs.Constructors.{without_marks}
+use Rattle.rma_typemap.specs.Typemap.{Typemap, copy_at, copies_at, element, lower_mark, upper_mark}
+use Rattle.rma_typemap.specs.Typemap as typemap
+use Rattle.rma_typemap.specs.Constructors.{without_marks}
 use Rattle.rma_typelist.specs.declared.entries.Entry.{Entry}
 use Rattle.rma_typelist.specs.declared.entries.Entry.TheVariants.{Element, LowerMark, UpperMark}
 use Rattle.rma_typelist.specs.Lists.{part_of, typemap_of}

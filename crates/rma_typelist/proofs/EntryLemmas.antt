@@ -8,11 +8,11 @@ use Rattle.std.proofs.lemmas.List.Sums.{sum_by-append}
 use Rattle.rma_base.specs.declared.basics.Basic.{Basic}
 use Rattle.rma_base.specs.declared.basics.Basic.TheVariants.{SignedChar}
 use Rattle.rma_base.specs.Basics.{basic_size}
-use Rattle.rma_type.specs.Near.{IsNear}
-use Rattle.rma_type.specs.Typemap.{Typemap, elements, elements_of, lower_marks, lowers_of, upper_marks, uppers_of, start_of, end_of, end_after, gap, gaps_after, alignment_of, block_count}
-use Rattle.rma_type.specs.Typemap as typemap
-use Rattle.rma_type.specs.Bounds.{least, greatest, lesser, greater, fills}
-use Rattle.rma_type.proofs.ChainLemmas.{gaps_after-append, end_after-append}
+use Rattle.rma_typemap.specs.Near.{IsNear}
+use Rattle.rma_typemap.specs.Typemap.{Typemap, elements, elements_of, lower_marks, lowers_of, upper_marks, uppers_of, start_of, end_of, end_after, gap, gaps_after, alignment_of, block_count}
+use Rattle.rma_typemap.specs.Typemap as typemap
+use Rattle.rma_typemap.specs.Bounds.{least, greatest, lesser, greater, fills}
+use Rattle.rma_typemap.proofs.ChainLemmas.{gaps_after-append, end_after-append}
 use Rattle.rma_typelist.specs.declared.entries.Entry.{Entry}
 use Rattle.rma_typelist.specs.declared.entries.Entry.TheVariants.{Element}
 use Rattle.rma_typelist.specs.Lists.{part_of, typemap_of}

@@ -2,9 +2,9 @@
 use Rattle.std.proofs.Common.{◌≡◌, ℕ, zero, suc, ◌+◌, ◌<◌, min, List, [], ◌∷◌, ◌++◌, map, length, get_or, take, refl, sym, ap, ◌∙◌, arith}
 use Rattle.std.proofs.lemmas.List.{take_more, take-map, map_more, append-nil, append_assoc, length-take, length-map}
 use Rattle.rma_base.specs.declared.makes.Member.{Member}
-use Rattle.rma_type.specs.Typemap.{Typemap, copies_at}
-use Rattle.rma_type.specs.Bounds.{extent}
-use Rattle.rma_type.specs.Constructors.{times, byte_block_places, members_of}
+use Rattle.rma_typemap.specs.Typemap.{Typemap, copies_at}
+use Rattle.rma_typemap.specs.Bounds.{extent}
+use Rattle.rma_typemap.specs.Constructors.{times, byte_block_places, members_of}
 use Rattle.rma_typelist.specs.declared.entries.Entry.{Entry}
 use Rattle.rma_typelist.specs.Lists.{typemap_of}
 

@@ -8,14 +8,14 @@ use Rattle.std.proofs.Math.Nat.{mul-le-mul_right}
 use Rattle.rma_base.specs.declared.makes.Dimension.{Dimension}
 use Rattle.rma_base.specs.declared.makes.Order.{Order}
 use Rattle.rma_base.specs.declared.makes.Order.TheVariants.{LastFastest, FirstFastest}
-use Rattle.rma_type.specs.Near.{IsNear}
-use Rattle.rma_type.specs.Space.{space}
-use Rattle.rma_type.specs.Arrays.{is_part, is_between, cut_of, whole_of_cuts}
-use Rattle.rma_type.specs.Constructors.{times, numbers, whole, places, slowest_first}
-use Rattle.rma_type.specs.Outline.{empty_outline}
-use Rattle.rma_type.proofs.NearLemmas.{near_wider}
-use Rattle.rma_type.proofs.SpaceLemmas.{and_left, and_right}
-use Rattle.rma_type.proofs.ArrayLemmas.{AreCuts-cuts_of, whole_of_rest, parts_as_cuts, between_low, between_high, times_is}
+use Rattle.rma_typemap.specs.Near.{IsNear}
+use Rattle.rma_typemap.specs.Space.{space}
+use Rattle.rma_typemap.specs.Arrays.{is_part, is_between, cut_of, whole_of_cuts}
+use Rattle.rma_typemap.specs.Constructors.{times, numbers, whole, places, slowest_first}
+use Rattle.rma_typemap.specs.Outline.{empty_outline}
+use Rattle.rma_typemap.proofs.NearLemmas.{near_wider}
+use Rattle.rma_typemap.proofs.SpaceLemmas.{and_left, and_right}
+use Rattle.rma_typemap.proofs.ArrayLemmas.{AreCuts-cuts_of, whole_of_rest, parts_as_cuts, between_low, between_high, times_is}
 
 abbrev pub first_dimension : List Dimension → Dimension
 first_dimension ds = get_or ds 0 record { size = pos 0; part = pos 0; start = pos 0 }

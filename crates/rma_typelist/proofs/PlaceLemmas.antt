@@ -4,8 +4,8 @@ use Rattle.std.proofs.lemmas.List.{map-append, append-nil, take_more}
 use Rattle.std.proofs.lemmas.List.Concat.{flat_map-append}
 use Rattle.std.proofs.lemmas.List.FromFn.{map-range_with_len_more}
 use Rattle.std.proofs.Math.IntN.{+ℤ_idl}
-use Rattle.rma_type.proofs.Integers.{distribute, mul_assoc}
-use Rattle.rma_type.specs.Constructors.{numbers, block_places, byte_block_places}
+use Rattle.rma_typemap.proofs.Integers.{distribute, mul_assoc}
+use Rattle.rma_typemap.specs.Constructors.{numbers, block_places, byte_block_places}
 
 pub numbers-more : (n : ℕ) → numbers (n + 1) ≡ numbers n ++ pos n ∷ []
 numbers-more n = map-range_with_len_more pos 0 n n (omega arith)

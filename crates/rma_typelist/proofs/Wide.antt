@@ -2,9 +2,9 @@
 use Rattle.std.proofs.Common.{◌≡◌, ℕ, ◌^◌, ◌≤◌, ℤ, ◌+◌, ◌+ℤ◌, ◌-ℤ◌, sym, ap, FitsSigned, ◌∙◌, arith, to_z, of_z}
 use Rattle.std.specs.Int.{w128}
 use Rattle.std.proofs.lemmas.Int.{ints}
-use Rattle.rma_type.specs.Near.{IsNear}
-use Rattle.rma_type.specs.Space.{space}
-use Rattle.rma_type.proofs.NearLemmas.{near_add}
+use Rattle.rma_typemap.specs.Near.{IsNear}
+use Rattle.rma_typemap.specs.Space.{space}
+use Rattle.rma_typemap.proofs.NearLemmas.{near_add}
 
 pub kept : (far : ℕ) (x : ℤ) → far ≤ 2 ^ 121 → IsNear far x → to_z w128 (of_z w128 x) ≡ x
 kept far x le h = omega (arith, ints)

@@ -3,7 +3,7 @@ use Rattle.std.specs.Prelude.{ℕ, ℤ, List, [], ◌∷◌, Option, Some, None,
 use Rattle.std.specs.Int.{int_min, int_max}
 use Rattle.std.specs.Ordering.{int_eq}
 use Rattle.rma_base.specs.declared.basics.Basic.{Basic}
-use Rattle.rma_type.specs.Typemap.{start_of, end_of, end_after, gap}
+use Rattle.rma_typemap.specs.Typemap.{start_of, end_of, end_after, gap}
 
 -- the lesser of two numbers that may be there
 abbrev pub lesser_of : Option ℤ → Option ℤ → Option ℤ

@@ -3,9 +3,9 @@ use Rattle.std.specs.Prelude.{ℕ, ℤ, List, map}
 use Rattle.std.specs.List.{All}
 use Rattle.rma_typelist.specs.declared.entries.Entry.{Entry}
 use Rattle.rma_typelist.specs.declared.entries.Entry.TheVariants.{Element, LowerMark, UpperMark}
-use Rattle.rma_type.specs.Typemap.{Typemap, element, lower_mark, upper_mark}
-use Rattle.rma_type.specs.Typemap as typemap
-use Rattle.rma_type.specs.Near.{IsNear}
+use Rattle.rma_typemap.specs.Typemap.{Typemap, element, lower_mark, upper_mark}
+use Rattle.rma_typemap.specs.Typemap as typemap
+use Rattle.rma_typemap.specs.Near.{IsNear}
 
 -- the part of a typemap that an entry is
 abbrev pub part_of : Entry → typemap.Entry

@@ -1,10 +1,10 @@
 //! Parts of arrays, element by element.
 ghost use Rattle.std.specs.Prelude.{◌≡◌, ◌^◌, ◌<◌, ◌≤◌, ◌++◌, map, flat_map, pos, ◌+ℤ◌, ◌*ℤ◌, IfOk, OnOk, true, [], ◌∷◌};
 ghost use Rattle.std.specs.List.{All, list_all};
-ghost use Rattle.rma_type.specs.Near.{IsNear};
-ghost use Rattle.rma_type.specs.Space.{space};
-ghost use Rattle.rma_type.specs.Arrays.{is_part, cut_of, whole_of_cuts};
-ghost use Rattle.rma_type.specs.Constructors.{times, numbers, whole, places, slowest_first};
+ghost use Rattle.rma_typemap.specs.Near.{IsNear};
+ghost use Rattle.rma_typemap.specs.Space.{space};
+ghost use Rattle.rma_typemap.specs.Arrays.{is_part, cut_of, whole_of_cuts};
+ghost use Rattle.rma_typemap.specs.Constructors.{times, numbers, whole, places, slowest_first};
 
 use crate::places::times;
 use rma_base::allocation::Memory;

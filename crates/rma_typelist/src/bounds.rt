@@ -2,10 +2,10 @@
 ghost use Rattle.std.specs.Prelude.{◌≡◌, ◌^◌, ◌<◌, ◌≤◌, ◌==◌, ◌&&◌, map, sum_by, pos, ◌-ℤ◌, IfSome, length, option_to_list};
 ghost use Rattle.std.specs.Ordering.{int_eq};
 ghost use Rattle.rma_base.specs.Basics.{basic_size};
-ghost use Rattle.rma_type.specs.Near.{IsNear};
-ghost use Rattle.rma_type.specs.Space.{space};
-ghost use Rattle.rma_type.specs.Typemap.{elements, lower_marks, upper_marks, elements_of, lowers_of, uppers_of, start_of, end_of, alignment_of, block_count, gap};
-ghost use Rattle.rma_type.specs.Bounds.{least, greatest, raised, lower_bound, upper_bound, extent, size, entry_count, is_solid};
+ghost use Rattle.rma_typemap.specs.Near.{IsNear};
+ghost use Rattle.rma_typemap.specs.Space.{space};
+ghost use Rattle.rma_typemap.specs.Typemap.{elements, lower_marks, upper_marks, elements_of, lowers_of, uppers_of, start_of, end_of, alignment_of, block_count, gap};
+ghost use Rattle.rma_typemap.specs.Bounds.{least, greatest, raised, lower_bound, upper_bound, extent, size, entry_count, is_solid};
 ghost use Rattle.rma_typelist.specs.Lists.{part_of, typemap_of, place_of, AreNear};
 ghost use Rattle.rma_typelist.specs.Folds.{lesser_of, greater_of, first_start, last_end, blocks_at, reaches};
 

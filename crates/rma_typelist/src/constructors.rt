@@ -1,11 +1,11 @@
 //! The constructors of derived datatypes on lists of entries.
 ghost use Rattle.std.specs.Prelude.{◌≡◌, ◌^◌, ◌<◌, ◌≤◌, ◌++◌, map, IfOk, OnOk, true};
 ghost use Rattle.std.specs.List.{All, list_all};
-ghost use Rattle.rma_type.specs.Arrays.{is_part, cut_of, whole_of_cuts};
-ghost use Rattle.rma_type.specs.Space.{space};
-ghost use Rattle.rma_type.specs.Constructors.{times, contiguous, vector, hvector, indexed, hindexed, indexed_block, byte_block_places, members_of, resized, subarray};
-ghost use Rattle.rma_type.specs.Typemap.{copies_at};
-ghost use Rattle.rma_type.specs.Bounds as bounds;
+ghost use Rattle.rma_typemap.specs.Arrays.{is_part, cut_of, whole_of_cuts};
+ghost use Rattle.rma_typemap.specs.Space.{space};
+ghost use Rattle.rma_typemap.specs.Constructors.{times, contiguous, vector, hvector, indexed, hindexed, indexed_block, byte_block_places, members_of, resized, subarray};
+ghost use Rattle.rma_typemap.specs.Typemap.{copies_at};
+ghost use Rattle.rma_typemap.specs.Bounds as bounds;
 ghost use Rattle.rma_typelist.specs.Lists.{typemap_of, AreNear};
 
 use crate::arrays::{part, whole};

@@ -1,10 +1,10 @@
 //! Copies of typemaps, entry by entry.
 ghost use Rattle.std.specs.Prelude.{◌≡◌, ◌^◌, ◌++◌, IfOk, OnOk};
 ghost use Rattle.std.specs.List.{All};
-ghost use Rattle.rma_type.specs.Near.{IsNear};
-ghost use Rattle.rma_type.specs.Space.{space};
-ghost use Rattle.rma_type.specs.Typemap.{moved, copy_at, copies_at};
-ghost use Rattle.rma_type.specs.Constructors.{without_marks, with_bounds};
+ghost use Rattle.rma_typemap.specs.Near.{IsNear};
+ghost use Rattle.rma_typemap.specs.Space.{space};
+ghost use Rattle.rma_typemap.specs.Typemap.{moved, copy_at, copies_at};
+ghost use Rattle.rma_typemap.specs.Constructors.{without_marks, with_bounds};
 ghost use Rattle.rma_typelist.specs.Lists.{part_of, typemap_of, place_of, AreNear};
 
 use crate::entries::{Entry, TypeList};

@@ -1,7 +1,7 @@
 //! Typemaps as lists of their entries.
 ghost use Rattle.std.specs.Prelude.{◌≡◌, true};
 ghost use Rattle.std.specs.List.{All, list_all};
-ghost use Rattle.rma_type.specs.Space.{space, is_in_space};
+ghost use Rattle.rma_typemap.specs.Space.{space, is_in_space};
 ghost use Rattle.rma_typelist.specs.Lists.{place_of, AreNear};
 
 use rma_base::basics::Basic;

@@ -1,9 +1,9 @@
 //! Constructors with their arguments, on lists of entries.
 ghost use Rattle.std.specs.Prelude.{◌≡◌, map, IfOk, false};
 ghost use Rattle.std.specs.List.{All};
-ghost use Rattle.rma_type.specs.Space.{space};
+ghost use Rattle.rma_typemap.specs.Space.{space};
 ghost use Rattle.rma_type.specs.Tables.{breaks_array, has_large_array};
-ghost use Rattle.rma_type.specs.Constructors.{constructed, first_of};
+ghost use Rattle.rma_typemap.specs.Constructors.{constructed, first_of};
 ghost use Rattle.rma_typelist.specs.Lists.{typemap_of, AreNear};
 
 use crate::arrays::slowest_first;

@@ -1,9 +1,9 @@
 //! The displacements of the copies that a constructor makes.
 ghost use Rattle.std.specs.Prelude.{◌≡◌, ◌^◌, ◌<◌, ◌++◌, pos, ◌+ℤ◌, ◌*ℤ◌, map, flat_map, IfOk, OnOk};
 ghost use Rattle.std.specs.List.{All};
-ghost use Rattle.rma_type.specs.Near.{IsNear};
-ghost use Rattle.rma_type.specs.Space.{space};
-ghost use Rattle.rma_type.specs.Constructors.{times, numbers, block_places, byte_block_places};
+ghost use Rattle.rma_typemap.specs.Near.{IsNear};
+ghost use Rattle.rma_typemap.specs.Space.{space};
+ghost use Rattle.rma_typemap.specs.Constructors.{times, numbers, block_places, byte_block_places};
 
 use rma_base::allocation::Memory;
 use rma_base::lists::Sequence;

@@ -1,6 +1,6 @@
 use Rattle.std.proofs.Common.{◌≡◌, ◌+ℤ◌, ◌*ℤ◌, ℤ, List, map, flat_map, IfOk, sym, ap, subst, ◌∙◌, arith}
-use Rattle.rma_type.specs.Space.{space}
-use Rattle.rma_type.specs.Constructors.{times, numbers, whole, places}
+use Rattle.rma_typemap.specs.Space.{space}
+use Rattle.rma_typemap.specs.Constructors.{times, numbers, whole, places}
 use Rattle.rma_typelist.proofs.Wide.{kept}
 use Rattle.rma_typelist.proofs.PartLemmas.{first_dimension, rest_of, split, rest_small, near_where_ok}
 use Rattle.rma_typelist.proofs.arrays.+part.Goals as goal

@@ -1,10 +1,10 @@
 use Rattle.std.proofs.Common.{◌≡◌, ◌^◌, ◌*ℤ◌, sym, ap, subst, ◌∙◌, arith, rules, to_z, of_z, FitsSigned}
 use Rattle.std.specs.Int.{w32, w128}
 use Rattle.std.proofs.lemmas.Int.{ints, to_z-of_z}
-use Rattle.rma_type.specs.Near.{IsNear}
-use Rattle.rma_type.specs.Space.{space}
-use Rattle.rma_type.specs.Constructors.{whole}
-use Rattle.rma_type.proofs.NearLemmas.{near_wider}
+use Rattle.rma_typemap.specs.Near.{IsNear}
+use Rattle.rma_typemap.specs.Space.{space}
+use Rattle.rma_typemap.specs.Constructors.{whole}
+use Rattle.rma_typemap.proofs.NearLemmas.{near_wider}
 use Rattle.rma_typelist.proofs.Wide.{kept, fits_near}
 use Rattle.rma_typelist.proofs.PartLemmas.{first_dimension, split, rest_parts, rest_small, whole_near}
 use Rattle.rma_typelist.proofs.arrays.+whole.Goals as goal

@@ -1,9 +1,9 @@
 use Rattle.std.proofs.Common.{◌≡◌, ◌^◌, ◌*◌, pos, ◌+ℤ◌, ◌*ℤ◌, ◌∙◌, sym, ap, subst, arith, to_z, of_z}
 use Rattle.std.specs.Int.{w128}
 use Rattle.std.proofs.lemmas.Int.{ints}
-use Rattle.rma_type.specs.Near.{IsNear}
-use Rattle.rma_type.specs.Space.{space}
-use Rattle.rma_type.proofs.NearLemmas.{near_wider, near_mul}
+use Rattle.rma_typemap.specs.Near.{IsNear}
+use Rattle.rma_typemap.specs.Space.{space}
+use Rattle.rma_typemap.proofs.NearLemmas.{near_wider, near_mul}
 use Rattle.rma_typelist.proofs.Wide.{kept}
 use Rattle.rma_typelist.proofs.arrays.row_start.Goals as goal
 

@@ -1,8 +1,8 @@
 use Rattle.std.proofs.Common.{◌≡◌, ◌^◌, ◌++◌, ℕ, ℤ, pos, ◌+ℤ◌, ◌*ℤ◌, List, map, flat_map, sym, ap, ◌∙◌, arith, rules, to_z, of_z, FitsSigned}
 use Rattle.std.specs.Int.{w32, w128}
 use Rattle.std.proofs.lemmas.Int.{to_z-of_z}
-use Rattle.rma_type.specs.Space.{space}
-use Rattle.rma_type.specs.Constructors.{times, numbers}
+use Rattle.rma_typemap.specs.Space.{space}
+use Rattle.rma_typemap.specs.Constructors.{times, numbers}
 use Rattle.rma_typelist.proofs.Wide.{kept}
 use Rattle.rma_typelist.proofs.PlaceLemmas.{flat_map-numbers-more}
 use Rattle.rma_typelist.proofs.arrays.spread.Goals as goal

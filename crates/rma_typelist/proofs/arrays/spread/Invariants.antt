@@ -1,5 +1,5 @@
 use Rattle.std.proofs.Common.{◌≡◌, ◌+ℤ◌, ◌*ℤ◌, map, flat_map}
-use Rattle.rma_type.specs.Constructors.{numbers}
+use Rattle.rma_typemap.specs.Constructors.{numbers}
 use Rattle.rma_typelist.proofs.arrays.spread.Given as goal
 
 abbrev pub invariant-loop-n : goal.invariant-loop-n

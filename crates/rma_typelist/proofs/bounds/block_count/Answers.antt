@@ -1,6 +1,6 @@
 use Rattle.std.proofs.Common.{arith, ap, sym, subst, IfSome, ◌^◌, ◌∙◌}
 use Rattle.std.specs.Option.{option_or}
-use Rattle.rma_type.specs.Near.{IsNear}
+use Rattle.rma_typemap.specs.Near.{IsNear}
 use Rattle.rma_typelist.specs.Folds.{blocks_at}
 use Rattle.rma_typelist.proofs.EntryLemmas.{some_entry, last_end-more, block_count-more, near_either}
 use Rattle.rma_typelist.proofs.bounds.block_count.Goals as goal

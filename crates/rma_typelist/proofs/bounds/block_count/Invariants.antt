@@ -1,6 +1,6 @@
 use Rattle.std.proofs.Common.{◌≡◌, ◌≤◌, ◌^◌, take, IfSome}
-use Rattle.rma_type.specs.Near.{IsNear}
-use Rattle.rma_type.specs.Typemap.{elements, block_count}
+use Rattle.rma_typemap.specs.Near.{IsNear}
+use Rattle.rma_typemap.specs.Typemap.{elements, block_count}
 use Rattle.rma_typelist.specs.Lists.{typemap_of}
 use Rattle.rma_typelist.specs.Folds.{last_end}
 use Rattle.rma_typelist.proofs.bounds.block_count.Given as goal

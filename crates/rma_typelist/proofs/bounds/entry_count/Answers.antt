@@ -1,6 +1,6 @@
 use Rattle.std.proofs.Common.{arith, ap, ◌∙◌}
 use Rattle.std.proofs.lemmas.List.{take_all}
-use Rattle.rma_type.specs.Bounds.{entry_count}
+use Rattle.rma_typemap.specs.Bounds.{entry_count}
 use Rattle.rma_typelist.specs.Lists.{typemap_of}
 use Rattle.rma_typelist.proofs.EntryLemmas.{some_entry, entry_count-more}
 use Rattle.rma_typelist.proofs.bounds.entry_count.Goals as goal

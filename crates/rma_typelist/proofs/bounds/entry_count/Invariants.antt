@@ -1,5 +1,5 @@
 use Rattle.std.proofs.Common.{◌≡◌, ◌≤◌, take, length}
-use Rattle.rma_type.specs.Typemap.{elements}
+use Rattle.rma_typemap.specs.Typemap.{elements}
 use Rattle.rma_typelist.specs.Lists.{typemap_of}
 use Rattle.rma_typelist.proofs.bounds.entry_count.Given as goal
 

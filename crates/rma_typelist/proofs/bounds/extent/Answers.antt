@@ -1,5 +1,5 @@
 use Rattle.std.proofs.Common.{◌-ℤ◌, ap, ◌∙◌}
-use Rattle.rma_type.specs.Bounds.{extent, upper_bound}
+use Rattle.rma_typemap.specs.Bounds.{extent, upper_bound}
 use Rattle.rma_typelist.specs.Lists.{typemap_of}
 use Rattle.rma_typelist.proofs.Wide.{difference_kept}
 use Rattle.rma_typelist.proofs.bounds.extent.Goals as goal

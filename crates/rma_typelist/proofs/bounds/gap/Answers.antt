@@ -1,7 +1,7 @@
 use Rattle.std.proofs.Common.{◌≡◌, sym, ap, arith, of_z}
 use Rattle.std.specs.Int.{w128}
 use Rattle.std.proofs.lemmas.Int.{ints}
-use Rattle.rma_type.proofs.ChainLemmas.{gap-same, gap-other}
+use Rattle.rma_typemap.proofs.ChainLemmas.{gap-same, gap-other}
 use Rattle.rma_typelist.proofs.bounds.gap.Goals as goal
 
 pub returns-then-start-end-clause-value : goal.returns-then-start-end-clause-value

@@ -1,7 +1,7 @@
 use Rattle.std.proofs.Common.{◌≡◌, ◌^◌, take, IfSome, map}
-use Rattle.rma_type.specs.Near.{IsNear}
-use Rattle.rma_type.specs.Typemap.{elements, end_of}
-use Rattle.rma_type.specs.Bounds.{greatest}
+use Rattle.rma_typemap.specs.Near.{IsNear}
+use Rattle.rma_typemap.specs.Typemap.{elements, end_of}
+use Rattle.rma_typemap.specs.Bounds.{greatest}
 use Rattle.rma_typelist.specs.Lists.{typemap_of}
 use Rattle.rma_typelist.proofs.bounds.greatest_end.Given as goal
 

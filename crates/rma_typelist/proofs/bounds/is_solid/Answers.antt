@@ -1,8 +1,8 @@
 use Rattle.std.proofs.Common.{ℕ, ℤ, Option, to_z, of_z, ◌^◌, ◌==◌, ◌&&◌, pos, ◌-ℤ◌, ap, sym, ◌∙◌, arith}
 use Rattle.std.specs.Int.{w128}
 use Rattle.std.specs.Ordering.{int_eq}
-use Rattle.rma_type.specs.Typemap.{elements, block_count}
-use Rattle.rma_type.specs.Bounds.{lower_bound, upper_bound, extent, size, is_solid}
+use Rattle.rma_typemap.specs.Typemap.{elements, block_count}
+use Rattle.rma_typemap.specs.Bounds.{lower_bound, upper_bound, extent, size, is_solid}
 use Rattle.rma_typelist.specs.Lists.{typemap_of}
 use Rattle.rma_typelist.specs.Folds.{reaches, first_start, last_end}
 use Rattle.rma_typelist.proofs.Wide.{kept}

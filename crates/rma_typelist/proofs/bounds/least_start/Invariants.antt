@@ -1,7 +1,7 @@
 use Rattle.std.proofs.Common.{◌≡◌, ◌^◌, take, IfSome, map}
-use Rattle.rma_type.specs.Near.{IsNear}
-use Rattle.rma_type.specs.Typemap.{elements, start_of}
-use Rattle.rma_type.specs.Bounds.{least}
+use Rattle.rma_typemap.specs.Near.{IsNear}
+use Rattle.rma_typemap.specs.Typemap.{elements, start_of}
+use Rattle.rma_typemap.specs.Bounds.{least}
 use Rattle.rma_typelist.specs.Lists.{typemap_of}
 use Rattle.rma_typelist.proofs.bounds.least_start.Given as goal
 

@@ -1,6 +1,6 @@
 use Rattle.std.proofs.Common.{◌^◌, map, None, ap, ◌∙◌, arith}
-use Rattle.rma_type.specs.Typemap.{elements, start_of}
-use Rattle.rma_type.specs.Bounds.{least, first_of_both, lower_bound}
+use Rattle.rma_typemap.specs.Typemap.{elements, start_of}
+use Rattle.rma_typemap.specs.Bounds.{least, first_of_both, lower_bound}
 use Rattle.rma_typelist.specs.Lists.{typemap_of}
 use Rattle.rma_typelist.proofs.Wide.{kept}
 use Rattle.rma_typelist.proofs.bounds.lower_bound.Goals as goal

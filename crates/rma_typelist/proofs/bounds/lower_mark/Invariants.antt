@@ -1,7 +1,7 @@
 use Rattle.std.proofs.Common.{◌≡◌, ◌^◌, take, IfSome}
-use Rattle.rma_type.specs.Near.{IsNear}
-use Rattle.rma_type.specs.Typemap.{lower_marks}
-use Rattle.rma_type.specs.Bounds.{least}
+use Rattle.rma_typemap.specs.Near.{IsNear}
+use Rattle.rma_typemap.specs.Typemap.{lower_marks}
+use Rattle.rma_typemap.specs.Bounds.{least}
 use Rattle.rma_typelist.specs.Lists.{typemap_of}
 use Rattle.rma_typelist.proofs.bounds.lower_mark.Given as goal
 

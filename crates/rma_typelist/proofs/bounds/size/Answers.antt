@@ -1,6 +1,6 @@
 use Rattle.std.proofs.Common.{arith, ap, ◌∙◌}
 use Rattle.std.proofs.lemmas.List.{take_all}
-use Rattle.rma_type.specs.Bounds.{size}
+use Rattle.rma_typemap.specs.Bounds.{size}
 use Rattle.rma_typelist.specs.Lists.{typemap_of}
 use Rattle.rma_typelist.proofs.EntryLemmas.{some_entry, size-more}
 use Rattle.rma_typelist.proofs.bounds.size.Goals as goal

@@ -1,6 +1,6 @@
 use Rattle.std.proofs.Common.{◌≡◌, ◌≤◌, ◌*◌, take, sum_by}
 use Rattle.rma_base.specs.Basics.{basic_size}
-use Rattle.rma_type.specs.Typemap.{elements}
+use Rattle.rma_typemap.specs.Typemap.{elements}
 use Rattle.rma_typelist.specs.Lists.{typemap_of}
 use Rattle.rma_typelist.proofs.bounds.size.Given as goal
 

@@ -1,7 +1,7 @@
 use Rattle.std.proofs.Common.{◌^◌, map, None, ap, ◌∙◌, arith, to_z, of_z}
 use Rattle.std.specs.Int.{w128}
-use Rattle.rma_type.specs.Typemap.{elements, end_of, alignment_of}
-use Rattle.rma_type.specs.Bounds.{greatest, first_of_both, raised, raised_where_there, lower_bound, upper_bound}
+use Rattle.rma_typemap.specs.Typemap.{elements, end_of, alignment_of}
+use Rattle.rma_typemap.specs.Bounds.{greatest, first_of_both, raised, raised_where_there, lower_bound, upper_bound}
 use Rattle.rma_typelist.specs.Lists.{typemap_of}
 use Rattle.rma_typelist.proofs.Wide.{kept}
 use Rattle.rma_typelist.proofs.EntryLemmas.{aligned_where_there}

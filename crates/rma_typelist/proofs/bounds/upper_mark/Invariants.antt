@@ -1,7 +1,7 @@
 use Rattle.std.proofs.Common.{◌≡◌, ◌^◌, take, IfSome}
-use Rattle.rma_type.specs.Near.{IsNear}
-use Rattle.rma_type.specs.Typemap.{upper_marks}
-use Rattle.rma_type.specs.Bounds.{greatest}
+use Rattle.rma_typemap.specs.Near.{IsNear}
+use Rattle.rma_typemap.specs.Typemap.{upper_marks}
+use Rattle.rma_typemap.specs.Bounds.{greatest}
 use Rattle.rma_typelist.specs.Lists.{typemap_of}
 use Rattle.rma_typelist.proofs.bounds.upper_mark.Given as goal
 

@@ -1,7 +1,7 @@
 use Rattle.std.proofs.Common.{◌≡◌, ◌^◌, pos, IfOk, ap, subst, ◌∙◌, arith}
-use Rattle.rma_type.specs.Typemap.{Typemap, copies_at}
-use Rattle.rma_type.specs.Bounds.{extent}
-use Rattle.rma_type.specs.Constructors.{byte_block_places, contiguous}
+use Rattle.rma_typemap.specs.Typemap.{Typemap, copies_at}
+use Rattle.rma_typemap.specs.Bounds.{extent}
+use Rattle.rma_typemap.specs.Constructors.{byte_block_places, contiguous}
 use Rattle.rma_typelist.specs.Lists.{typemap_of}
 use Rattle.rma_typelist.proofs.Wide.{kept}
 use Rattle.rma_typelist.proofs.PlaceLemmas.{row_from_zero}

@@ -1,7 +1,7 @@
 use Rattle.std.proofs.Common.{◌≡◌, ◌^◌, flat_map, IfOk, ap, subst, ◌∙◌, arith}
 use Rattle.rma_base.specs.declared.makes.ByteBlock.{ByteBlock}
-use Rattle.rma_type.specs.Typemap.{Typemap, copies_at}
-use Rattle.rma_type.specs.Constructors.{times, byte_block_places, hindexed}
+use Rattle.rma_typemap.specs.Typemap.{Typemap, copies_at}
+use Rattle.rma_typemap.specs.Constructors.{times, byte_block_places, hindexed}
 use Rattle.rma_typelist.specs.Lists.{typemap_of}
 use Rattle.rma_typelist.proofs.Wide.{kept}
 use Rattle.rma_typelist.proofs.constructors.hindexed.Goals as goal

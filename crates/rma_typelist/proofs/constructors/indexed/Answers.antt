@@ -1,7 +1,7 @@
 use Rattle.std.proofs.Common.{◌≡◌, ◌^◌, flat_map, IfOk, ap, subst, ◌∙◌, arith}
 use Rattle.rma_base.specs.declared.makes.Block.{Block}
-use Rattle.rma_type.specs.Typemap.{Typemap, copies_at}
-use Rattle.rma_type.specs.Constructors.{times, block_places, indexed}
+use Rattle.rma_typemap.specs.Typemap.{Typemap, copies_at}
+use Rattle.rma_typemap.specs.Constructors.{times, block_places, indexed}
 use Rattle.rma_typelist.specs.Lists.{typemap_of}
 use Rattle.rma_typelist.proofs.Wide.{kept}
 use Rattle.rma_typelist.proofs.constructors.indexed.Goals as goal

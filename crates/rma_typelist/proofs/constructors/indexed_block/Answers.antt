@@ -1,6 +1,6 @@
 use Rattle.std.proofs.Common.{◌≡◌, ◌^◌, ℤ, flat_map, IfOk, ap, subst, ◌∙◌, arith}
-use Rattle.rma_type.specs.Typemap.{Typemap, copies_at}
-use Rattle.rma_type.specs.Constructors.{block_places, indexed_block}
+use Rattle.rma_typemap.specs.Typemap.{Typemap, copies_at}
+use Rattle.rma_typemap.specs.Constructors.{block_places, indexed_block}
 use Rattle.rma_typelist.specs.Lists.{typemap_of}
 use Rattle.rma_typelist.proofs.Wide.{kept}
 use Rattle.rma_typelist.proofs.constructors.indexed_block.Goals as goal

@@ -2,8 +2,8 @@ use Rattle.std.proofs.Common.{◌++◌, length, get_or, take, map, List, sym, ap
 use Rattle.std.proofs.lemmas.List.{length_push}
 use Rattle.std.proofs.lemmas.Slice.Zip.{zip_turn, zip_end}
 use Rattle.rma_base.specs.declared.makes.Member.{Member}
-use Rattle.rma_type.specs.Typemap.{Typemap}
-use Rattle.rma_type.specs.Constructors.{members_of}
+use Rattle.rma_typemap.specs.Typemap.{Typemap}
+use Rattle.rma_typemap.specs.Constructors.{members_of}
 use Rattle.rma_typelist.specs.declared.entries.Entry.{Entry}
 use Rattle.rma_typelist.specs.Lists.{typemap_of}
 use Rattle.rma_typelist.proofs.MemberLemmas.{member_copies, members_of-more, members_of-all}

@@ -1,5 +1,5 @@
 use Rattle.std.proofs.Common.{◌≡◌, take, map, length}
-use Rattle.rma_type.specs.Constructors.{members_of}
+use Rattle.rma_typemap.specs.Constructors.{members_of}
 use Rattle.rma_typelist.specs.Lists.{typemap_of}
 use Rattle.rma_typelist.proofs.constructors.members.Given as goal
 

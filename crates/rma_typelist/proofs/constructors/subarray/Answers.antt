@@ -1,9 +1,9 @@
 use Rattle.std.proofs.Common.{◌≡◌, ◌^◌, ℤ, pos, ◌*ℤ◌, List, map, IfOk, ap, subst, ◌∙◌, arith, to_z, of_z}
 use Rattle.std.specs.Int.{w128}
-use Rattle.rma_type.specs.Space.{space}
-use Rattle.rma_type.specs.Typemap.{Typemap, copies_at}
-use Rattle.rma_type.specs.Bounds.{extent}
-use Rattle.rma_type.specs.Constructors.{whole, places, with_bounds, subarray}
+use Rattle.rma_typemap.specs.Space.{space}
+use Rattle.rma_typemap.specs.Typemap.{Typemap, copies_at}
+use Rattle.rma_typemap.specs.Bounds.{extent}
+use Rattle.rma_typemap.specs.Constructors.{whole, places, with_bounds, subarray}
 use Rattle.rma_typelist.specs.Lists.{typemap_of}
 use Rattle.rma_typelist.proofs.Wide.{kept}
 use Rattle.rma_typelist.proofs.constructors.subarray.Goals as goal

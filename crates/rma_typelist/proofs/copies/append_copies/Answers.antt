@@ -1,6 +1,6 @@
 use Rattle.std.proofs.Common.{◌^◌, ◌++◌, pos, get_or, take, sym, ap, ◌∙◌, arith}
 use Rattle.std.proofs.lemmas.List.{append_assoc}
-use Rattle.rma_type.specs.Typemap.{copy_at, copies_at}
+use Rattle.rma_typemap.specs.Typemap.{copy_at, copies_at}
 use Rattle.rma_typelist.specs.Lists.{typemap_of}
 use Rattle.rma_typelist.proofs.Wide.{kept}
 use Rattle.rma_typelist.proofs.CopyLemmas.{copies_at-more}

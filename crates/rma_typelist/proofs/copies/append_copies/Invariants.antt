@@ -1,5 +1,5 @@
 use Rattle.std.proofs.Common.{◌≡◌, ◌++◌, take}
-use Rattle.rma_type.specs.Typemap.{copies_at}
+use Rattle.rma_typemap.specs.Typemap.{copies_at}
 use Rattle.rma_typelist.specs.Lists.{typemap_of}
 use Rattle.rma_typelist.proofs.copies.append_copies.Given as goal
 

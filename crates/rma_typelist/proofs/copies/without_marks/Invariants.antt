@@ -1,5 +1,5 @@
 use Rattle.std.proofs.Common.{◌≡◌, take}
-use Rattle.rma_type.specs.Constructors.{without_marks}
+use Rattle.rma_typemap.specs.Constructors.{without_marks}
 use Rattle.rma_typelist.specs.Lists.{typemap_of}
 use Rattle.rma_typelist.proofs.copies.without_marks.Given as goal
 

@@ -1,8 +1,8 @@
 use Rattle.std.proofs.Common.{◌≡◌, List, true, sym, ap, subst, ◌∙◌}
 use Rattle.std.specs.List.{list_all}
 use Rattle.rma_base.specs.declared.makes.Dimension.{Dimension}
-use Rattle.rma_type.specs.Arrays.{is_part}
-use Rattle.rma_type.specs.Constructors.{slowest_first}
+use Rattle.rma_typemap.specs.Arrays.{is_part}
+use Rattle.rma_typemap.specs.Constructors.{slowest_first}
 use Rattle.rma_type.specs.Tables.{breaks_array}
 use Rattle.rma_typelist.proofs.PartLemmas.{all_slowest_first, true_where_not_false}
 use Rattle.rma_typelist.proofs.makes.constructed.Goals as goal

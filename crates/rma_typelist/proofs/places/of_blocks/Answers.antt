@@ -2,7 +2,7 @@ use Rattle.std.proofs.Common.{◌≡◌, ◌^◌, ◌++◌, ℕ, ℤ, pos, ◌*�
 use Rattle.std.specs.Int.{w32, w128}
 use Rattle.std.proofs.lemmas.Int.{to_z-of_z}
 use Rattle.rma_base.specs.declared.makes.Block.{Block}
-use Rattle.rma_type.specs.Constructors.{times, block_places, byte_block_places}
+use Rattle.rma_typemap.specs.Constructors.{times, block_places, byte_block_places}
 use Rattle.rma_typelist.proofs.Wide.{kept}
 use Rattle.std.proofs.lemmas.List.{take_all}
 use Rattle.rma_typelist.proofs.PlaceLemmas.{block_as_row, flat_map-more}

@@ -1,8 +1,8 @@
 use Rattle.std.proofs.Common.{◌≡◌, ◌^◌, take, flat_map}
 use Rattle.std.specs.List.{All}
 use Rattle.rma_base.specs.declared.makes.Block.{Block}
-use Rattle.rma_type.specs.Near.{IsNear}
-use Rattle.rma_type.specs.Constructors.{times, block_places}
+use Rattle.rma_typemap.specs.Near.{IsNear}
+use Rattle.rma_typemap.specs.Constructors.{times, block_places}
 use Rattle.rma_typelist.proofs.places.of_blocks.Given as goal
 
 abbrev pub invariant-loop-block : goal.invariant-loop-block

@@ -2,7 +2,7 @@ use Rattle.std.proofs.Common.{◌≡◌, ◌^◌, ◌++◌, ℕ, ℤ, pos, List,
 use Rattle.std.specs.Int.{w32, w64, w128}
 use Rattle.std.proofs.lemmas.Int.{ints, to_z-of_z}
 use Rattle.rma_base.specs.declared.makes.ByteBlock.{ByteBlock}
-use Rattle.rma_type.specs.Constructors.{times, byte_block_places}
+use Rattle.rma_typemap.specs.Constructors.{times, byte_block_places}
 use Rattle.std.proofs.lemmas.List.{take_all}
 use Rattle.rma_typelist.proofs.Wide.{kept}
 use Rattle.rma_typelist.proofs.PlaceLemmas.{flat_map-more}

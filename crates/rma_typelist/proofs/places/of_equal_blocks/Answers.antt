@@ -1,7 +1,7 @@
 use Rattle.std.proofs.Common.{◌≡◌, ◌^◌, ◌++◌, ℤ, pos, ◌*ℤ◌, List, flat_map, get_or, sym, ap, ◌∙◌, arith, rules, to_z, of_z, FitsSigned}
 use Rattle.std.specs.Int.{w32, w128}
 use Rattle.std.proofs.lemmas.Int.{to_z-of_z}
-use Rattle.rma_type.specs.Constructors.{block_places, byte_block_places}
+use Rattle.rma_typemap.specs.Constructors.{block_places, byte_block_places}
 use Rattle.rma_typelist.proofs.Wide.{kept}
 use Rattle.std.proofs.lemmas.List.{take_all}
 use Rattle.rma_typelist.proofs.PlaceLemmas.{block_as_row, flat_map-more}

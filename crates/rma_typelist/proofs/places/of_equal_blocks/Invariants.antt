@@ -1,7 +1,7 @@
 use Rattle.std.proofs.Common.{◌≡◌, ◌^◌, take, flat_map}
 use Rattle.std.specs.List.{All}
-use Rattle.rma_type.specs.Near.{IsNear}
-use Rattle.rma_type.specs.Constructors.{block_places}
+use Rattle.rma_typemap.specs.Near.{IsNear}
+use Rattle.rma_typemap.specs.Constructors.{block_places}
 use Rattle.rma_typelist.proofs.places.of_equal_blocks.Given as goal
 
 abbrev pub invariant-loop-displacement : goal.invariant-loop-displacement

@@ -1,6 +1,6 @@
 use Rattle.std.proofs.Common.{◌≡◌, ◌^◌, ◌*ℤ◌, take, map}
 use Rattle.std.specs.List.{All}
-use Rattle.rma_type.specs.Near.{IsNear}
+use Rattle.rma_typemap.specs.Near.{IsNear}
 use Rattle.rma_typelist.proofs.places.of_numbers.Given as goal
 
 abbrev pub invariant-loop-number : goal.invariant-loop-number

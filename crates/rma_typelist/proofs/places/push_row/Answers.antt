@@ -3,8 +3,8 @@ use Rattle.std.specs.Int.{w128}
 use Rattle.std.specs.List.{All}
 use Rattle.std.proofs.lemmas.List.{append_assoc}
 use Rattle.std.proofs.lemmas.List.Elements.{All-push}
-use Rattle.rma_type.specs.Near.{IsNear}
-use Rattle.rma_type.specs.Constructors.{byte_block_places}
+use Rattle.rma_typemap.specs.Near.{IsNear}
+use Rattle.rma_typemap.specs.Constructors.{byte_block_places}
 use Rattle.rma_typelist.proofs.Wide.{kept}
 use Rattle.rma_typelist.proofs.PlaceLemmas.{row-more}
 use Rattle.rma_typelist.proofs.places.push_row.Goals as goal

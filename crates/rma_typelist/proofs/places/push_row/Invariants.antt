@@ -1,7 +1,7 @@
 use Rattle.std.proofs.Common.{◌≡◌, ◌^◌, ◌++◌}
 use Rattle.std.specs.List.{All}
-use Rattle.rma_type.specs.Near.{IsNear}
-use Rattle.rma_type.specs.Constructors.{byte_block_places}
+use Rattle.rma_typemap.specs.Near.{IsNear}
+use Rattle.rma_typemap.specs.Constructors.{byte_block_places}
 use Rattle.rma_typelist.proofs.places.push_row.Given as goal
 
 abbrev pub invariant-loop-n : goal.invariant-loop-n

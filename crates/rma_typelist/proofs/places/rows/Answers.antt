@@ -1,6 +1,6 @@
 use Rattle.std.proofs.Common.{◌≡◌, ◌^◌, ◌++◌, ℤ, pos, ◌*ℤ◌, List, flat_map, sym, ap, ◌∙◌, arith, to_z, of_z}
 use Rattle.std.specs.Int.{w128}
-use Rattle.rma_type.specs.Constructors.{byte_block_places, numbers}
+use Rattle.rma_typemap.specs.Constructors.{byte_block_places, numbers}
 use Rattle.rma_typelist.proofs.Wide.{kept}
 use Rattle.rma_typelist.proofs.PlaceLemmas.{flat_map-numbers-more}
 use Rattle.rma_typelist.proofs.places.rows.Goals as goal

@@ -1,8 +1,8 @@
 use Rattle.std.proofs.Common.{◌^◌, ◌*◌, ◌*ℤ◌, ◌∙◌, sym, ap, subst, arith, to_z, of_z}
 use Rattle.std.specs.Int.{w32, w128}
 use Rattle.std.proofs.lemmas.Int.{ints, to_z-of_z}
-use Rattle.rma_type.specs.Near.{IsNear}
-use Rattle.rma_type.proofs.NearLemmas.{near_wider, near_mul}
+use Rattle.rma_typemap.specs.Near.{IsNear}
+use Rattle.rma_typemap.proofs.NearLemmas.{near_wider, near_mul}
 use Rattle.rma_typelist.proofs.Wide.{kept}
 use Rattle.rma_typelist.proofs.places.scaled.Goals as goal
 
