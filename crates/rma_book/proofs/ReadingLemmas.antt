@@ -1,10 +1,10 @@
 -- A reader and one line more.
-use Rattle.std.proofs.Common.{◌≡◌, ℕ, zero, suc, ◌+◌, ◌<◌, ◌≤◌, List, [], ◌∷◌, ◌++◌, length, take, slice_get, Option, Some, None, Result, Ok, Err, true, false, is_some, refl, sym, ap, subst, ◌∙◌, ◌⊎◌, inl, inr, ⊎_elim, arith}
+use Rattle.std.proofs.Common.{◌≡◌, Bool, ℕ, zero, suc, ◌+◌, ◌<◌, ◌≤◌, List, [], ◌∷◌, ◌++◌, length, take, slice_get, Option, Some, None, Result, Ok, Err, true, false, is_some, refl, sym, ap, subst, ◌∙◌, ◌⊎◌, inl, inr, ⊎_elim, arith}
 use Rattle.std.specs.Result.{OnOk}
-use Rattle.std.proofs.lemmas.List.{append_assoc, append-nil}
+use Rattle.std.proofs.lemmas.List.{append_assoc, append-nil, length-take, take_more}
 use Rattle.std.proofs.lemmas.Bool.{false≢true}
 use Rattle.std.proofs.Math.Seq.{take-length}
-use Rattle.std.proofs.lemmas.Option.{slice_get_within}
+use Rattle.std.proofs.lemmas.Option.{slice_get_within, get_or_from_slice_get}
 use Rattle.rma_base.specs.declared.reasons.FormReason.{FormReason}
 use Rattle.rma_parse.specs.declared.events.Stated.{Stated}
 use Rattle.rma_book.specs.Logs.{Checked, AreGood, IsFirstBad, entries, entries_from, entry_of, says, line_reason, judged}
@@ -12,7 +12,12 @@ use Rattle.rma_book.specs.declared.faults.FormFault.{FormFault}
 use Rattle.rma_base.specs.declared.lines.LineNo.{LineNo}
 use Rattle.rma_book.specs.Calls.{Entry, events_of}
 use Rattle.rma_book.specs.Judging.{reason_of}
-use Rattle.rma_book.specs.Reading.{HasTaken, HasRead, IsBehind}
+use Rattle.rma_lex.specs.Checked.{checked_lines, checked_with}
+use Rattle.rma_lex.specs.Lines.{lines, has_open_end}
+use Rattle.rma_lex.specs.Cutting.{Cutting}
+use Rattle.rma_lex.specs.Cutting as cutting
+use Rattle.rma_lex.proofs.StayLemmas.{checked_stay}
+use Rattle.rma_book.specs.Reading.{HasTaken, HasRead, IsBehind, IsReading}
 use Rattle.rma_book.specs.declared.readers.Reader.{Reader}
 use Rattle.rma_book.specs.Standing.{Standing, StandsFor}
 
@@ -155,3 +160,52 @@ OnOk-then (Err e) h f = h
 pub none_from : {X : Type 0} → (o : Option X) → is_some o ≡ false → o ≡ None
 none_from None h = refl
 none_from (Some x) h = absurd (false≢true (sym h))
+
+-- ---- a cutter and the lines that it hands out
+
+-- the lines in front of the next one
+pub lines_before : (n : ℕ) (lines : List Checked) (line : Checked) → slice_get lines n ≡ Some line → length (take n lines) ≡ n
+lines_before n lines line found = let below = slice_get_within lines n line found in simp length-take (omega (arith, below))
+
+take_found : (n : ℕ) (lines : List Checked) (line : Checked) → slice_get lines n ≡ Some line → take (n + 1) lines ≡ more (take n lines) line
+take_found n lines line found = take_more lines n line (slice_get_within lines n line found) ∙ ap (λ it. take n lines ++ it ∷ []) (get_or_from_slice_get lines n line line found)
+
+-- the cutter handed out a line, and the reader read it
+pub IsReading-more : (rank logs : ℕ) (before after : Cutting) (text : List ℕ) (line : Checked) (reader : Reader) → cutting.StandsFor after text
+    → slice_get (checked_lines text) before.handed ≡ Some line → after.handed ≡ before.handed + 1
+    → HasRead rank logs (more (take before.handed (checked_lines text)) line) reader → IsReading rank logs after text reader
+IsReading-more rank logs before after text line reader stands found one h = record {
+  stands_for = stands;
+  read = subst (λ lines. HasRead rank logs lines reader) (sym (ap (λ n. take n (checked_lines text)) one ∙ take_found before.handed (checked_lines text) line found)) h;
+}
+
+-- a piece more leaves what was read as it is
+pub IsReading-fed : (rank logs : ℕ) (before after : Cutting) (text piece : List ℕ) (reader : Reader) → before.closed ≡ false → after.handed ≡ before.handed
+    → cutting.StandsFor after (text ++ piece) → IsReading rank logs before text reader → IsReading rank logs after (text ++ piece) reader
+IsReading-fed rank logs before after text piece reader goes_on same stands h = record {
+  stands_for = stands;
+  read = subst (λ lines. HasRead rank logs lines reader)
+      (sym (ap (λ n. take n (checked_lines (text ++ piece))) same ∙ checked_stay before.handed text piece (h.stands_for.whole goes_on))) h.read;
+}
+
+-- the end of the text leaves what was read as it is
+pub IsReading-closed : (rank logs : ℕ) (before after : Cutting) (text : List ℕ) (reader : Reader) → after.handed ≡ before.handed → cutting.StandsFor after text
+    → IsReading rank logs before text reader → IsReading rank logs after text reader
+IsReading-closed rank logs before after text reader same stands h = record {
+  stands_for = stands;
+  read = subst (λ n. HasRead rank logs (take n (checked_lines text)) reader) (sym same) h.read;
+}
+
+length-checked_with : (open_end : Bool) (them : List (List ℕ)) → length (checked_with open_end them) ≡ length them
+length-checked_with open_end [] = refl
+length-checked_with open_end (line ∷ []) = refl
+length-checked_with open_end (line ∷ next ∷ rest) = ap suc (length-checked_with open_end (next ∷ rest))
+
+pub length-checked_lines : (text : List ℕ) → length (checked_lines text) ≡ length (lines text)
+length-checked_lines text = length-checked_with (has_open_end text) (lines text)
+
+-- all lines were read
+pub IsReading-all : (rank logs : ℕ) (cutter : Cutting) (text : List ℕ) (reader : Reader) → cutter.handed ≡ length (lines text) → IsReading rank logs cutter text reader
+    → HasRead rank logs (checked_lines text) reader
+IsReading-all rank logs cutter text reader all h =
+    subst (λ them. HasRead rank logs them reader) (ap (λ n. take n (checked_lines text)) (all ∙ sym (length-checked_lines text)) ∙ take-length (checked_lines text)) h.read

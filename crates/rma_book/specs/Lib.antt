@@ -4,3 +4,5 @@ pub mod Calls
 pub mod Standing
 pub mod Logs
 pub mod Reading
+pub mod Ends
+pub mod RankReading

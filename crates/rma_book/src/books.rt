@@ -18,7 +18,7 @@ use rma_base::rank_sets::RankSet;
 use rma_base::ranks::Rank;
 use rma_base::reasons::FormReason;
 use rma_base::sites::Site;
-use rma_call::calls::{Call, FrameCall, SyncCall, What, WindowCall};
+use rma_call::calls::{Call, FrameCall, RankCalls, SyncCall, What, WindowCall};
 use rma_parse::events::{Event, Frame, Stated, Window};
 use std::alloc::Global;
 use std::marker::Model;
@@ -81,6 +81,17 @@ impl Book {
         ensures { result.now ≡ self.now.calls }
     {
         self.calls.as_slice()
+    }
+
+    /// The calls of the lines that the book took, of which this is the end.
+    pub fn into_calls(self, end: LineNo) -> RankCalls
+        ensures { result ≡ record { rank = record { 0 = self.rank }; calls = self.calls; end = end } }
+    {
+        RankCalls {
+            rank: self.rank,
+            calls: self.calls,
+            end,
+        }
     }
 
     /// The line of the end of the log, where the book took it.

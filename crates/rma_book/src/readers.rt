@@ -3,11 +3,12 @@ ghost use Rattle.std.specs.Prelude.{◌≡◌, ℕ, ◌+◌, ◌<◌, List, ◌+
 ghost use Rattle.rma_lex.specs.Told.{told, number};
 ghost use Rattle.rma_lex.specs.Lines.{lines};
 ghost use Rattle.rma_lex.specs.Cutting.{StandsFor};
+ghost use Rattle.rma_book.specs.Ends.{IsEnd};
 ghost use Rattle.rma_book.specs.Logs.{Checked, says};
 ghost use Rattle.rma_book.specs.Reading.{HasRead, IsReading};
 
 use crate::books::Book;
-use crate::faults::FormFault;
+use crate::faults::{BookEnd, FormFault};
 use rma_base::allocation::Memory;
 use rma_base::lines::LineNo;
 use rma_base::reasons::FormReason;
@@ -76,5 +77,51 @@ impl Reader {
         ensures { self.new ≡ record self.old { fault = Some (record { line = line; reason = reason }) } }
     {
         self.fault = Some(FormFault { line, reason });
+    }
+
+    /// All lines were read: what they come to, where this is the line behind the last.
+    pub(crate) fn end(self, behind: LineNo) -> BookEnd
+        ensures { (rank logs : ℕ) (lines : List Checked) → behind.0 ≡ length lines + 1 → HasRead rank logs lines self → IsEnd rank logs lines result }
+    {
+        match (self.fault, self.book.end()) {
+            (Some(fault), _) => BookEnd::Fault(fault),
+            (None, None) => BookEnd::Fault(FormFault {
+                line: behind,
+                reason: FormReason::MissingEnd,
+            }),
+            (None, Some(end)) => BookEnd::Calls(self.book.into_calls(end)),
+        }
+    }
+}
+
+/// Reads the whole lines that are left.
+pub(crate) fn read_lines(
+    alloc: Global,
+    cutter: &mut LineCutter,
+    reader: &mut Reader,
+) -> Result<(), Memory>
+    ensures read { OnOk result ((rank logs : ℕ) (text : List ℕ) → IsReading rank logs cutter.old text reader.old → IsReading rank logs cutter.new text reader.new) }
+    ensures all { OnOk result ((text : List ℕ) → StandsFor cutter.new text → cutter.new.closed ≡ true → cutter.new.handed ≡ length (lines text)) }
+    ensures closed { OnOk result (cutter.new.closed ≡ cutter.old.closed) }
+    ensures fed { OnOk result (cutter.new.fed ≡ cutter.old.fed) }
+{
+    'lines: while read_next(alloc, cutter, reader)? {}
+    Ok(())
+}
+
+// Reads the next line, if a whole one is left, and says whether one was.
+fn read_next(alloc: Global, cutter: &mut LineCutter, reader: &mut Reader) -> Result<bool, Memory>
+    ensures read { OnOk result ((rank logs : ℕ) (text : List ℕ) → IsReading rank logs cutter.old text reader.old → IsReading rank logs cutter.new text reader.new) }
+    ensures all { IfOk result (λ more. more ≡ false → (text : List ℕ) → StandsFor cutter.new text → cutter.new.closed ≡ true → cutter.new.handed ≡ length (lines text)) }
+    ensures smaller { IfOk result (λ more. more ≡ true → length cutter.new.rest < length cutter.old.rest) }
+    ensures closed { OnOk result (cutter.new.closed ≡ cutter.old.closed) }
+    ensures fed { OnOk result (cutter.new.fed ≡ cutter.old.fed) }
+{
+    match cutter.next_line() {
+        Some(found) => {
+            reader.read(alloc, found)?;
+            Ok(true)
+        }
+        None => Ok(false),
     }
 }

@@ -1,0 +1,97 @@
+//! The log of one rank, as its bytes come.
+ghost use Rattle.std.specs.Prelude.{◌≡◌, ℕ, ◌+◌, ◌≤◌, List, [], ◌++◌, length, IfOk, OnOk, false};
+ghost use Rattle.rma_lex.specs.Checked.{checked_lines};
+ghost use Rattle.rma_lex.specs.Lines.{lines};
+ghost use Rattle.rma_book.specs.Ends.{IsEnd};
+ghost use Rattle.rma_book.specs.RankReading.{StandsFor};
+
+use crate::books::Book;
+use crate::faults::{BookEnd, FormFault};
+use crate::readers::{Reader, read_lines};
+use rma_base::allocation::Memory;
+use rma_base::limits::FED;
+use rma_base::lines::LineNo;
+use rma_base::ranks::Rank;
+use rma_base::reasons::FormReason;
+use rma_lex::cutter::LineCutter;
+use std::alloc::Global;
+use std::marker::Model;
+
+/// The log of one rank: the book of its good lines, its first bad line, and the rest that is no whole line yet.
+#[derive(Drop)]
+pub struct RankBook {
+    alloc: Global,
+    cutter: LineCutter,
+    reader: Reader,
+}
+
+impl Model for RankBook {
+    ghost use Rattle.rma_book.specs.RankReading.{RankReading};
+
+    ghost Value = { RankReading };
+
+    ghost view = { λ log. record { text = log.cutter; book = log.reader.book; fault = log.reader.fault } };
+}
+
+impl RankBook {
+    /// The book of a rank among so many logs, which was fed nothing.
+    pub fn new(alloc: Global, rank: Rank, logs: u32) -> Result<RankBook, Memory>
+        ensures { IfOk result (λ log. StandsFor rank.0 logs log []) }
+    {
+        Ok(RankBook {
+            alloc,
+            cutter: LineCutter::new(alloc),
+            reader: Reader {
+                book: Book::new(alloc, rank, logs)?,
+                fault: None,
+            },
+        })
+    }
+
+    /// How many bytes it was fed.
+    pub fn fed(&self) -> u64
+        ensures fed { result ≡ self.now.text.fed }
+        ensures limit { result ≤ FED }
+    {
+        self.cutter.fed()
+    }
+
+    /// Reads the next piece of the log.
+    ///
+    /// # Errors
+    ///
+    /// `Memory` where memory ran out: the book no longer stands for what it was fed.
+    pub fn feed(&mut self, piece: &[u8]) -> Result<(), Memory>
+        requires goes_on { self.old.text.closed ≡ false }
+        requires fits { self.old.text.fed + length piece.now ≤ FED }
+        ensures text { OnOk result ((rank logs : ℕ) (bytes : List ℕ) → StandsFor rank logs self.old bytes → StandsFor rank logs self.new (bytes ++ piece.now)) }
+        ensures fed { OnOk result (self.new.text.fed ≡ self.old.text.fed + length piece.now) }
+        ensures open { OnOk result (self.new.text.closed ≡ false) }
+    {
+        self.cutter.feed(piece)?;
+        read_lines(self.alloc, &mut self.cutter, &mut self.reader)?;
+        Ok(())
+    }
+
+    /// How many lines the log has so far, a last one without a line feed too.
+    pub fn lines(&self) -> u32
+        ensures text { (rank logs : ℕ) (bytes : List ℕ) → StandsFor rank logs self.now bytes → result ≡ length (lines bytes) }
+        ensures bound { result ≤ FED }
+    {
+        self.cutter.lines()
+    }
+
+    /// The log has ended: its calls, or its first bad line.
+    ///
+    /// # Errors
+    ///
+    /// `Memory` where memory ran out.
+    pub fn end(mut self) -> Result<BookEnd, Memory>
+        ensures { IfOk result (λ end. (rank logs : ℕ) (bytes : List ℕ) → StandsFor rank logs self bytes → IsEnd rank logs (checked_lines bytes) end) }
+    {
+        self.cutter.close();
+        read_lines(self.alloc, &mut self.cutter, &mut self.reader)?;
+        let behind = LineNo(self.cutter.lines() + 1);
+        Ok(self.reader.end(behind))
+    }
+}
