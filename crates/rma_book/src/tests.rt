@@ -1,184 +1,171 @@
-//! Which events of a log are good.
-use crate::books::Book;
-use rma_base::lines::LineNo;
+//! What whole logs come to.
+use crate::faults::BookEnd;
+use crate::rank_books::RankBook;
+use rma_base::limits::FED;
 use rma_base::ranks::Rank;
 use rma_base::reasons::FormReason;
-use rma_parse::reading::parse_line;
 use std::alloc::Global;
+use std::process::Abort;
 use std::test::Fail;
 
-/// The lines of a log of rank 1 among 3, the number of calls, and the first bad line with its reason.
+/// The log of rank 1 among 3, and the number of its calls, or its first bad line with its reason.
 struct Case {
-    lines: &'static [&'static str],
-    calls: usize,
-    bad: Option<(u32, FormReason)>,
+    log: &'static str,
+    end: Result<usize, (u32, FormReason)>,
 }
 
-const HEADER: &str = "rma 1 1 3";
-
-const CASES: [Case; 20] = [
+static CASES: [Case; 30] = [
     Case {
-        lines: &[
-            HEADER,
-            "comm C 0,1",
-            "barrier C",
-            "win create W C 0 8 1 unified same_op",
-            "win free W",
-            "end",
-        ],
-        calls: 4,
-        bad: None,
+        log: "rma 1 1 3\ncomm C 0,1\nbarrier C\nwin create W C 0 8 1 unified same_op\nwin free W\nend\n",
+        end: Ok(4),
     },
     Case {
-        lines: &["barrier world"],
-        calls: 0,
-        bad: Some((1, FormReason::BadHeader)),
+        log: "barrier world\nend\n",
+        end: Err((1, FormReason::BadHeader)),
     },
     Case {
-        lines: &["end"],
-        calls: 0,
-        bad: Some((1, FormReason::BadHeader)),
+        log: "end\nend\n",
+        end: Err((1, FormReason::BadHeader)),
     },
     Case {
-        lines: &[HEADER, HEADER],
-        calls: 0,
-        bad: Some((2, FormReason::BadHeader)),
+        log: "rma 1 1 3\nrma 1 1 3\nend\n",
+        end: Err((2, FormReason::BadHeader)),
     },
     Case {
-        lines: &[HEADER, "end", HEADER],
-        calls: 0,
-        bad: Some((3, FormReason::BadHeader)),
+        log: "rma 1 1 3\nend\nrma 1 1 3\nend\n",
+        end: Err((3, FormReason::BadHeader)),
     },
     Case {
-        lines: &["rma 1 0 3"],
-        calls: 0,
-        bad: Some((1, FormReason::WrongHeader)),
+        log: "rma 1 0 3\nend\n",
+        end: Err((1, FormReason::WrongHeader)),
     },
     Case {
-        lines: &["rma 1 1 2"],
-        calls: 0,
-        bad: Some((1, FormReason::WrongHeader)),
+        log: "rma 1 1 2\nend\n",
+        end: Err((1, FormReason::WrongHeader)),
     },
     Case {
-        lines: &[HEADER, "end", "barrier nowhere"],
-        calls: 0,
-        bad: Some((3, FormReason::AfterEnd)),
+        log: "rma 1 1 3\nend\nbarrier nowhere\nend\n",
+        end: Err((3, FormReason::AfterEnd)),
     },
     Case {
-        lines: &[HEADER, "barrier world", "barrier C"],
-        calls: 1,
-        bad: Some((3, FormReason::UnknownComm)),
+        log: "rma 1 1 3\nbarrier world\nbarrier C\nend\n",
+        end: Err((3, FormReason::UnknownComm)),
     },
     Case {
-        lines: &[HEADER, "win create W C 281474976710656 1 1 unified same_op"],
-        calls: 0,
-        bad: Some((2, FormReason::UnknownComm)),
+        log: "rma 1 1 3\nwin create W C 281474976710656 1 1 unified same_op\nend\n",
+        end: Err((2, FormReason::UnknownComm)),
     },
     Case {
-        lines: &[HEADER, "win free W"],
-        calls: 0,
-        bad: Some((2, FormReason::UnknownWindow)),
+        log: "rma 1 1 3\nwin free W\nend\n",
+        end: Err((2, FormReason::UnknownWindow)),
     },
     Case {
-        lines: &[
-            HEADER,
-            "win create W world 0 8 1 unified same_op",
-            "win free W",
-            "win free W",
-        ],
-        calls: 2,
-        bad: Some((4, FormReason::UnknownWindow)),
+        log: "rma 1 1 3\nwin create W world 0 8 1 unified same_op\nwin free W\nwin free W\nend\n",
+        end: Err((4, FormReason::UnknownWindow)),
     },
     Case {
-        lines: &[HEADER, "comm world 0,1,2"],
-        calls: 0,
-        bad: Some((2, FormReason::NameInUse)),
+        log: "rma 1 1 3\ncomm world 0,1,2\nend\n",
+        end: Err((2, FormReason::NameInUse)),
     },
     Case {
-        lines: &[HEADER, "comm C 1", "comm C 9"],
-        calls: 1,
-        bad: Some((3, FormReason::NameInUse)),
+        log: "rma 1 1 3\ncomm C 1\ncomm C 9\nend\n",
+        end: Err((3, FormReason::NameInUse)),
     },
     Case {
-        lines: &[
-            HEADER,
-            "win create W world 0 8 1 unified same_op",
-            "win free W",
-            "win create W world 0 8 1 unified same_op",
-        ],
-        calls: 2,
-        bad: Some((4, FormReason::NameInUse)),
+        log: "rma 1 1 3\nwin create W world 0 8 1 unified same_op\nwin free W\nwin create W world 0 8 1 unified same_op\nend\n",
+        end: Err((4, FormReason::NameInUse)),
     },
     Case {
-        lines: &[
-            HEADER,
-            "win create C world 0 8 1 unified same_op",
-            "comm C 1",
-            "barrier C",
-        ],
-        calls: 3,
-        bad: None,
+        log: "rma 1 1 3\nwin create C world 0 8 1 unified same_op\ncomm C 1\nbarrier C\nend\n",
+        end: Ok(3),
     },
     Case {
-        lines: &[HEADER, "comm C 0,3"],
-        calls: 0,
-        bad: Some((2, FormReason::RankTooLarge)),
+        log: "rma 1 1 3\ncomm C 0,3\nend\n",
+        end: Err((2, FormReason::RankTooLarge)),
     },
     Case {
-        lines: &[HEADER, "comm C none"],
-        calls: 0,
-        bad: Some((2, FormReason::NotInGroup)),
+        log: "rma 1 1 3\ncomm C none\nend\n",
+        end: Err((2, FormReason::NotInGroup)),
     },
     Case {
-        lines: &[
-            HEADER,
-            "win create W world 281474976710656 0 1 unified same_op",
-        ],
-        calls: 1,
-        bad: None,
+        log: "rma 1 1 3\nwin create W world 281474976710656 0 1 unified same_op\nend\n",
+        end: Ok(1),
     },
     Case {
-        lines: &[
-            HEADER,
-            "win create W world 281474976710656 1 1 unified same_op",
-        ],
-        calls: 0,
-        bad: Some((2, FormReason::OutOfSpace)),
+        log: "rma 1 1 3\nwin create W world 281474976710656 1 1 unified same_op\nend\n",
+        end: Err((2, FormReason::OutOfSpace)),
+    },
+    Case {
+        log: "",
+        end: Err((1, FormReason::MissingEnd)),
+    },
+    Case {
+        log: "rma 1 1 3",
+        end: Err((2, FormReason::MissingEnd)),
+    },
+    Case {
+        log: "rma 1 1 3\nbarrier world\n",
+        end: Err((3, FormReason::MissingEnd)),
+    },
+    Case {
+        log: "rma 1 1 3\nen",
+        end: Err((2, FormReason::UnknownVerb)),
+    },
+    Case {
+        log: "# a\r\n\n\trma 1 0x1 3 @s\r\n barrier\tworld  @halo.c:7 \nend",
+        end: Ok(1),
+    },
+    Case {
+        log: "# a\r\nrma 1 1 3\nend\r",
+        end: Err((3, FormReason::BadByte)),
+    },
+    Case {
+        log: "rma 1 1 3\n# \u{7f}\nend\n",
+        end: Err((2, FormReason::BadByte)),
+    },
+    Case {
+        log: "rma 1 1 3\nbarrier world\nsend 1 2\nend\n",
+        end: Err((3, FormReason::UnknownVerb)),
+    },
+    Case {
+        log: "rma 1 1 3\nend\n# behind\n\n",
+        end: Ok(0),
+    },
+    Case {
+        log: "rma 1 1 3\nend\nend\n",
+        end: Err((3, FormReason::AfterEnd)),
     },
 ];
 
-/// Reads a line into the book, and answers why it is bad, if it is.
-fn read(
+/// What the log comes to, read in pieces of so many bytes.
+fn ended(
+    rt: &impl Abort,
     alloc: Global,
-    book: &mut Book,
-    line: LineNo,
-    text: &str,
-) -> Result<Option<FormReason>, Fail> {
-    match parse_line(alloc, text.as_bytes())? {
-        Some(stated) => Ok(book.read(line, stated)?),
-        None => Ok(None),
+    log: &str,
+    most: usize,
+) -> Result<Result<usize, (u32, FormReason)>, Fail> {
+    let mut book = RankBook::new(alloc, Rank(1), 3)?;
+    for piece in log.as_bytes().chunks(most.max(1)) {
+        assert!(rt; book.fed() + (piece.len() as u64) < FED);
+        book.feed(piece)?;
     }
+    Ok(match book.end()? {
+        BookEnd::Calls(calls) => Ok(calls.calls.len()),
+        BookEnd::Fault(fault) => Err((fault.line.0, fault.reason)),
+    })
 }
 
-/// Reads the lines of a case up to the first that is bad, and answers the number of calls and that line.
-fn first_bad(alloc: Global, case: &Case) -> Result<(usize, Option<(u32, FormReason)>), Fail> {
-    let mut book = Book::new(alloc, Rank(1), 3)?;
-    for (k, text) in case.lines.iter().enumerate() {
-        let line = k as u32 + 1;
-        if let Some(reason) = read(alloc, &mut book, LineNo(line), text)? {
-            return Ok((book.calls().len(), Some((line, reason))));
+fn check(rt: &impl Abort, alloc: Global, cases: &[Case]) -> Result<(), Fail> {
+    for case in cases {
+        for most in [1, 1000] {
+            let end = ended(rt, alloc, case.log, most)?;
+            assert_eq!(rt; end, case.end);
         }
     }
-    Ok((book.calls().len(), None))
+    Ok(())
 }
 
 #[test]
-fn events_are_judged_with_those_before_them(rt: HostRuntime) -> Result<(), Fail> {
-    let alloc = rt.alloc();
-    for case in &CASES {
-        let (calls, bad) = first_bad(alloc, case)?;
-        assert_eq!(rt; calls, case.calls);
-        assert_eq!(rt; bad, case.bad);
-    }
-    Ok(())
+fn logs_come_to_their_calls_or_their_first_bad_line(rt: HostRuntime) -> Result<(), Fail> {
+    check(&rt, rt.alloc(), &CASES)
 }
