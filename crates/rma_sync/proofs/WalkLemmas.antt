@@ -1,0 +1,22 @@
+-- One more element at a loop's step.
+use Rattle.std.proofs.Common.{◌≡◌, ℕ, ◌+◌, ◌<◌, List, [], ◌∷◌, ◌++◌, length, get_or, take, Option, sym, ap, ◌∙◌}
+use Rattle.std.specs.List.{filter_map, flat_map, cons_option}
+use Rattle.std.proofs.lemmas.List.{take_more, append_assoc, flat_map_more}
+use Rattle.std.proofs.lemmas.List.Elements.{filter_map-append}
+
+-- the front with the element behind it
+pub taken : {X : Type 0} (xs : List X) (i : ℕ) (x : X) → i < length xs → x ≡ get_or xs i x → take (i + 1) xs ≡ take i xs ++ x ∷ []
+taken xs i x lt is = take_more xs i x lt ∙ ap (λ y. take i xs ++ y ∷ []) (sym is)
+
+module _ {X Y : Type 0} where
+  -- what a map that may skip makes of one more element
+  pub filter_map_more : (h : X → Option Y) (xs : List X) (i : ℕ) (x : X) (before : List Y) → i < length xs → x ≡ get_or xs i x →
+      (before ++ filter_map h (take i xs)) ++ cons_option (h x) [] ≡ before ++ filter_map h (take (i + 1) xs)
+  filter_map_more h xs i x before lt is =
+      append_assoc before (filter_map h (take i xs)) (cons_option (h x) [])
+      ∙ ap (λ l. before ++ l) (sym (filter_map-append h (take i xs) (x ∷ [])) ∙ ap (filter_map h) (sym (taken xs i x lt is)))
+
+  -- what a map to lists makes of one more element
+  pub flat_map_taken : (f : X → List Y) (xs : List X) (i : ℕ) (x : X) → i < length xs → x ≡ get_or xs i x →
+      flat_map f (take i xs) ++ f x ≡ flat_map f (take (i + 1) xs)
+  flat_map_taken f xs i x lt is = flat_map_more f [] (take i xs) x ∙ ap (flat_map f) (sym (taken xs i x lt is))

@@ -1,0 +1,4 @@
+pub mod Mentions
+pub mod FirstPlaces
+pub mod Members
+pub mod Faults
