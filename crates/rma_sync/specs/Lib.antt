@@ -1,4 +1,6 @@
 pub mod Mentions
 pub mod FirstPlaces
 pub mod Members
+pub mod Collectives
+pub mod Counts
 pub mod Faults

@@ -1,0 +1,76 @@
+-- Which calls are collective on a communicator, and the place of each among those of its rank (MPI 4.0, "Collective
+-- Communication").
+use Rattle.std.specs.Prelude.{◌≡◌, ℕ, ◌+◌, List, [], ◌∷◌, ◌++◌, Bool, false, Option, Some, None, option_map, unwrap_or, nat_eq, ◌==◌, ◌&&◌, count_by}
+use Rattle.std.specs.List.{cons_option, flat_map}
+use Rattle.std.specs.Option.{option_map_or}
+use Rattle.std.specs.Cmp.Lexicographic.{pointwise}
+use Rattle.rma_base.specs.declared.ranks.Rank.{Rank}
+use Rattle.rma_base.specs.declared.lines.LineNo.{LineNo}
+use Rattle.rma_call.specs.declared.calls.Call.{Call}
+use Rattle.rma_call.specs.declared.calls.RankCalls.{RankCalls}
+use Rattle.rma_call.specs.declared.calls.What.{What}
+use Rattle.rma_call.specs.declared.calls.What.TheVariants.{Sync}
+use Rattle.rma_call.specs.declared.calls.SyncCall.TheVariants.{Frame, Window}
+use Rattle.rma_call.specs.declared.calls.FrameCall.TheVariants.{Comm, Barrier}
+use Rattle.rma_call.specs.declared.calls.WindowCall.TheVariants.{Create, Free}
+use Rattle.rma_sync.specs.declared.kinds.Kind.{Kind}
+use Rattle.rma_sync.specs.declared.kinds.Kind.TheVariants as kind
+
+-- the communicator of a collective call
+abbrev pub comm_of : What → Option (List ℕ)
+comm_of (Sync (Frame (Comm comm ranks))) = None
+comm_of (Sync (Frame (Barrier comm))) = Some comm
+comm_of (Sync (Window (Create window comm base size unit model ops))) = Some comm
+comm_of (Sync (Window (Free window))) = None
+
+-- the window that a collective call creates: a barrier creates none
+abbrev pub window_of : What → Option (List ℕ)
+window_of (Sync (Frame call)) = None
+window_of (Sync (Window (Create window comm base size unit model ops))) = Some window
+window_of (Sync (Window (Free window))) = None
+
+-- the window that a call frees
+abbrev pub freed : What → Option (List ℕ)
+freed (Sync (Frame call)) = None
+freed (Sync (Window (Create window comm base size unit model ops))) = None
+freed (Sync (Window (Free window))) = Some window
+
+-- what a call of each kind is on
+abbrev pub named : Kind → What → Option (List ℕ)
+named kind.Collective what = comm_of what
+named kind.Free what = freed what
+
+-- whether a call of this kind is on this name
+abbrev pub is_on : Kind → List ℕ → Call → Bool
+is_on kind name call = option_map_or (λ own. pointwise nat_eq own name) (named kind call.what) false
+
+-- the number of calls of this kind on this name
+abbrev pub count_of : Kind → List ℕ → List Call → ℕ
+count_of kind name calls = count_by (is_on kind name) calls
+
+-- what is had of the calls of a rank, each with those before it, behind some that come before all
+abbrev pub walked : {Y : Type 0} → (Rank → List Call → Call → Option Y) → Rank → List Call → List Call → List Y
+walked f rank before [] = []
+walked f rank before (c ∷ cs) = cons_option (f rank before c) (walked f rank (before ++ c ∷ []) cs)
+
+-- what is had of the calls of all ranks, by rank and then by line
+abbrev pub walked_all : {Y : Type 0} → (Rank → List Call → Call → Option Y) → List RankCalls → List Y
+walked_all f ranks = flat_map (λ r. walked f r.rank [] r.calls) ranks
+
+-- a collective call: its rank and line, its communicator, its number among the collectives of the rank on it, from 0,
+-- and the window that it creates
+pub record Collective : Type 0 where
+  pub rank : Rank
+  pub line : LineNo
+  pub comm : List ℕ
+  pub number : ℕ
+  pub window : Option (List ℕ)
+
+-- a call of a rank behind others, where it is collective
+abbrev pub collective_at : Rank → List Call → Call → Option Collective
+collective_at rank before call =
+    option_map (λ comm. record { rank = rank; line = call.line; comm = comm; number = count_of kind.Collective comm before; window = window_of call.what }) (comm_of call.what)
+
+-- the collective calls of a run
+abbrev pub collectives : List RankCalls → List Collective
+collectives ranks = walked_all collective_at ranks

@@ -1,0 +1,59 @@
+//! The kinds of calls that every member of a communicator or a window has to make.
+ghost use Rattle.std.specs.Prelude.{◌≡◌, option_copied};
+ghost use Rattle.rma_sync.specs.Collectives.{comm_of, window_of, freed, named};
+
+use rma_base::names::Name;
+use rma_call::calls::{FrameCall, SyncCall, What, WindowCall};
+
+/// A kind of calls that every member has to make.
+#[derive(Clone, Copy, Debug, PartialEq, Eq)]
+pub enum Kind {
+    /// The collective calls on a communicator.
+    Collective,
+    /// The calls that free a window.
+    Free,
+}
+
+/// What a call of this kind is on.
+pub(crate) fn named(kind: Kind, what: &What) -> Option<&Name>
+    ensures { option_copied result ≡ named kind what.now }
+{
+    match kind {
+        Kind::Collective => comm_of(what),
+        Kind::Free => freed(what),
+    }
+}
+
+/// The communicator of a collective call.
+pub(crate) fn comm_of(what: &What) -> Option<&Name>
+    ensures { option_copied result ≡ comm_of what.now }
+{
+    match what {
+        What::Sync(SyncCall::Frame(FrameCall::Barrier { comm }))
+        | What::Sync(SyncCall::Window(WindowCall::Create { comm, .. })) => Some(comm),
+        What::Sync(SyncCall::Frame(FrameCall::Comm { .. }))
+        | What::Sync(SyncCall::Window(WindowCall::Free { .. })) => None,
+    }
+}
+
+/// The window that a collective call creates: a barrier creates none.
+pub(crate) fn window_of(what: &What) -> Option<&Name>
+    ensures { option_copied result ≡ window_of what.now }
+{
+    match what {
+        What::Sync(SyncCall::Window(WindowCall::Create { window, .. })) => Some(window),
+        What::Sync(SyncCall::Window(WindowCall::Free { .. })) | What::Sync(SyncCall::Frame(_)) =>
+            None,
+    }
+}
+
+/// The window that a call frees.
+fn freed(what: &What) -> Option<&Name>
+    ensures { option_copied result ≡ freed what.now }
+{
+    match what {
+        What::Sync(SyncCall::Window(WindowCall::Free { window })) => Some(window),
+        What::Sync(SyncCall::Window(WindowCall::Create { .. })) | What::Sync(SyncCall::Frame(_)) =>
+            None,
+    }
+}
