@@ -48,7 +48,10 @@ fn difference<T: Said>(
 }
 
 /// Puts a fault, if there is one, at the end of a list.
-fn push_some(faults: &mut Sequence<MatchFault>, fault: Option<MatchFault>) -> Result<(), Memory>
+pub(crate) fn push_some(
+    faults: &mut Sequence<MatchFault>,
+    fault: Option<MatchFault>,
+) -> Result<(), Memory>
     ensures { OnOk result (faults.new ≡ faults.old ++ cons_option fault []) }
 {
     match fault {

@@ -5,5 +5,6 @@ mod counts;
 pub mod differences;
 mod first_places;
 pub mod kinds;
+pub mod meetings;
 pub mod mentions;
 pub mod terms;
