@@ -1,3 +1,5 @@
 pub mod WalkLemmas
 pub mod PlaceLemmas
 pub mod MeetingLemmas
+pub mod TotalLemmas
+pub mod MissingLemmas

@@ -1,7 +1,10 @@
 pub mod Mentions
 pub mod FirstPlaces
-pub mod Members
+pub mod Terms
 pub mod Collectives
 pub mod Counts
+pub mod Members
 pub mod Meetings
+pub mod Totals
+pub mod Missing
 pub mod Faults

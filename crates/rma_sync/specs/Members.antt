@@ -1,48 +1,36 @@
--- What declarations of communicators and creations of windows say (MPI 4.0, "Groups, Contexts, Communicators, and
--- Caching" and "One-Sided Communications").
-use Rattle.std.specs.Prelude.{ℕ, List, Bool, true, false, Option, Some, None, nat_eq, ◌&&◌}
+-- Who has to make a call (MPI 4.0, "Groups, Contexts, Communicators, and Caching" and "One-Sided Communications").
+use Rattle.std.specs.Prelude.{◌≡◌, ℕ, List, [], Option, Some, option_map, map, nat_eq, codes, if◌then◌else◌}
+use Rattle.std.specs.Option.{option_map_or}
 use Rattle.std.specs.Cmp.Lexicographic.{pointwise}
-use Rattle.rma_base.specs.declared.windows.WinModel.{WinModel}
-use Rattle.rma_base.specs.declared.windows.WinModel.TheVariants.{Separate, Unified}
-use Rattle.rma_base.specs.declared.windows.AccOps.{AccOps}
-use Rattle.rma_base.specs.declared.windows.AccOps.TheVariants.{SameOp, SameOpNoOp}
-use Rattle.rma_call.specs.declared.calls.What.{What}
-use Rattle.rma_call.specs.declared.calls.What.TheVariants.{Sync}
-use Rattle.rma_call.specs.declared.calls.SyncCall.TheVariants.{Frame, Window}
-use Rattle.rma_call.specs.declared.calls.FrameCall.TheVariants.{Comm, Barrier}
-use Rattle.rma_call.specs.declared.calls.WindowCall.TheVariants.{Create, Free}
-use Rattle.rma_sync.specs.declared.terms.WindowTerms.{WindowTerms}
+use Rattle.rma_call.specs.declared.calls.RankCalls.{RankCalls}
+use Rattle.rma_sync.specs.declared.kinds.Kind.{Kind}
+use Rattle.rma_sync.specs.declared.kinds.Kind.TheVariants.{Collective, Free}
+use Rattle.rma_sync.specs.declared.members.Members.{Members}
+use Rattle.rma_sync.specs.Mentions.{mentions, first_of}
+use Rattle.rma_sync.specs.Terms.{declared, created}
 
--- the communicator that a call declares, and its ranks
-abbrev pub declared : What → Option (List ℕ × List ℕ)
-declared (Sync (Frame (Comm comm ranks))) = Some (comm, ranks)
-declared (Sync (Frame (Barrier comm))) = None
-declared (Sync (Window call)) = None
+-- all ranks of a run
+abbrev pub everyone : List RankCalls → List ℕ
+everyone ranks = map (λ r. r.rank.0) ranks
 
--- whether two declarations list the same ranks
-abbrev pub same_ranks : List ℕ → List ℕ → Bool
-same_ranks first own = pointwise nat_eq own first
+-- the members of a communicator: all ranks for `world`, which is never declared, and else the ranks that the lowest
+-- rank lists that declares it
+abbrev pub members_of_comm : List RankCalls → List ℕ → List ℕ
+members_of_comm ranks comm =
+    if pointwise nat_eq comm (codes "world") then everyone ranks else option_map_or (λ d. d.said) (first_of (mentions declared ranks) comm) []
 
--- the window that a call creates, and what it is created with
-abbrev pub created : What → Option (List ℕ × WindowTerms)
-created (Sync (Frame call)) = None
-created (Sync (Window (Create window comm base size unit model ops))) = Some (window, record { comm = comm; model = model; ops = ops })
-created (Sync (Window (Free window))) = None
+-- the communicator whose members have to make a call of this kind: its own, or that of the window's creation by the
+-- lowest rank that creates it
+abbrev pub comm_for : Kind → List RankCalls → List ℕ → Option (List ℕ)
+comm_for Collective ranks comm = Some comm
+comm_for Free ranks window = option_map (λ c. c.said.comm) (first_of (mentions created ranks) window)
 
--- whether two memory models are the same
-abbrev pub same_model : WinModel → WinModel → Bool
-same_model Separate Separate = true
-same_model Separate Unified = false
-same_model Unified Separate = false
-same_model Unified Unified = true
+-- the ranks that have to make a call of this kind on the name
+abbrev pub members : Kind → List RankCalls → List ℕ → List ℕ
+members kind ranks name = option_map_or (members_of_comm ranks) (comm_for kind ranks name) []
 
--- whether the same accumulate operations may meet
-abbrev pub same_ops : AccOps → AccOps → Bool
-same_ops SameOp SameOp = true
-same_ops SameOp SameOpNoOp = false
-same_ops SameOpNoOp SameOp = false
-same_ops SameOpNoOp SameOpNoOp = true
-
--- whether two creations have the same communicator, memory model and accumulate operations
-abbrev pub same_terms : WindowTerms → WindowTerms → Bool
-same_terms first own = pointwise nat_eq own.comm first.comm && same_model first.model own.model && same_ops first.ops own.ops
+-- what is kept are the communicators and the windows of this run
+pub record AreMembers (ranks : List RankCalls) (kept : Members) : Type 0 where
+  pub declarations_are : kept.declarations ≡ mentions declared ranks
+  pub creations_are : kept.creations ≡ mentions created ranks
+  pub everyone_is : kept.everyone.items ≡ everyone ranks

@@ -6,5 +6,8 @@ pub mod differences;
 mod first_places;
 pub mod kinds;
 pub mod meetings;
+mod members;
 pub mod mentions;
+pub mod missing;
 pub mod terms;
+mod totals;

@@ -1,6 +1,6 @@
 //! What declarations of communicators and creations of windows say.
 ghost use Rattle.std.specs.Prelude.{◌≡◌};
-ghost use Rattle.rma_sync.specs.Members.{declared, same_ranks, created, same_terms, same_model, same_ops};
+ghost use Rattle.rma_sync.specs.Terms.{declared, same_ranks, created, same_terms, same_model, same_ops};
 
 use crate::mentions::Said;
 use rma_base::allocation::Memory;

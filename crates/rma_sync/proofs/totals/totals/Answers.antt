@@ -1,0 +1,21 @@
+use Rattle.std.proofs.Common.{List, ◌+◌, ◌++◌, [], ◌∷◌, take, sym, subst}
+use Rattle.rma_call.specs.declared.calls.Call.{Call}
+use Rattle.rma_call.specs.declared.calls.RankCalls.{RankCalls}
+use Rattle.rma_sync.specs.Counts.{AreCounts}
+use Rattle.rma_sync.specs.Totals.{Numbers, AreTotals}
+use Rattle.rma_sync.proofs.WalkLemmas.{taken}
+use Rattle.rma_sync.proofs.TotalLemmas.{AreTotals-push}
+use Rattle.rma_sync.proofs.totals.totals.Goals as goal
+
+pub loop-rank-preserved : goal.loop-rank-preserved
+loop-rank-preserved c =
+    let ranks = c.args.ranks.now in
+    let i = c.loop-rank.rank-index in
+    let rank = c.rank-item.result in
+    let counts = c.in_ok-counts.counts in
+    let P : List Call → Type 0 = λ calls. AreCounts c.args.kind calls counts.entries in
+    let Q : List Numbers → Type 0 = λ ts. AreTotals c.args.kind (take (i + 1) ranks) ts in
+    let S : List RankCalls → Type 0 = λ rs. AreTotals c.args.kind rs (c.loop-rank.totals ++ counts ∷ []) in
+    subst Q (sym c.in_ok-push.ensures.ok)
+    (subst S (sym (taken ranks i rank c.loop-rank-test.true c.rank-item.is))
+    (AreTotals-push c.args.kind (take i ranks) c.loop-rank.totals rank counts c.loop-rank.invariant (subst P c.as_slice.ensures c.in_ok-counts.ensures)))

@@ -1,0 +1,48 @@
+-- What declarations of communicators and creations of windows say (MPI 4.0, "Groups, Contexts, Communicators, and
+-- Caching" and "One-Sided Communications").
+use Rattle.std.specs.Prelude.{ℕ, List, Bool, true, false, Option, Some, None, nat_eq, ◌&&◌}
+use Rattle.std.specs.Cmp.Lexicographic.{pointwise}
+use Rattle.rma_base.specs.declared.windows.WinModel.{WinModel}
+use Rattle.rma_base.specs.declared.windows.WinModel.TheVariants.{Separate, Unified}
+use Rattle.rma_base.specs.declared.windows.AccOps.{AccOps}
+use Rattle.rma_base.specs.declared.windows.AccOps.TheVariants.{SameOp, SameOpNoOp}
+use Rattle.rma_call.specs.declared.calls.What.{What}
+use Rattle.rma_call.specs.declared.calls.What.TheVariants.{Sync}
+use Rattle.rma_call.specs.declared.calls.SyncCall.TheVariants.{Frame, Window}
+use Rattle.rma_call.specs.declared.calls.FrameCall.TheVariants.{Comm, Barrier}
+use Rattle.rma_call.specs.declared.calls.WindowCall.TheVariants.{Create, Free}
+use Rattle.rma_sync.specs.declared.terms.WindowTerms.{WindowTerms}
+
+-- the communicator that a call declares, and its ranks
+abbrev pub declared : What → Option (List ℕ × List ℕ)
+declared (Sync (Frame (Comm comm ranks))) = Some (comm, ranks)
+declared (Sync (Frame (Barrier comm))) = None
+declared (Sync (Window call)) = None
+
+-- whether two declarations list the same ranks
+abbrev pub same_ranks : List ℕ → List ℕ → Bool
+same_ranks first own = pointwise nat_eq own first
+
+-- the window that a call creates, and what it is created with
+abbrev pub created : What → Option (List ℕ × WindowTerms)
+created (Sync (Frame call)) = None
+created (Sync (Window (Create window comm base size unit model ops))) = Some (window, record { comm = comm; model = model; ops = ops })
+created (Sync (Window (Free window))) = None
+
+-- whether two memory models are the same
+abbrev pub same_model : WinModel → WinModel → Bool
+same_model Separate Separate = true
+same_model Separate Unified = false
+same_model Unified Separate = false
+same_model Unified Unified = true
+
+-- whether the same accumulate operations may meet
+abbrev pub same_ops : AccOps → AccOps → Bool
+same_ops SameOp SameOp = true
+same_ops SameOp SameOpNoOp = false
+same_ops SameOpNoOp SameOp = false
+same_ops SameOpNoOp SameOpNoOp = true
+
+-- whether two creations have the same communicator, memory model and accumulate operations
+abbrev pub same_terms : WindowTerms → WindowTerms → Bool
+same_terms first own = pointwise nat_eq own.comm first.comm && same_model first.model own.model && same_ops first.ops own.ops
