@@ -8,3 +8,4 @@ pub mod Meetings
 pub mod Totals
 pub mod Missing
 pub mod Faults
+pub mod Matching

@@ -5,9 +5,12 @@ mod counts;
 pub mod differences;
 mod first_places;
 pub mod kinds;
+pub mod matching;
 pub mod meetings;
 mod members;
 pub mod mentions;
 pub mod missing;
 pub mod terms;
+#[cfg(test)]
+mod tests;
 mod totals;
