@@ -16,7 +16,8 @@ use std::test::Fail;
 /// A call in short.
 #[derive(Clone, Copy)]
 enum Short<'a> {
-    Comm(&'a str, &'a [Rank]),
+    /// A communicator of the ranks below this one.
+    Comm(&'a str, u32),
     Barrier(&'a str),
     Create(&'a str, &'a str, WinModel, AccOps),
     Free(&'a str),
@@ -28,7 +29,7 @@ fn what(alloc: Global, short: &Short<'_>) -> Result<SyncCall, Fail> {
     let call = match short {
         Comm(comm, ranks) => SyncCall::Frame(FrameCall::Comm {
             comm: Name::new(alloc, comm.as_bytes())?,
-            ranks: RankSet::new(alloc, ranks)?,
+            ranks: below(alloc, *ranks)?,
         }),
         Barrier(comm) => SyncCall::Frame(FrameCall::Barrier {
             comm: Name::new(alloc, comm.as_bytes())?,
@@ -47,6 +48,15 @@ fn what(alloc: Global, short: &Short<'_>) -> Result<SyncCall, Fail> {
         }),
     };
     Ok(call)
+}
+
+/// The ranks below this one.
+fn below(alloc: Global, end: u32) -> Result<RankSet, Fail> {
+    let mut ranks = Sequence::new(alloc);
+    for rank in 0..end {
+        ranks.push(Rank(rank))?;
+    }
+    Ok(RankSet::new(alloc, ranks.as_slice())?)
 }
 
 /// The calls of a rank: the first stands on line 2.
@@ -159,8 +169,6 @@ fn collectives_at_one_place_are_of_one_kind(rt: HostRuntime) -> Result<(), Fail>
 #[test]
 fn windows_and_communicators_are_the_same_on_all_ranks(rt: HostRuntime) -> Result<(), Fail> {
     let alloc = rt.alloc();
-    let both = [Rank(0), Rank(1)];
-    let all = [Rank(0), Rank(1), Rank(2)];
     let unified = Create("w", "world", WinModel::Unified, AccOps::SameOp);
     let separate = Create("w", "world", WinModel::Separate, AccOps::SameOp);
     let no_op = Create("w", "world", WinModel::Unified, AccOps::SameOpNoOp);
@@ -176,15 +184,15 @@ fn windows_and_communicators_are_the_same_on_all_ranks(rt: HostRuntime) -> Resul
     check(
         &rt,
         alloc,
-        &[&[Comm("c", &both)], &[Comm("c", &all)], &[]],
+        &[&[Comm("c", 2)], &[Comm("c", 3)], &[]],
         &[differs(MatchReason::CommDiffers, 1, 2, (0, 2))],
     )?;
     check(
         &rt,
         alloc,
         &[
-            &[Comm("c", &both), Barrier("c")],
-            &[Comm("c", &both), Barrier("c")],
+            &[Comm("c", 2), Barrier("c")],
+            &[Comm("c", 2), Barrier("c")],
             &[Barrier("c"), Barrier("c")],
         ],
         &[missing(2, 3)],
