@@ -9,6 +9,7 @@ use Rattle.std.proofs.lemmas.Simd.{length-chunk, get_or-chunk, bit_mask_l}
 use Rattle.std.proofs.Math.ListN.{get_or-map}
 use Rattle.rma_lex.specs.declared.line_feeds.LineFeeds.{LineFeeds}
 use Rattle.rma_lex.specs.Feeds.{NoFeed, IsFirstFeed, MarksFeeds}
+use Rattle.rma_lex.specs.Clean.{is_clean_byte, IsClean}
 use Rattle.rma_lex.specs.Found.{Knows}
 use Rattle.rma_lex.specs.Masks.{IsLowestBit, DropsBit}
 
@@ -22,9 +23,9 @@ module _ (feeds : LineFeeds) (text : List ℕ) (knows : Knows feeds text) where
   NoFeed-unmarked empty place low high feed = unset feeds.mask _ empty (knows.all place low high feed).1
 
   -- with nothing marked, the line feeds of what comes next are all
-  pub Knows-block : (to mask : ℕ) → feeds.mask ≡ 0 → feeds.seen ≤ to → to ≤ length text → MarksFeeds text feeds.seen to mask
-      → Knows (record { start = feeds.start; seen = to; base = feeds.seen; mask = mask }) text
-  Knows-block to mask empty ordered within marks = record {
+  pub Knows-block : (to mask doubtful : ℕ) → feeds.mask ≡ 0 → feeds.seen ≤ to → to ≤ length text → MarksFeeds text feeds.seen to mask → IsClean text doubtful to
+      → Knows (record { start = feeds.start; doubtful = doubtful; seen = to; base = feeds.seen; mask = mask }) text
+  Knows-block to mask doubtful empty ordered within marks clean = record {
     started = omega (arith, knows.started);
     within = within;
     all = λ place low high feed.
@@ -32,7 +33,15 @@ module _ (feeds : LineFeeds) (text : List ℕ) (knows : Knows feeds text) where
         let e : feeds.seen + (place - feeds.seen) ≡ place = omega arith in
         (from, (marks (place - feeds.seen)).1 (omega arith, ap (λ k. get_or text k 0) e ∙ feed))) (cases_lt place feeds.seen);
     only = λ k set. let there = (marks k).0 set in (omega (arith, knows.started), there.0, there.1);
+    clean = clean;
   }
+
+  -- what was searched is clean from the doubtful place on, and so is what comes next, or the doubtful place is behind it
+  pub IsClean-searched : (to doubtful : ℕ) → ((doubtful ≡ feeds.doubtful) × IsClean text feeds.seen to) ⊎ (doubtful ≡ to) → IsClean text doubtful to
+  IsClean-searched to doubtful cases place low high = ⊎_elim
+      (λ (same : (doubtful ≡ feeds.doubtful) × IsClean text feeds.seen to).
+      ⊎_elim (λ before. knows.clean place (omega (arith, same.0)) before) (λ from. same.1 place from high) (cases_lt place feeds.seen))
+      (λ (behind : doubtful ≡ to). absurd (omega arith)) cases
 
   module _ (low left : ℕ) (lowest : IsLowestBit feeds.mask low) (drops : DropsBit feeds.mask low left) where
     -- the lowest mark is the first line feed
@@ -49,7 +58,7 @@ module _ (feeds : LineFeeds) (text : List ℕ) (knows : Knows feeds text) where
         }
 
     -- behind it the other marks are those of what is left
-    pub Knows-next : Knows (record { start = feeds.base + low + 1; seen = feeds.seen; base = feeds.base; mask = left }) text
+    pub Knows-next : Knows (record { start = feeds.base + low + 1; doubtful = feeds.doubtful; seen = feeds.seen; base = feeds.base; mask = left }) text
     Knows-next =
         let here = knows.only low lowest.set in
         record {
@@ -64,6 +73,7 @@ module _ (feeds : LineFeeds) (text : List ℕ) (knows : Knows feeds text) where
               let mark = knows.only k was in
               let above : low < k = ⊎_elim (λ below. absurd (omega (arith, lowest.below k below, was))) (λ from. omega arith) (cases_lt k low) in
               (omega arith, mark.1, mark.2);
+          clean = knows.clean;
         }
 
   -- at the end nothing is left
@@ -73,6 +83,7 @@ module _ (feeds : LineFeeds) (text : List ℕ) (knows : Knows feeds text) where
     within = knows.within;
     all = λ place low high feed. absurd (omega (arith, ended));
     only = λ k set. absurd (unset feeds.mask k empty set);
+    clean = knows.clean;
   }
 
   -- a longer text has them where they are
@@ -84,10 +95,13 @@ module _ (feeds : LineFeeds) (text : List ℕ) (knows : Knows feeds text) where
     only = λ k set.
         let mark = knows.only k set in
         (mark.0, mark.1, get_or_append_left text more 0 (feeds.base + k) (omega (arith, mark.1, knows.within)) ∙ mark.2);
+    clean = λ place low high.
+        ap is_clean_byte (get_or_append_left text more 0 place (omega (arith, high, knows.within))) ∙ knows.clean place low high;
   }
 
   -- what was searched with nothing marked, once the text before the start is dropped
-  pub Knows-drop : (seen base : ℕ) → (seen ≡ 0) ⊎ ((feeds.mask ≡ 0) × (seen ≡ feeds.seen - feeds.start)) → Knows (record { start = 0; seen = seen; base = base; mask = 0 }) (drop feeds.start text)
+  pub Knows-drop : (seen base : ℕ) → (seen ≡ 0) ⊎ ((feeds.mask ≡ 0) × (seen ≡ feeds.seen - feeds.start))
+      → Knows (record { start = 0; doubtful = feeds.doubtful - feeds.start; seen = seen; base = base; mask = 0 }) (drop feeds.start text)
   Knows-drop seen base cases = record {
     started = omega arith;
     within = ⊎_elim (λ e. omega arith) (λ e. omega (arith, e.1, knows.within, length-drop feeds.start text)) cases;
@@ -95,9 +109,12 @@ module _ (feeds : LineFeeds) (text : List ℕ) (knows : Knows feeds text) where
         absurd (⊎_elim (λ e. omega (arith, e)) (λ e.
         NoFeed-unmarked e.0 (feeds.start + place) (omega arith) (omega (arith, e.1, knows.started)) (sym (get_or-drop feeds.start text place 0) ∙ feed)) cases);
     only = λ k set. absurd (unset 0 k (omega arith) set);
+    clean = λ place low high.
+        ap is_clean_byte (get_or-drop feeds.start text place 0)
+        ∙ knows.clean (feeds.start + place) (omega arith) (⊎_elim (λ e. absurd (omega (arith, e))) (λ e. omega (arith, e.1)) cases);
   }
 
-cond_one : (b : Bool) → cond {A = ℕ} b 1 0 ≡ 1 → b ≡ true
+pub cond_one : (b : Bool) → cond {A = ℕ} b 1 0 ≡ 1 → b ≡ true
 cond_one true e = refl
 cond_one false e = absurd (omega arith)
 

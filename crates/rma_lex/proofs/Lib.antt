@@ -2,6 +2,7 @@ pub mod LineLemmas
 pub mod CutLemmas
 pub mod MaskLemmas
 pub mod FeedLemmas
+pub mod CleanLemmas
 pub mod FieldLemmas
 pub mod TextLemmas
 pub mod CheckLemmas

@@ -2,11 +2,12 @@ pub mod Lines
 pub mod Cutting
 pub mod Feeds
 pub mod Masks
+pub mod Texts
+pub mod Clean
 pub mod Found
 pub mod Kept
 pub mod Handing
 pub mod Fields
 pub mod Tokens
-pub mod Texts
 pub mod Checked
 pub mod Told

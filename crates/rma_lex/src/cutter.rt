@@ -1,13 +1,14 @@
 //! A cutter of lines: it is fed a text in pieces and hands out its lines one by one.
-ghost use Rattle.std.specs.Prelude.{◌≡◌, ◌↔◌, ℕ, ◌+◌, ◌^◌, ◌<◌, ◌≤◌, true, false, List, [], ◌++◌, length, IsNone, IfNone, IfSome, OnOk, OnErr, slice_get, drop, vec_len, count_by, ◌==◌};
+ghost use Rattle.std.specs.Prelude.{◌≡◌, ◌↔◌, ℕ, ◌+◌, ◌^◌, ◌<◌, ◌≤◌, true, false, List, [], ◌++◌, length, IsNone, IfNone, IfSome, MatchResult, Ok, Err, OnOk, OnErr, slice_get, drop, vec_len, count_by, ◌==◌};
+ghost use Rattle.std.specs.List.{list_all};
 ghost use Rattle.rma_lex.specs.Lines.{lines, has_open_end};
 ghost use Rattle.rma_lex.specs.Cutting.{StandsFor, HasNoLine, IsNextLine};
-ghost use Rattle.rma_lex.specs.Texts.{text_of};
+ghost use Rattle.rma_lex.specs.Texts.{is_text_byte, text_of};
 ghost use Rattle.rma_lex.specs.Checked.{checked_lines};
 ghost use Rattle.rma_lex.specs.Told.{told, number};
 
 use crate::line_feeds::LineFeeds;
-use crate::texts::checked_text;
+use crate::texts::{checked_text, clean_text};
 use rma_base::allocation::Memory;
 use rma_base::limits::FED;
 use rma_base::lines::LineNo;
@@ -21,6 +22,9 @@ pub struct RawLine<'a> {
     pub no: LineNo,
     pub text: &'a [u8],
     pub ended: bool,
+    // Whether its bytes are known to be those of a text.
+    clean: bool,
+    ghost known: { clean ≡ true → list_all is_text_byte text.now ≡ true },
 }
 
 /// A line, without what ends it.
@@ -131,6 +135,7 @@ impl LineCutter {
                     no: LineNo(self.handed),
                     text: &self.text[start..end],
                     ended: end < self.feeds.start,
+                    clean: self.feeds.doubtful <= start,
                 })
             }
             None => None,
@@ -168,12 +173,23 @@ fn checked(line: RawLine<'_>) -> Result<Line<'_>, LexFault>
     ensures text { told result ≡ text_of line.entry.ended line.entry.text.now }
     ensures number { number result ≡ line.entry.no.0 }
 {
-    match checked_text(line.text, line.ended) {
+    match text_or_reason(line) {
         Ok(text) => Ok(Line { no: line.no, text }),
         Err(reason) => Err(LexFault {
             no: line.no,
             reason,
         }),
+    }
+}
+
+#[inline]
+fn text_or_reason(line: RawLine<'_>) -> Result<&[u8], FormReason>
+    ensures { MatchResult result (λ text. text_of line.entry.ended line.entry.text.now ≡ Ok text.now) (λ reason. text_of line.entry.ended line.entry.text.now ≡ Err reason) }
+{
+    if line.clean {
+        clean_text(line.text)
+    } else {
+        checked_text(line.text, line.ended)
     }
 }
 

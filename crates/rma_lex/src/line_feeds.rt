@@ -1,15 +1,20 @@
 // The line feeds of a text, found a block of 64 bytes at a time and handed out one by one.
-ghost use Rattle.std.specs.Prelude.{◌≡◌, ◌≢◌, ◌↔◌, ℕ, ◌+◌, ◌<◌, ◌≤◌, List, length, drop, true, IfNone, IfSome};
+ghost use Rattle.std.specs.Prelude.{◌≡◌, ◌≢◌, ◌↔◌, ℕ, ◌+◌, ◌<◌, ◌≤◌, List, length, drop, true, IsTrue, IfNone, IfSome};
+ghost use Rattle.std.specs.List.{list_all};
 ghost use Rattle.rma_lex.specs.Feeds.{NoFeed, IsFirstFeed, IsLineAt, MarksFeeds};
 ghost use Rattle.rma_lex.specs.Masks.{IsLowestBit, DropsBit};
+ghost use Rattle.rma_lex.specs.Clean.{is_clean_byte, IsClean, MarksClean};
 
+use crate::texts::is_text;
 use std::simd::prelude::*;
 
 // The next line begins at the start. The text was searched up to `seen`; the line feeds that were found there and not
-// handed out yet are marked: bit k of the mask is for the place `base + k`.
+// handed out yet are marked: bit k of the mask is for the place `base + k`. From the doubtful place on, all that was
+// searched are bytes of texts and line feeds.
 #[derive(Drop)]
 pub(crate) struct LineFeeds {
     pub(crate) start: usize,
+    pub(crate) doubtful: usize,
     seen: usize,
     base: usize,
     mask: u64,
@@ -25,6 +30,7 @@ impl LineFeeds {
     {
         LineFeeds {
             start: 0,
+            doubtful: 0,
             seen: 0,
             base: 0,
             mask: 0,
@@ -78,14 +84,45 @@ impl LineFeeds {
         ensures ended { self.new.mask ≡ 0 → self.new.seen ≡ length text.now }
     {
         while self.mask == 0 && 64 <= text.len() - self.seen {
-            self.base = self.seen;
-            self.mask = feeds_of_block(text, self.base);
-            self.seen += 64;
+            self.search_block(text);
         }
         if self.mask == 0 {
-            self.base = self.seen;
-            self.mask = feeds_of_tail(text, self.base);
-            self.seen = text.len();
+            self.search_tail(text);
+        }
+    }
+
+    // Searches the next 64 bytes.
+    #[inline]
+    fn search_block(&mut self, text: &[u8])
+        requires knows { Knows self.old text.now }
+        requires none_left { self.old.mask ≡ 0 }
+        requires within { self.old.seen + 64 ≤ length text.now }
+        ensures start { self.new.start ≡ self.old.start }
+        ensures knows { Knows self.new text.now }
+        ensures seen { self.new.seen ≡ self.old.seen + 64 }
+    {
+        self.base = self.seen;
+        self.mask = feeds_of_block(text, self.base);
+        self.seen += 64;
+        if !is_clean_block(text, self.base) {
+            self.doubtful = self.seen;
+        }
+    }
+
+    // Searches the bytes that are left, which are fewer than 64.
+    fn search_tail(&mut self, text: &[u8])
+        requires knows { Knows self.old text.now }
+        requires none_left { self.old.mask ≡ 0 }
+        requires short { length text.now < self.old.seen + 64 }
+        ensures start { self.new.start ≡ self.old.start }
+        ensures knows { Knows self.new text.now }
+        ensures seen { self.new.seen ≡ length text.now }
+    {
+        self.base = self.seen;
+        self.mask = feeds_of_tail(text, self.base);
+        self.seen = text.len();
+        if !all_clean(&text[self.base..]) {
+            self.doubtful = self.seen;
         }
     }
 
@@ -100,6 +137,7 @@ impl LineFeeds {
         } else {
             0
         };
+        self.doubtful = self.doubtful.saturating_sub(self.start);
         self.mask = 0;
         self.start = 0;
     }
@@ -129,6 +167,36 @@ fn feeds_of_tail(text: &[u8], from: usize) -> u64
         }
     }
     mask
+}
+
+// Whether the 64 bytes from a place on are all bytes of texts or line feeds.
+#[inline]
+fn is_clean_block(text: &[u8], from: usize) -> bool
+    requires { from + 64 ≤ length text.now }
+    ensures { IsTrue result ↔ IsClean text.now from (from + 64) }
+{
+    clean_of_block(text, from) == u64::MAX
+}
+
+// The bytes of texts and the line feeds among the 64 bytes from a place on: bit k is for the byte k places on.
+#[inline]
+fn clean_of_block(text: &[u8], from: usize) -> u64
+    requires { from + 64 ≤ length text.now }
+    ensures { MarksClean text.now from result }
+{
+    let bytes = u8x64::from_slice(&text[from..]);
+    let tabs = bytes.simd_eq(u8x64::splat(b'\t')).to_bitmask();
+    let feeds = bytes.simd_eq(u8x64::splat(b'\n')).to_bitmask();
+    let from_space = bytes.simd_ge(u8x64::splat(b' ')).to_bitmask();
+    let to_tilde = bytes.simd_le(u8x64::splat(b'~')).to_bitmask();
+    tabs | from_space & to_tilde | feeds
+}
+
+// Whether the bytes are all bytes of texts or line feeds.
+fn all_clean(bytes: &[u8]) -> bool
+    ensures { result ≡ list_all is_clean_byte bytes.now }
+{
+    bytes.iter().all(|byte| is_text(*byte) || *byte == b'\n')
 }
 
 // The lowest bit that is set.

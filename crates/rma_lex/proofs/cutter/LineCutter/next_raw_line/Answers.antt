@@ -2,7 +2,19 @@ use Rattle.std.proofs.Common.{◌≡◌, ◌+◌, true, refl, sym, ap, subst, �
 use Rattle.rma_lex.specs.Cutting.{Cutting, StandsFor}
 use Rattle.rma_lex.specs.Feeds.{NoFeed, IsLineAt}
 use Rattle.rma_lex.proofs.CutLemmas.{TakesLine-at, HasNoLine-from, StandsFor-taken, slice_get-next, handed_all, some_line, ended_at}
+use Rattle.rma_lex.specs.Found.{Knows}
+use Rattle.rma_lex.proofs.CleanLemmas.{clean_line}
 use Rattle.rma_lex.proofs.cutter.LineCutter.next_raw_line.Goals as goal
+
+pub invariant_of-self-in-Some : goal.invariant_of-self-in-Some
+invariant_of-self-in-Some c =
+    let inside = c.self.inside in
+    let start = inside.feeds.start in
+    let end = c.in-Some.end in
+    let new = c.next_end.new.self in
+    let is = subst (λ t. IsLineAt t inside.closed start end new.start) c.deref.ensures.value c.in-Some.ensures.some in
+    let knows = subst (λ t. Knows new t) c.deref.ensures.value c.in-Some.ensures.knows in
+    record { known = clean_line new inside.text.items c.deref-in-Some.result.now start end inside.closed knows c.deref-in-Some.ensures.value is }
 
 pub returns-in-Some : goal.returns-in-Some
 returns-in-Some c =
