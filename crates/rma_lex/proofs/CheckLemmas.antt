@@ -1,5 +1,5 @@
 -- What each line of a text is, and a cutter that hands them out.
-use Rattle.std.proofs.Common.{◌≡◌, ◌≢◌, ◌↔◌, ℕ, zero, suc, ◌<◌, ◌⊎◌, ◌==◌, Bool, true, false, not, List, [], ◌∷◌, ◌++◌, length, drop, Some, Result, refl, sym, ap, ◌∙◌, arith, inl, inr, ⊎_elim}
+use Rattle.std.proofs.Common.{◌+◌, eqb-true, ◌≡◌, ◌≢◌, ◌↔◌, ℕ, zero, suc, ◌<◌, ◌⊎◌, ◌==◌, Bool, true, false, not, List, [], ◌∷◌, ◌++◌, length, take, drop, cond, eqb, append_assoc, ◌≤◌, Some, Result, refl, sym, ap, ◌∙◌, arith, inl, inr, ⊎_elim}
 use Rattle.std.specs.Prelude.{slice_get}
 use Rattle.std.proofs.lemmas.Bool.{cases_Bool}
 use Rattle.std.proofs.lemmas.List.{length-append}
@@ -8,7 +8,7 @@ use Rattle.rma_lex.specs.Lines.{lines, after_lines, has_open_end}
 use Rattle.rma_lex.specs.Texts.{text_of}
 use Rattle.rma_lex.specs.Checked.{checked_with, checked_lines}
 use Rattle.rma_lex.specs.Cutting.{Cutting, StandsFor, CutsOff}
-use Rattle.rma_lex.proofs.LineLemmas.{Plain, Plain-from_Contains, lines-at, lines-last, lines-some, lines-after_lines, slice_get-drop}
+use Rattle.rma_lex.proofs.LineLemmas.{feeds, feeds-append, feeds-cons, Plain, Plain-from_Contains, lines-at, lines-last, lines-some, lines-after_lines, slice_get-drop}
 
 checked_with-drop : (n : ℕ) (open_end : Bool) (them : List (List ℕ)) → drop n (checked_with open_end them) ≡ checked_with open_end (drop n them)
 checked_with-drop zero open_end them = refl
@@ -100,3 +100,46 @@ module _ (cutting : Cutting) (line left : List ℕ) (cuts : CutsOff cutting line
       let next = checked_lines-CutsOff in
       slice_get-drop cutting.handed (checked_lines text) (text_of ended line) next.0
       (sym (checked_lines-after_lines cutting.handed text) ∙ ap checked_lines (sym stands.rest) ∙ next.1)
+
+length-checked_with : (open_end : Bool) (them : List (List ℕ)) → length (checked_with open_end them) ≡ length them
+length-checked_with open_end [] = refl
+length-checked_with open_end (line ∷ []) = refl
+length-checked_with open_end (line ∷ next ∷ rest) = ap suc (length-checked_with open_end (next ∷ rest))
+
+-- a text is checked line by line
+pub length-checked_lines : (text : List ℕ) → length (checked_lines text) ≡ length (lines text)
+length-checked_lines text = length-checked_with (has_open_end text) (lines text)
+
+-- a text begins with a line that a line feed ends
+record BeginsLine (text : List ℕ) : Type 0 where
+  line : List ℕ
+  rest : List ℕ
+  plain : Plain line
+  is : text ≡ line ++ 10 ∷ rest
+
+first_line : (text : List ℕ) → 1 ≤ feeds text → BeginsLine text
+first_line [] some = absurd (omega arith)
+first_line (byte ∷ bytes) some = ⊎_elim
+    (λ (feed : eqb byte 10 ≡ true). record { line = []; rest = bytes; plain = tt; is = ap (λ b. b ∷ bytes) (eqb-true byte 10 feed) })
+    (λ (other : eqb byte 10 ≡ false).
+    let later : BeginsLine bytes = first_line bytes (omega (arith, feeds-cons byte bytes, ap (λ b. cond {A = ℕ} b 1 0) other)) in
+    record { line = byte ∷ later.line; rest = later.rest; plain = (other, later.plain); is = ap (λ them. byte ∷ them) later.is })
+    (cases_Bool (eqb byte 10))
+
+-- what a line is stays as it is when the text goes on behind its line feed
+pub checked_lines-more : (n : ℕ) (text more : List ℕ) → n ≤ feeds text → take n (checked_lines (text ++ more)) ≡ take n (checked_lines text)
+checked_lines-more zero text more within = refl
+checked_lines-more (suc n) text more within =
+    let first = first_line text (omega arith) in
+    let ended = first.line ++ 10 ∷ first.rest in
+    let fewer : n ≤ feeds first.rest =
+    omega (arith, ap feeds first.is, feeds-append first.line (10 ∷ first.rest), feeds-cons 10 first.rest, feeds-plain first.line first.plain) in
+    ap (λ t. take (suc n) (checked_lines (t ++ more))) first.is
+    ∙ ap (λ t. take (suc n) (checked_lines t)) (append_assoc first.line (10 ∷ first.rest) more)
+    ∙ ap (take (suc n)) (checked_lines-at first.line (first.rest ++ more) first.plain)
+    ∙ ap (λ them. text_of true first.line ∷ them) (checked_lines-more n first.rest more fewer)
+    ∙ sym (ap (λ t. take (suc n) (checked_lines t)) first.is ∙ ap (take (suc n)) (checked_lines-at first.line first.rest first.plain))
+  where
+    feeds-plain : (line : List ℕ) → Plain line → feeds line ≡ 0
+    feeds-plain [] plain = refl
+    feeds-plain (byte ∷ line) plain = let here = feeds-cons byte line ∙ ap (λ b. cond b 1 0 + feeds line) plain.0 in omega (arith, here, feeds-plain line plain.1)
