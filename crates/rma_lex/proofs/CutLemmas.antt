@@ -1,6 +1,6 @@
 -- What a cutter stands for, through each of its calls.
 use Rattle.std.proofs.Common.{◌≡◌, ◌≢◌, ◌↔◌, ltb, ℕ, ◌+◌, ◌-◌, ◌<◌, ◌≤◌, Bool, true, false, List, [], ◌∷◌, ◌++◌, length, take, drop, get_or, refl, sym, ap, subst, ◌∙◌, arith, inl, inr, ⊎_elim, Some}
-use Rattle.std.specs.Prelude.{slice_get}
+use Rattle.std.specs.Prelude.{slice_get, Contains}
 use Rattle.std.proofs.lemmas.Bool.{ltb-false, le-ltb}
 use Rattle.std.proofs.lemmas.List.{length-append, length-drop, length-take, take_rest, take-append-drop, drop-drop, drop_more, drop_all, take_all, get_or-drop, get_or-take, get_or_default}
 use Rattle.rma_lex.specs.Lines.{lines, after_lines}
@@ -82,16 +82,27 @@ some_line cutting line left cuts none =
     at_end (byte ∷ bytes) = at_end bytes
 
 module _ (cutting : Cutting) (text : List ℕ) (start : ℕ) (left : cutting.rest ≡ drop start text) where
+  -- no line feed from the start on
+  pub no_feed_left : NoFeed text start (length text) → ¬ Contains cutting.rest 10
+  no_feed_left none c =
+      let within : c.0 < length (drop start text) = subst (λ rest. c.0 < length rest) left c.1 in
+      let long = length-drop start text in
+      none (start + c.0) (omega arith) (omega arith)
+      (get_or_default text (start + c.0) 0 10 (omega arith) ∙ sym (get_or-drop start text c.0 10) ∙ ap (λ rest. get_or rest c.0 10) (sym left) ∙ c.2)
+
+  pub NoFeed-left : ¬ Contains cutting.rest 10 → NoFeed text start (length text)
+  NoFeed-left none place low high feed =
+      let there : start + (place - start) ≡ place = omega arith in
+      none (
+        place - start,
+        subst (λ rest. place - start < length rest) (sym left) (omega (arith, length-drop start text)),
+        ap (λ rest. get_or rest (place - start) 10) left ∙ get_or-drop start text (place - start) 10 ∙ ap (λ i. get_or text i 10) there
+            ∙ get_or_default text place 10 0 high ∙ feed,
+      )
+
   -- no line feed from the start on, and nothing there at the end
   pub HasNoLine-at : NoFeed text start (length text) → (cutting.closed ≡ true → start ≡ length text) → HasNoLine cutting
-  HasNoLine-at none ended = (
-    λ c.
-        let within : c.0 < length (drop start text) = subst (λ rest. c.0 < length rest) left c.1 in
-        let long = length-drop start text in
-        none (start + c.0) (omega arith) (omega arith)
-        (get_or_default text (start + c.0) 0 10 (omega arith) ∙ sym (get_or-drop start text c.0 10) ∙ ap (λ rest. get_or rest c.0 10) (sym left) ∙ c.2),
-    λ e. left ∙ drop_all start text (omega (arith, ended e)),
-  )
+  HasNoLine-at none ended = (no_feed_left none, λ e. left ∙ drop_all start text (omega (arith, ended e)))
 
   -- the line at a place is the next one
   pub CutsOff-at : (end next : ℕ) → IsLineAt text cutting.closed start end next → CutsOff cutting (take (end - start) (drop start text)) (drop next text)

@@ -1,10 +1,10 @@
 -- What is known of the line feeds of a text, from one search to the next.
 use Rattle.std.proofs.Common.{◌≡◌, ◌≢◌, ℕ, ◌+◌, ◌-◌, ◌*◌, ◌%◌, ◌^◌, ◌<◌, ◌≤◌, ◌⊎◌, Bool, true, false, cond, eqb, List, ◌++◌, length, drop, map, get_or, refl, sym, ap, ◌∙◌, arith, ⊎_elim, bit_or, w64}
-use Rattle.std.specs.Int.{bit_at}
+use Rattle.std.specs.Int.{bit_at, trailing_zeros}
 use Rattle.std.specs.Simd.Lanes.{mask_l, chunk}
 use Rattle.std.proofs.lemmas.Bool.{cases_lt, cases_eq, eqb-true, eq-eqb}
 use Rattle.std.proofs.lemmas.List.{length-append, length-drop, get_or-drop, get_or_append_left, get_or_past}
-use Rattle.std.proofs.lemmas.Nat.Bits.{bit_at-zero, bit_at_set_same, bit_at_set_other}
+use Rattle.std.proofs.lemmas.Nat.Bits.{bit_at-trailing_zeros, bit_at-zero, bit_at_set_same, bit_at_set_other}
 use Rattle.std.proofs.lemmas.Simd.{length-chunk, get_or-chunk, bit_mask_l}
 use Rattle.std.proofs.Math.ListN.{get_or-map}
 use Rattle.rma_lex.specs.declared.line_feeds.LineFeeds.{LineFeeds}
@@ -75,6 +75,13 @@ module _ (feeds : LineFeeds) (text : List ℕ) (knows : Knows feeds text) where
               (omega arith, mark.1, mark.2);
           clean = knows.clean;
         }
+
+  -- with something marked a line feed is left
+  pub some_feed : feeds.mask ≢ 0 → feeds.mask < 2 ^ 64 → ¬ NoFeed text feeds.start (length text)
+  some_feed some fits none =
+      let low = bit_at-trailing_zeros w64 feeds.mask (omega arith) fits in
+      let here = knows.only (trailing_zeros w64 feeds.mask) low.1 in
+      none (feeds.base + trailing_zeros w64 feeds.mask) here.0 (omega (arith, here.1, knows.within)) here.2
 
   -- at the end nothing is left
   pub Knows-end : feeds.mask ≡ 0 → feeds.seen ≡ length text → Knows (record feeds { start = length text }) text

@@ -7,3 +7,4 @@ pub mod FieldLemmas
 pub mod TextLemmas
 pub mod CheckLemmas
 pub mod StayLemmas
+pub mod AlikeLemmas

@@ -37,20 +37,3 @@ lines_stay zero text more h = refl
 lines_stay (suc n) [] more h = absurd (omega arith)
 lines_stay (suc n) (byte ∷ text) more h =
     stay_step (byte == 10) byte n (count_by (λ b. b == 10) text) (lines (text ++ more)) (lines text) (rw sum_by-cons at h) (has_lines text more) (λ m below. lines_stay m text more below)
-
--- what lines are that line feeds end
-ended_lines : (n : ℕ) (open_end : Bool) (them : List (List ℕ)) → n + cond open_end 1 0 ≤ length them → take n (checked_with open_end them) ≡ map (text_of true) (take n them)
-ended_lines zero open_end them h = refl
-ended_lines (suc n) open_end [] h = absurd (omega arith)
-ended_lines (suc n) true (line ∷ []) h = absurd (omega arith)
-ended_lines (suc zero) false (line ∷ []) h = refl
-ended_lines (suc (suc n)) false (line ∷ []) h = refl
-ended_lines (suc n) open_end (line ∷ next ∷ them) h = ap (λ rest. text_of true line ∷ rest) (ended_lines n open_end (next ∷ them) (omega arith))
-
-first_ended : (n : ℕ) (text : List ℕ) → n ≤ count_by (λ byte. byte == 10) text → take n (checked_lines text) ≡ map (text_of true) (take n (lines text))
-first_ended n text h = ended_lines n (has_open_end text) (lines text) (omega (arith, h, length-lines text))
-
--- what each ended line is stays too
-pub checked_stay : (n : ℕ) (text more : List ℕ) → n ≤ count_by (λ byte. byte == 10) text → take n (checked_lines (text ++ more)) ≡ take n (checked_lines text)
-checked_stay n text more h =
-    first_ended n (text ++ more) (omega (arith, h, feeds-append text more)) ∙ ap (map (text_of true)) (lines_stay n text more h) ∙ sym (first_ended n text h)

@@ -1,5 +1,6 @@
 -- What a cutter keeps, and which text it stands for.
-use Rattle.std.specs.Prelude.{◌≡◌, ◌≢◌, ◌⊎◌, ℕ, ◌+◌, ◌≤◌, ◌==◌, Bool, true, false, List, [], ◌∷◌, ◌++◌, length, count_by, Contains}
+use Rattle.std.specs.Prelude.{◌≡◌, ◌≢◌, ◌⊎◌, ℕ, ◌+◌, ◌<◌, ◌≤◌, ◌==◌, Bool, true, false, List, [], ◌∷◌, ◌++◌, length, count_by, Contains}
+use Rattle.rma_base.specs.declared.limits.TheConstants.{LINE}
 use Rattle.rma_lex.specs.Lines.{lines, after_lines}
 
 -- a cutter: how many bytes it was fed, how many lines it handed out, what it keeps of the text behind them, and
@@ -17,6 +18,28 @@ pub record StandsFor (cutting : Cutting) (text : List ℕ) : Type 0 where
   pub handed : cutting.handed ≤ length (lines text)
   pub whole : cutting.closed ≡ false → cutting.handed ≤ count_by (λ byte. byte == 10) text
   pub rest : cutting.rest ≡ after_lines cutting.handed text
+
+-- What is kept of a text leaves out bytes inside its first line, behind more bytes than a line may have.
+pub record Abridges (kept text : List ℕ) : Type 0 where
+  pub front : List ℕ
+  pub left_out : List ℕ
+  pub back : List ℕ
+  pub kept_is : kept ≡ front ++ back
+  pub text_is : text ≡ front ++ (left_out ++ back)
+  pub plain_front : ¬ Contains front 10
+  pub plain_left_out : ¬ Contains left_out 10
+  pub too_long : LINE < length front
+
+-- what is kept of a text is all of it, or leaves out bytes inside a first line that is too long
+abbrev pub IsAlike : List ℕ → List ℕ → Type 0
+IsAlike kept text = (kept ≡ text) ⊎ Abridges kept text
+
+-- The cutter stands for the text as one that keeps this rest whole would; of its first line it may have left out
+-- bytes, if that is too long.
+pub record StandsAlike (cutting : Cutting) (text : List ℕ) : Type 0 where
+  pub whole : List ℕ
+  pub stands : StandsFor (record cutting { rest = whole }) text
+  pub alike : IsAlike cutting.rest whole
 
 -- No whole line is left: no line feed while the text goes on, and nothing once it has ended.
 abbrev pub HasNoLine : Cutting → Type 0

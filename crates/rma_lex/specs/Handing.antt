@@ -6,17 +6,19 @@ use Rattle.rma_lex.specs.declared.cutter.Line.{Line}
 use Rattle.rma_lex.specs.declared.cutter.RawLine.{RawLine}
 use Rattle.rma_lex.specs.declared.cutter.LexFault.{LexFault}
 use Rattle.rma_lex.specs.contracts.cutter.LineCutter.{the_row}
-use Rattle.rma_lex.specs.Cutting.{Cutting, StandsFor, TakesLine}
+use Rattle.rma_lex.specs.Cutting.{Cutting, StandsFor, StandsAlike, TakesLine}
 
 -- The cutter handed out that line as it stands, or is as it was where there was none; and it stands for what it stood for.
 pub record HandsOutRaw (before : Cutting) (answer : Option RawLine) (after : Cutting) : Type 0 where
   pub line : MatchOption answer (after ≡ before) (λ line. TakesLine before line.text.now after)
   pub text : (text : List ℕ) → StandsFor before text → StandsFor after text
+  pub alike : (text : List ℕ) → StandsAlike before text → StandsAlike after text
 
 -- The cutter handed out a line, good or bad, or is as it was where there was none; and it stands for what it stood for.
 pub record HandsOut (before : Cutting) (answer : Option (Result Line LexFault)) (after : Cutting) : Type 0 where
   pub line : MatchOption answer (after ≡ before) (λ _. (line : List ℕ) × TakesLine before line after)
   pub text : (text : List ℕ) → StandsFor before text → StandsFor after text
+  pub alike : (text : List ℕ) → StandsAlike before text → StandsAlike after text
 
 -- The cutter ends as one that handed out the answer as it stands.
 abbrev pub LendsRawLine : MutBor Cutting → Option RawLine → Fml

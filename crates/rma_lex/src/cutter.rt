@@ -1,8 +1,8 @@
 //! A cutter of lines: it is fed a text in pieces and hands out its lines one by one.
-ghost use Rattle.std.specs.Prelude.{◌≡◌, ◌↔◌, ℕ, ◌+◌, ◌^◌, ◌<◌, ◌≤◌, true, false, List, [], ◌++◌, length, IsNone, IfNone, IfSome, MatchResult, Ok, Err, OnOk, OnErr, slice_get, drop, vec_len, count_by, ◌==◌};
+ghost use Rattle.std.specs.Prelude.{◌≡◌, ◌↔◌, ℕ, ◌+◌, ◌^◌, ◌<◌, ◌≤◌, true, false, List, [], ◌++◌, length, IsNone, IfNone, IfSome, MatchResult, Ok, Err, OnOk, OnErr, slice_get, drop, vec_len, count_by, Contains, ◌==◌};
 ghost use Rattle.std.specs.List.{list_all};
 ghost use Rattle.rma_lex.specs.Lines.{lines, has_open_end};
-ghost use Rattle.rma_lex.specs.Cutting.{StandsFor, HasNoLine, IsNextLine};
+ghost use Rattle.rma_lex.specs.Cutting.{StandsFor, StandsAlike, HasNoLine, IsNextLine};
 ghost use Rattle.rma_lex.specs.Texts.{is_text_byte, text_of};
 ghost use Rattle.rma_lex.specs.Checked.{checked_lines};
 ghost use Rattle.rma_lex.specs.Told.{told, number};
@@ -10,7 +10,7 @@ ghost use Rattle.rma_lex.specs.Told.{told, number};
 use crate::line_feeds::LineFeeds;
 use crate::texts::{checked_text, clean_text};
 use rma_base::allocation::Memory;
-use rma_base::limits::FED;
+use rma_base::limits::{FED, LINE};
 use rma_base::lines::LineNo;
 use rma_base::reasons::FormReason;
 use std::alloc::Global;
@@ -97,6 +97,7 @@ impl LineCutter {
         ensures ok { OnOk result (self.new ≡ record self.old { fed = self.old.fed + length piece.now; rest = self.old.rest ++ piece.now }) }
         ensures err { OnErr result (self.new ≡ self.old) }
         ensures text { OnOk result ((text : List ℕ) → StandsFor self.old text → StandsFor self.new (text ++ piece.now)) }
+        ensures alike { OnOk result ((text : List ℕ) → StandsAlike self.old text → StandsAlike self.new (text ++ piece.now)) }
     {
         drop_front(&mut self.text, self.feeds.start);
         self.feeds.move_down();
@@ -109,8 +110,26 @@ impl LineCutter {
     pub fn close(&mut self)
         ensures closed { self.new ≡ record self.old { closed = true } }
         ensures text { (text : List ℕ) → StandsFor self.old text → StandsFor self.new text }
+        ensures alike { (text : List ℕ) → StandsAlike self.old text → StandsAlike self.new text }
     {
         self.closed = true;
+    }
+
+    /// Forgets bytes of the line that goes on, where it is too long already: it keeps one byte more than a line may
+    /// have. The line is still refused for its length, and no other line changes.
+    pub fn shorten(&mut self)
+        ensures alike { (text : List ℕ) → StandsAlike self.old text → StandsAlike self.new text }
+        ensures bound { ¬ Contains self.old.rest 10 → length self.new.rest ≤ LINE + 1 }
+        ensures same { self.new ≡ record self.old { rest = self.new.rest } }
+    {
+        if self.text.len() - self.feeds.start <= LINE {
+            return;
+        }
+        if self.feeds.has_none(&self.text) {
+            let end = self.feeds.start + LINE + 1;
+            self.text.truncate(end);
+            self.feeds.cut_off(end);
+        }
     }
 
     /// The next line as it stands, if a whole one is left.
@@ -125,6 +144,7 @@ impl LineCutter {
         // What that says of the text that the cutter stands for.
         ensures text { (text : List ℕ) → StandsFor self.old text → IfSome result (λ line. slice_get (lines text) self.old.handed ≡ Some line.text.now) }
         ensures all { (text : List ℕ) → StandsFor self.old text → IsNone result → self.old.closed ≡ true → self.old.handed ≡ length (lines text) }
+        ensures all_alike { (text : List ℕ) → StandsAlike self.old text → IsNone result → self.old.closed ≡ true → self.old.handed ≡ length (lines text) }
         ensures* after { sem 𝓛 (LendsRawLine self.entry result) }
     {
         let start = self.feeds.start;
@@ -149,6 +169,10 @@ impl LineCutter {
         ensures number { IfSome result (λ found. number found ≡ self.old.handed + 1) }
         ensures text { (text : List ℕ) → StandsFor self.old text → IfSome result (λ found. slice_get (checked_lines text) self.old.handed ≡ Some (told found)) }
         ensures all { (text : List ℕ) → StandsFor self.old text → IsNone result → self.old.closed ≡ true → self.old.handed ≡ length (lines text) }
+
+        // The same, where bytes of a line that is too long were left out.
+        ensures alike { (text : List ℕ) → StandsAlike self.old text → IfSome result (λ found. slice_get (checked_lines text) self.old.handed ≡ Some (told found)) }
+        ensures all_alike { (text : List ℕ) → StandsAlike self.old text → IsNone result → self.old.closed ≡ true → self.old.handed ≡ length (lines text) }
         ensures* after { sem 𝓛 (LendsLine self.entry result) }
     {
         match self.next_raw_line() {

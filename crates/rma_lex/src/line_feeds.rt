@@ -1,5 +1,5 @@
 // The line feeds of a text, found a block of 64 bytes at a time and handed out one by one.
-ghost use Rattle.std.specs.Prelude.{◌≡◌, ◌≢◌, ◌↔◌, ℕ, ◌+◌, ◌<◌, ◌≤◌, List, length, drop, true, IsTrue, IfNone, IfSome};
+ghost use Rattle.std.specs.Prelude.{◌≡◌, ◌≢◌, ◌↔◌, ℕ, ◌+◌, ◌<◌, ◌≤◌, List, length, drop, take, true, false, IsTrue, IfNone, IfSome};
 ghost use Rattle.std.specs.List.{list_all};
 ghost use Rattle.rma_lex.specs.Feeds.{NoFeed, IsFirstFeed, IsLineAt, MarksFeeds};
 ghost use Rattle.rma_lex.specs.Masks.{IsLowestBit, DropsBit};
@@ -124,6 +124,32 @@ impl LineFeeds {
         if !all_clean(&text[self.base..]) {
             self.doubtful = self.seen;
         }
+    }
+
+    // Whether no line feed is left.
+    pub(crate) fn has_none(&mut self, text: &[u8]) -> bool
+        requires { Knows self.old text.now }
+        ensures none { result ≡ true → NoFeed text.now self.old.start (length text.now) × (self.new.mask ≡ 0) × (self.new.seen ≡ length text.now) }
+        ensures some { result ≡ false → ¬ NoFeed text.now self.old.start (length text.now) }
+        ensures start { self.new.start ≡ self.old.start }
+        ensures knows { Knows self.new text.now }
+    {
+        if self.mask != 0 {
+            return false;
+        }
+        self.search(text);
+        self.mask == 0
+    }
+
+    // The text from a place on was dropped.
+    pub(crate) fn cut_off(&mut self, place: usize)
+        requires none { self.old.mask ≡ 0 }
+        requires behind { self.old.start ≤ place }
+        requires searched { place ≤ self.old.seen }
+        ensures start { self.new.start ≡ self.old.start }
+        ensures knows { (text : List ℕ) → Knows self.old text → Knows self.new (take place text) }
+    {
+        self.seen = place;
     }
 
     // The text before the start was dropped.

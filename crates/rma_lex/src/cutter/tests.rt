@@ -3,7 +3,7 @@ ghost use Rattle.std.specs.Prelude.{◌≡◌, false};
 
 use super::LineCutter;
 use rma_base::allocation::Memory;
-use rma_base::limits::FED;
+use rma_base::limits::{FED, LINE};
 use std::alloc::Global;
 use std::test::Fail;
 
@@ -140,7 +140,16 @@ fn feed_and_take(cutter: &mut LineCutter, piece: &[u8], out: &mut String) -> Res
     if piece.len() as u64 <= room {
         cutter.feed(piece)?;
     }
-    take_lines(cutter, out)
+    take_lines(cutter, out)?;
+    cutter.shorten();
+    Ok(())
+}
+
+// A line of so many bytes, and one more.
+fn long_text(alloc: Global, length: usize) -> Result<Vec<u8>, Memory> {
+    let mut text = vec![in alloc; b'a'; length]?;
+    text.extend_from_slice(b"\nend\n")?;
+    Ok(text)
 }
 
 // The lines that a cutter hands out where the text comes in pieces of a size, with how many it says there are.
@@ -166,5 +175,19 @@ fn every_size_of_piece_gives_the_lines(rt: HostRuntime) -> Result<(), Fail> {
             assert_eq!(rt; count, case.count);
         }
     }
+    Ok(())
+}
+
+#[test]
+fn a_line_that_is_too_long_is_refused_however_long_it_is(rt: HostRuntime) -> Result<(), Fail> {
+    for length in [LINE + 1, LINE + 2, 3 * LINE] {
+        let text = long_text(rt.alloc(), length)?;
+        let (lines, count) = cut(rt.alloc(), text.as_slice(), 65536)?;
+        assert_eq!(rt; lines.as_str(), "1!LineTooLong|2:end|");
+        assert_eq!(rt; count, 2);
+    }
+    let text = long_text(rt.alloc(), LINE)?;
+    let (lines, _) = cut(rt.alloc(), text.as_slice(), 65536)?;
+    assert_eq!(rt; lines.len(), LINE + "1:|2:end|".len());
     Ok(())
 }
