@@ -1,17 +1,17 @@
 -- A cutter that left out bytes of a line that is too long, through each of its calls.
-use Rattle.std.proofs.Common.{◌≡◌, ◌≢◌, ◌↔◌, ℕ, ◌+◌, ◌<◌, ◌≤◌, Bool, true, false, List, [], ◌∷◌, ◌++◌, length, take, drop, Some, Err, refl, sym, ap, subst, ◌∙◌, arith, inl, inr, ⊎_elim, append_assoc, length-append}
+use Rattle.std.proofs.Common.{max, ◌≡◌, ◌≢◌, ◌↔◌, ℕ, ◌+◌, ◌<◌, ◌≤◌, Bool, true, false, List, [], ◌∷◌, ◌++◌, length, take, drop, Some, Err, refl, sym, ap, subst, ◌∙◌, arith, inl, inr, ⊎_elim, append_assoc, length-append}
 use Rattle.std.specs.Prelude.{slice_get, Contains}
 use Rattle.std.proofs.lemmas.Bool.{cases_lt, lt-ltb, false≢true, eqb-false}
 use Rattle.std.proofs.lemmas.List.{append-nil, drop-take, take-append-drop, take-append-le, take_all, length-take}
 use Rattle.rma_base.specs.declared.limits.TheConstants.{LINE}
 use Rattle.rma_base.specs.declared.reasons.FormReason.TheVariants.{LineTooLong}
-use Rattle.rma_lex.specs.Lines.{lines}
+use Rattle.rma_lex.specs.Lines.{lines, onto_first}
 use Rattle.rma_lex.specs.Texts.{text_of}
 use Rattle.rma_lex.specs.Feeds.{NoFeed}
 use Rattle.rma_lex.specs.Checked.{checked_lines}
 use Rattle.rma_lex.specs.Cutting.{Cutting, StandsFor, StandsAlike, Abridges, IsAlike, HasNoLine, CutsOff, TakesLine}
 use Rattle.rma_lex.proofs.LineLemmas.{Plain, Plain-from_Contains, Contains-from_Plain}
-use Rattle.rma_lex.proofs.CutLemmas.{StandsFor-fed, StandsFor-next, handed_all, no_feed_left, NoFeed-left}
+use Rattle.rma_lex.proofs.CutLemmas.{StandsFor-fed, StandsFor-next, handed_all, length-lines_left, no_feed_left, NoFeed-left}
 use Rattle.rma_lex.proofs.CheckLemmas.{slice_get-checked}
 
 -- a cutter that stands for a text in full
@@ -270,3 +270,38 @@ pub no_feed_found : (before : Cutting) (items shown : List ℕ) (fed handed star
     → shown ≡ items → ¬ Contains before.rest 10 → NoFeed shown start (length shown)
 no_feed_found before items shown fed handed start closed same reads none =
     subst (λ t. NoFeed t start (length t)) (sym reads) (NoFeed-left before items start (sym (ap (λ c. c.rest) same)) none)
+
+length-onto_first : (byte : ℕ) (them : List (List ℕ)) → length (onto_first byte them) ≡ max 1 (length them)
+length-onto_first byte [] = omega arith
+length-onto_first byte (line ∷ them) = omega arith
+
+lines-front : (front back : List ℕ) → Plain front → 0 < length front → length (lines (front ++ back)) ≡ max 1 (length (lines back))
+lines-front [] back plain some = absurd (omega arith)
+lines-front (byte ∷ []) back plain some = rw plain.0 (length-onto_first byte (lines back))
+lines-front (byte ∷ next ∷ front) back plain some =
+    let here : length (lines (byte ∷ next ∷ front ++ back)) ≡ max 1 (length (lines (next ∷ front ++ back))) = rw plain.0 (length-onto_first byte (lines (next ∷ front ++ back))) in
+    let later = lines-front (next ∷ front) back plain.1 (omega arith) in
+    omega arith
+
+lines-behind : (front back : List ℕ) → Plain front → max 1 (length (lines (front ++ back))) ≡ max 1 (length (lines back))
+lines-behind [] back plain = refl
+lines-behind (byte ∷ front) back plain = let all = lines-front (byte ∷ front) back plain (omega arith) in omega arith
+
+-- a text of which bytes of a line were left out has as many lines
+length-lines-alike : (kept text : List ℕ) → IsAlike kept text → length (lines kept) ≡ length (lines text)
+length-lines-alike kept text alike = ⊎_elim
+    (λ (same : kept ≡ text). ap (λ t. length (lines t)) same)
+    (λ (short : Abridges kept text).
+    let plain = Plain-from_Contains short.front short.plain_front in
+    let some : 0 < length short.front = omega (arith, short.too_long) in
+    ap (λ t. length (lines t)) short.kept_is ∙ lines-front short.front short.back plain some
+    ∙ sym (ap (λ t. length (lines t)) short.text_is ∙ lines-front short.front (short.left_out ++ short.back) plain some
+    ∙ lines-behind short.left_out short.back (Plain-from_Contains short.left_out short.plain_left_out))) alike
+
+-- the lines that were handed out and those of what is kept are those of the text
+pub count-alike : (now : Cutting) (items : List ℕ) (fed handed start count : ℕ) (closed : Bool)
+    → ◌≡◌ {A = Cutting} (record { fed = fed; handed = handed; rest = drop start items; closed = closed }) now → count ≡ length (lines (drop start items))
+    → (text : List ℕ) → StandsAlike now text → handed + count ≡ length (lines text)
+count-alike now items fed handed start count closed same counts text stands =
+    ap (λ n. handed + n) counts ∙ ap (λ c. c.handed + length (lines c.rest)) same ∙ ap (λ n. now.handed + n) (length-lines-alike now.rest stands.whole stands.alike)
+    ∙ length-lines_left (record now { rest = stands.whole }) text stands.stands

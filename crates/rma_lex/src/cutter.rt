@@ -184,6 +184,7 @@ impl LineCutter {
     /// How many lines the text has so far, a last one without a line feed too.
     pub fn lines(&self) -> u32
         ensures text { (text : List ℕ) → StandsFor self.now text → result ≡ length (lines text) }
+        ensures alike { (text : List ℕ) → StandsAlike self.now text → result ≡ length (lines text) }
         ensures rest { result ≡ self.now.handed + length (lines self.now.rest) }
         ensures bound { result ≤ FED }
     {
