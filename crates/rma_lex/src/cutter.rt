@@ -41,8 +41,8 @@ pub struct LexFault {
     pub reason: FormReason,
 }
 
-/// Cuts a text into lines. It keeps what it was fed and did not hand out; what it handed out is dropped at the next
-/// feed.
+/// Cuts a text into lines. It keeps what it was fed and did not hand out, but for what `shorten` forgets; what it handed
+/// out is dropped at the next feed.
 #[derive(Drop)]
 pub struct LineCutter {
     text: Vec<u8>,
@@ -132,7 +132,7 @@ impl LineCutter {
         }
     }
 
-    /// The next line as it stands, if a whole one is left.
+    /// The next line as it stands, if a whole one is left. It is without the bytes that `shorten` forgot.
     #[inline]
     pub fn next_raw_line(&mut self) -> Option<RawLine<'_>>
         ensures none { IsNone result ↔ HasNoLine self.old }
