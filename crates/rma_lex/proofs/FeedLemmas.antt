@@ -24,7 +24,7 @@ module _ (feeds : LineFeeds) (text : List ℕ) (knows : Knows feeds text) where
 
   -- with nothing marked, the line feeds of what comes next are all
   pub Knows-block : (to mask doubtful : ℕ) → feeds.mask ≡ 0 → feeds.seen ≤ to → to ≤ length text → MarksFeeds text feeds.seen to mask → IsClean text doubtful to
-      → Knows (record { start = feeds.start; doubtful = doubtful; seen = to; base = feeds.seen; mask = mask }) text
+      → Knows (record { start = feeds.start; doubtful = doubtful; checks = feeds.checks; seen = to; base = feeds.seen; mask = mask }) text
   Knows-block to mask doubtful empty ordered within marks clean = record {
     started = omega (arith, knows.started);
     within = within;
@@ -58,7 +58,7 @@ module _ (feeds : LineFeeds) (text : List ℕ) (knows : Knows feeds text) where
         }
 
     -- behind it the other marks are those of what is left
-    pub Knows-next : Knows (record { start = feeds.base + low + 1; doubtful = feeds.doubtful; seen = feeds.seen; base = feeds.base; mask = left }) text
+    pub Knows-next : Knows (record { start = feeds.base + low + 1; doubtful = feeds.doubtful; checks = feeds.checks; seen = feeds.seen; base = feeds.base; mask = left }) text
     Knows-next =
         let here = knows.only low lowest.set in
         record {
@@ -108,7 +108,7 @@ module _ (feeds : LineFeeds) (text : List ℕ) (knows : Knows feeds text) where
 
   -- what was searched with nothing marked, once the text before the start is dropped
   pub Knows-drop : (seen base : ℕ) → (seen ≡ 0) ⊎ ((feeds.mask ≡ 0) × (seen ≡ feeds.seen - feeds.start))
-      → Knows (record { start = 0; doubtful = feeds.doubtful - feeds.start; seen = seen; base = base; mask = 0 }) (drop feeds.start text)
+      → Knows (record { start = 0; doubtful = feeds.doubtful - feeds.start; checks = feeds.checks; seen = seen; base = base; mask = 0 }) (drop feeds.start text)
   Knows-drop seen base cases = record {
     started = omega arith;
     within = ⊎_elim (λ e. omega arith) (λ e. omega (arith, e.1, knows.within, length-drop feeds.start text)) cases;

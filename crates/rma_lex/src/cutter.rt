@@ -68,14 +68,29 @@ impl LineCutter {
     ghost use Rattle.std.specs.Borrow.{sem};
     ghost use Rattle.rma_lex.specs.Handing.{LendsRawLine, LendsLine};
 
-    /// A cutter that was fed nothing.
+    /// A cutter that was fed nothing, for lines as they stand.
     pub fn new(alloc: Global) -> LineCutter
         ensures empty { result ≡ record { fed = 0; handed = 0; rest = []; closed = false } }
         ensures text { StandsFor result [] }
     {
         LineCutter {
             text: Vec::new(alloc),
-            feeds: LineFeeds::new(),
+            feeds: LineFeeds::new(false),
+            fed: 0,
+            handed: 0,
+            closed: false,
+        }
+    }
+
+    /// A cutter that was fed nothing, for checked lines: it looks at all bytes as it searches them for line feeds, so
+    /// that no line needs it again. One that `new` makes hands out the same lines, and looks at each of their bytes.
+    pub fn for_checked_lines(alloc: Global) -> LineCutter
+        ensures empty { result ≡ record { fed = 0; handed = 0; rest = []; closed = false } }
+        ensures text { StandsFor result [] }
+    {
+        LineCutter {
+            text: Vec::new(alloc),
+            feeds: LineFeeds::new(true),
             fed: 0,
             handed: 0,
             closed: false,

@@ -15,6 +15,8 @@ use std::simd::prelude::*;
 pub(crate) struct LineFeeds {
     pub(crate) start: usize,
     pub(crate) doubtful: usize,
+    // Whether all bytes that are searched are looked at too.
+    pub(crate) checks: bool,
     seen: usize,
     base: usize,
     mask: u64,
@@ -24,13 +26,14 @@ impl LineFeeds {
     ghost use Rattle.rma_lex.specs.Found.{Knows};
 
     // Nothing was searched yet.
-    pub(crate) fn new() -> LineFeeds
+    pub(crate) fn new(checks: bool) -> LineFeeds
         ensures start { result.start ≡ 0 }
         ensures knows { (text : List ℕ) → Knows result text }
     {
         LineFeeds {
             start: 0,
             doubtful: 0,
+            checks,
             seen: 0,
             base: 0,
             mask: 0,
@@ -104,7 +107,7 @@ impl LineFeeds {
         self.base = self.seen;
         self.mask = feeds_of_block(text, self.base);
         self.seen += 64;
-        if !is_clean_block(text, self.base) {
+        if !self.checks || !is_clean_block(text, self.base) {
             self.doubtful = self.seen;
         }
     }
@@ -121,7 +124,7 @@ impl LineFeeds {
         self.base = self.seen;
         self.mask = feeds_of_tail(text, self.base);
         self.seen = text.len();
-        if !all_clean(&text[self.base..]) {
+        if !self.checks || !all_clean(&text[self.base..]) {
             self.doubtful = self.seen;
         }
     }
