@@ -16,7 +16,7 @@ use Rattle.rma_lex.specs.Checked.{checked_lines, checked_with}
 use Rattle.rma_lex.specs.Lines.{lines, has_open_end}
 use Rattle.rma_lex.specs.Cutting.{Cutting}
 use Rattle.rma_lex.specs.Cutting as cutting
-use Rattle.rma_lex.proofs.StayLemmas.{checked_stay}
+use Rattle.rma_lex.proofs.CheckLemmas.{checked_lines-more, length-checked_lines}
 use Rattle.rma_book.specs.Reading.{HasTaken, HasRead, IsBehind, IsReading}
 use Rattle.rma_book.specs.declared.readers.Reader.{Reader}
 use Rattle.rma_book.specs.Standing.{Standing, StandsFor}
@@ -185,7 +185,7 @@ pub IsReading-fed : (rank logs : ℕ) (before after : Cutting) (text piece : Lis
 IsReading-fed rank logs before after text piece reader goes_on same stands h = record {
   stands_for = stands;
   read = subst (λ lines. HasRead rank logs lines reader)
-      (sym (ap (λ n. take n (checked_lines (text ++ piece))) same ∙ checked_stay before.handed text piece (h.stands_for.whole goes_on))) h.read;
+      (sym (ap (λ n. take n (checked_lines (text ++ piece))) same ∙ checked_lines-more before.handed text piece (h.stands_for.whole goes_on))) h.read;
 }
 
 -- the end of the text leaves what was read as it is
@@ -195,14 +195,6 @@ IsReading-closed rank logs before after text reader same stands h = record {
   stands_for = stands;
   read = subst (λ n. HasRead rank logs (take n (checked_lines text)) reader) (sym same) h.read;
 }
-
-length-checked_with : (open_end : Bool) (them : List (List ℕ)) → length (checked_with open_end them) ≡ length them
-length-checked_with open_end [] = refl
-length-checked_with open_end (line ∷ []) = refl
-length-checked_with open_end (line ∷ next ∷ rest) = ap suc (length-checked_with open_end (next ∷ rest))
-
-pub length-checked_lines : (text : List ℕ) → length (checked_lines text) ≡ length (lines text)
-length-checked_lines text = length-checked_with (has_open_end text) (lines text)
 
 -- all lines were read
 pub IsReading-all : (rank logs : ℕ) (cutter : Cutting) (text : List ℕ) (reader : Reader) → cutter.handed ≡ length (lines text) → IsReading rank logs cutter text reader

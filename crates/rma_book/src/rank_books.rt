@@ -40,7 +40,7 @@ impl RankBook {
     {
         Ok(RankBook {
             alloc,
-            cutter: LineCutter::new(alloc),
+            cutter: LineCutter::for_checked_lines(alloc),
             reader: Reader {
                 book: Book::new(alloc, rank, logs)?,
                 fault: None,

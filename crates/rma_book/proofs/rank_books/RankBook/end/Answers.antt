@@ -2,7 +2,8 @@ use Rattle.std.proofs.Common.{◌+◌, ap, sym, ◌∙◌, subst}
 use Rattle.rma_lex.specs.Checked.{checked_lines}
 use Rattle.rma_lex.specs.Cutting.{Cutting}
 use Rattle.rma_book.specs.RankReading.{StandsFor}
-use Rattle.rma_book.proofs.ReadingLemmas.{IsReading-closed, IsReading-all, length-checked_lines}
+use Rattle.rma_lex.proofs.CheckLemmas.{length-checked_lines}
+use Rattle.rma_book.proofs.ReadingLemmas.{IsReading-closed, IsReading-all}
 use Rattle.rma_book.proofs.rank_books.RankBook.end.Goals as goal
 
 pub returns : goal.returns
