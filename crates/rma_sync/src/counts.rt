@@ -31,9 +31,12 @@ pub(crate) fn note(
     let Some(name) = kinds::named(kind, &call.what) else {
         return Ok(());
     };
-    let number = count(counts, name);
+    if let Some(number) = counts.get_mut(name) {
+        *number += 1;
+        return Ok(());
+    }
     let name = name.copy()?;
-    match counts.insert(name, number + 1) {
+    match counts.insert(name, 1) {
         Ok(_) => Ok(()),
         Err(_) => Err(Memory),
     }
