@@ -9,7 +9,7 @@ pub mod matching;
 pub mod meetings;
 mod members;
 pub mod mentions;
-pub mod missing;
+mod missing;
 pub mod terms;
 #[cfg(test)]
 mod tests;

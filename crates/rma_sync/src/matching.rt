@@ -4,13 +4,11 @@ ghost use Rattle.rma_sync.specs.Matching.{match_faults};
 
 use crate::differences::differences;
 use crate::meetings::collective_differences;
-use crate::mentions::Mentions;
+use crate::members::Members;
 use crate::missing::missing_calls;
-use crate::terms::WindowTerms;
 use rma_base::allocation::Memory;
 use rma_base::lists::Sequence;
 use rma_base::match_reasons::MatchReason;
-use rma_base::rank_sets::RankSet;
 use rma_call::calls::RankCalls;
 use rma_call::match_faults::MatchFault;
 use std::alloc::Global;
@@ -21,18 +19,13 @@ use std::alloc::Global;
 pub fn match_faults(alloc: Global, ranks: &[RankCalls]) -> Result<Sequence<MatchFault>, Memory>
     ensures { IfOk result (λ faults. faults ≡ match_faults ranks.now) }
 {
-    let creations = Mentions::<WindowTerms>::new(alloc, ranks)?;
-    let declarations = Mentions::<RankSet>::new(alloc, ranks)?;
+    let members = Members::new(alloc, ranks)?;
+    let windows = differences(alloc, MatchReason::WindowDiffers, &members.creations)?;
+    let comms = differences(alloc, MatchReason::CommDiffers, &members.declarations)?;
     let mut faults = collective_differences(alloc, ranks)?;
-    append(&mut faults, &missing_calls(alloc, ranks)?)?;
-    append(
-        &mut faults,
-        &differences(alloc, MatchReason::WindowDiffers, &creations)?,
-    )?;
-    append(
-        &mut faults,
-        &differences(alloc, MatchReason::CommDiffers, &declarations)?,
-    )?;
+    append(&mut faults, &missing_calls(alloc, ranks, members)?)?;
+    append(&mut faults, &windows)?;
+    append(&mut faults, &comms)?;
     Ok(faults)
 }
 

@@ -15,8 +15,8 @@ use std::alloc::Global;
 /// The communicators and the windows of a run, with their members.
 #[derive(Drop)]
 pub(crate) struct Members {
-    declarations: Mentions<RankSet>,
-    creations: Mentions<WindowTerms>,
+    pub(crate) declarations: Mentions<RankSet>,
+    pub(crate) creations: Mentions<WindowTerms>,
     everyone: Vec<u32>,
 }
 

@@ -94,10 +94,10 @@ impl Watch {
 
 impl Watches {
     /// Both kinds in a run.
-    fn new(alloc: Global, ranks: &[RankCalls]) -> Result<Watches, Memory>
+    fn new(alloc: Global, ranks: &[RankCalls], members: Members) -> Result<Watches, Memory>
+        requires { AreMembers ranks.now members }
         ensures { IfOk result (λ watches. AreWatches ranks.now watches) }
     {
-        let members = Members::new(alloc, ranks)?;
         let collectives = Watch::new(alloc, Kind::Collective, ranks)?;
         let frees = Watch::new(alloc, Kind::Free, ranks)?;
         Ok(Watches {
@@ -132,10 +132,15 @@ impl Watches {
 }
 
 /// The faults of the calls that some member does not make.
-pub fn missing_calls(alloc: Global, ranks: &[RankCalls]) -> Result<Sequence<MatchFault>, Memory>
+pub(crate) fn missing_calls(
+    alloc: Global,
+    ranks: &[RankCalls],
+    members: Members,
+) -> Result<Sequence<MatchFault>, Memory>
+    requires { AreMembers ranks.now members }
     ensures { IfOk result (λ faults. faults ≡ missing_calls ranks.now) }
 {
-    let mut watches = Watches::new(alloc, ranks)?;
+    let mut watches = Watches::new(alloc, ranks, members)?;
     let mut faults = Sequence::new(alloc);
     for rank in ranks {
         judge_rank(alloc, rank, &mut watches, &mut faults)?;
