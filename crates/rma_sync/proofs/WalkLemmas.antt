@@ -1,7 +1,7 @@
 -- One more element at a loop's step.
 use Rattle.std.proofs.Common.{◌≡◌, ℕ, ◌+◌, ◌<◌, List, [], ◌∷◌, ◌++◌, length, get_or, take, Option, sym, ap, ◌∙◌}
 use Rattle.std.specs.List.{filter_map, flat_map, cons_option}
-use Rattle.std.proofs.lemmas.List.{take_more, append_assoc, flat_map_more}
+use Rattle.std.proofs.lemmas.List.{take_more, append_assoc, append-nil, flat_map_more}
 use Rattle.std.proofs.lemmas.List.Elements.{filter_map-append}
 
 -- the front with the element behind it
@@ -20,3 +20,10 @@ module _ {X Y : Type 0} where
   pub flat_map_taken : (f : X → List Y) (xs : List X) (i : ℕ) (x : X) → i < length xs → x ≡ get_or xs i x →
       flat_map f (take i xs) ++ f x ≡ flat_map f (take (i + 1) xs)
   flat_map_taken f xs i x lt is = flat_map_more f [] (take i xs) x ∙ ap (flat_map f) (sym (taken xs i x lt is))
+
+-- four lists, put behind one another in turn
+pub joined : {X : Type 0} (a b c d l b' c' d' l1 l2 l3 : List X) → l ≡ a → b' ≡ b → c' ≡ c → d' ≡ d →
+    l1 ≡ l ++ b' → l2 ≡ l1 ++ c' → l3 ≡ l2 ++ d' → l3 ≡ a ++ (b ++ (c ++ (d ++ [])))
+joined a b c d l b' c' d' l1 l2 l3 at_a at_b at_c at_d e1 e2 e3 =
+    let e : l3 ≡ ((a ++ b) ++ c) ++ d = cc in
+    e ∙ simp (append_assoc, append-nil)
