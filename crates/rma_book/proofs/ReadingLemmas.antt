@@ -1,5 +1,5 @@
 -- A reader and one line more.
-use Rattle.std.proofs.Common.{◌≡◌, Bool, ℕ, zero, suc, ◌+◌, ◌<◌, ◌≤◌, List, [], ◌∷◌, ◌++◌, length, take, slice_get, Option, Some, None, Result, Ok, Err, true, false, is_some, refl, sym, ap, subst, ◌∙◌, ◌⊎◌, inl, inr, ⊎_elim, arith}
+use Rattle.std.proofs.Common.{◌≡◌, ℕ, zero, suc, ◌+◌, ◌<◌, ◌≤◌, List, [], ◌∷◌, ◌++◌, length, take, slice_get, Option, Some, None, Result, Ok, Err, true, false, is_some, refl, sym, ap, subst, ◌∙◌, ◌⊎◌, inl, inr, ⊎_elim, arith}
 use Rattle.std.specs.Result.{OnOk}
 use Rattle.std.proofs.lemmas.List.{append_assoc, append-nil, length-take, take_more}
 use Rattle.std.proofs.lemmas.Bool.{false≢true}
@@ -12,8 +12,8 @@ use Rattle.rma_book.specs.declared.faults.FormFault.{FormFault}
 use Rattle.rma_base.specs.declared.lines.LineNo.{LineNo}
 use Rattle.rma_book.specs.Calls.{Entry, events_of}
 use Rattle.rma_book.specs.Judging.{reason_of}
-use Rattle.rma_lex.specs.Checked.{checked_lines, checked_with}
-use Rattle.rma_lex.specs.Lines.{lines, has_open_end}
+use Rattle.rma_lex.specs.Checked.{checked_lines}
+use Rattle.rma_lex.specs.Lines.{lines}
 use Rattle.rma_lex.specs.Cutting.{Cutting}
 use Rattle.rma_lex.specs.Cutting as cutting
 use Rattle.rma_lex.proofs.CheckLemmas.{checked_lines-more, length-checked_lines}

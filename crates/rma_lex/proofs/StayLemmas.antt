@@ -1,10 +1,7 @@
 -- Lines that are ended stay as they are, whatever comes behind them.
-use Rattle.std.proofs.Common.{◌≡◌, ℕ, zero, suc, ◌+◌, ◌<◌, ◌≤◌, ◌==◌, Bool, true, false, List, [], ◌∷◌, ◌++◌, length, take, count_by, map, refl, ap, sym, ◌∙◌, arith, cond, if◌then◌else◌}
+use Rattle.std.proofs.Common.{◌≡◌, ℕ, zero, suc, ◌+◌, ◌<◌, ◌≤◌, ◌==◌, Bool, true, false, List, [], ◌∷◌, ◌++◌, length, take, count_by, refl, ap, arith, cond, if◌then◌else◌}
 use Rattle.std.proofs.lemmas.List.Sums.{sum_by-cons}
-use Rattle.rma_lex.specs.Lines.{lines, onto_first, has_open_end}
-use Rattle.rma_lex.specs.Texts.{text_of}
-use Rattle.rma_lex.specs.Checked.{checked_with, checked_lines}
-use Rattle.rma_lex.proofs.LineLemmas.{feeds-append, length-lines}
+use Rattle.rma_lex.specs.Lines.{lines, onto_first}
 
 -- one byte in front of the first line, which is there
 onto_stays : (byte n : ℕ) (xs ys : List (List ℕ)) → 0 < length xs → 0 < length ys → take (suc n) xs ≡ take (suc n) ys → take (suc n) (onto_first byte xs) ≡ take (suc n) (onto_first byte ys)
