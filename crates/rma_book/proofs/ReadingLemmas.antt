@@ -171,7 +171,7 @@ take_found : (n : ℕ) (lines : List Checked) (line : Checked) → slice_get lin
 take_found n lines line found = take_more lines n line (slice_get_within lines n line found) ∙ ap (λ it. take n lines ++ it ∷ []) (get_or_from_slice_get lines n line line found)
 
 -- the cutter handed out a line, and the reader read it
-pub IsReading-more : (rank logs : ℕ) (before after : Cutting) (text : List ℕ) (line : Checked) (reader : Reader) → cutting.StandsFor after text
+pub IsReading-more : (rank logs : ℕ) (before after : Cutting) (text : List ℕ) (line : Checked) (reader : Reader) → cutting.StandsAlike after text
     → slice_get (checked_lines text) before.handed ≡ Some line → after.handed ≡ before.handed + 1
     → HasRead rank logs (more (take before.handed (checked_lines text)) line) reader → IsReading rank logs after text reader
 IsReading-more rank logs before after text line reader stands found one h = record {
@@ -181,15 +181,15 @@ IsReading-more rank logs before after text line reader stands found one h = reco
 
 -- a piece more leaves what was read as it is
 pub IsReading-fed : (rank logs : ℕ) (before after : Cutting) (text piece : List ℕ) (reader : Reader) → before.closed ≡ false → after.handed ≡ before.handed
-    → cutting.StandsFor after (text ++ piece) → IsReading rank logs before text reader → IsReading rank logs after (text ++ piece) reader
+    → cutting.StandsAlike after (text ++ piece) → IsReading rank logs before text reader → IsReading rank logs after (text ++ piece) reader
 IsReading-fed rank logs before after text piece reader goes_on same stands h = record {
   stands_for = stands;
   read = subst (λ lines. HasRead rank logs lines reader)
-      (sym (ap (λ n. take n (checked_lines (text ++ piece))) same ∙ checked_lines-more before.handed text piece (h.stands_for.whole goes_on))) h.read;
+      (sym (ap (λ n. take n (checked_lines (text ++ piece))) same ∙ checked_lines-more before.handed text piece (h.stands_for.stands.whole goes_on))) h.read;
 }
 
 -- the end of the text leaves what was read as it is
-pub IsReading-closed : (rank logs : ℕ) (before after : Cutting) (text : List ℕ) (reader : Reader) → after.handed ≡ before.handed → cutting.StandsFor after text
+pub IsReading-closed : (rank logs : ℕ) (before after : Cutting) (text : List ℕ) (reader : Reader) → after.handed ≡ before.handed → cutting.StandsAlike after text
     → IsReading rank logs before text reader → IsReading rank logs after text reader
 IsReading-closed rank logs before after text reader same stands h = record {
   stands_for = stands;

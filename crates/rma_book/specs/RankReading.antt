@@ -15,6 +15,6 @@ pub record RankReading : Type 0 where
 
 -- The book was fed these bytes of the log of a rank, among so many logs.
 pub record StandsFor (rank logs : ℕ) (reading : RankReading) (bytes : List ℕ) : Type 0 where
-  pub fed : cutting.StandsFor reading.text bytes
+  pub fed : cutting.StandsAlike reading.text bytes
   pub goes_on : reading.text.closed ≡ false
   pub read : IsBehind rank logs (take reading.text.handed (checked_lines bytes)) reading.book reading.fault

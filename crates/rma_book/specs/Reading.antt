@@ -1,7 +1,7 @@
 -- What was read of a log so far.
 use Rattle.std.specs.Prelude.{◌≡◌, ℕ, List, take, Option, Some, None}
 use Rattle.rma_lex.specs.Checked.{checked_lines}
-use Rattle.rma_lex.specs.Cutting.{Cutting, StandsFor}
+use Rattle.rma_lex.specs.Cutting.{Cutting, StandsAlike}
 use Rattle.rma_book.specs.Standing as standing
 use Rattle.rma_book.specs.Logs.{Checked, AreGood, IsFirstBad, entries}
 use Rattle.rma_book.specs.declared.faults.FormFault.{FormFault}
@@ -25,5 +25,5 @@ HasRead rank logs lines reader = IsBehind rank logs lines reader.book reader.fau
 
 -- the cutter was fed this text, and the reader has read the lines that it handed out
 pub record IsReading (rank logs : ℕ) (cutter : Cutting) (text : List ℕ) (reader : Reader) : Type 0 where
-  pub stands_for : StandsFor cutter text
+  pub stands_for : StandsAlike cutter text
   pub read : HasRead rank logs (take cutter.handed (checked_lines text)) reader

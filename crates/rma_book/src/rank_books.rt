@@ -9,7 +9,7 @@ use crate::books::Book;
 use crate::faults::{BookEnd, FormFault};
 use crate::readers::{Reader, read_lines};
 use rma_base::allocation::Memory;
-use rma_base::limits::FED;
+use rma_base::limits::{FED, LINE};
 use rma_base::lines::LineNo;
 use rma_base::ranks::Rank;
 use rma_base::reasons::FormReason;
@@ -66,10 +66,12 @@ impl RankBook {
         requires fits { self.old.text.fed + length piece.now ≤ FED }
         ensures text { OnOk result ((rank logs : ℕ) (bytes : List ℕ) → StandsFor rank logs self.old bytes → StandsFor rank logs self.new (bytes ++ piece.now)) }
         ensures fed { OnOk result (self.new.text.fed ≡ self.old.text.fed + length piece.now) }
+        ensures kept { OnOk result (length self.new.text.rest ≤ LINE + 1) }
         ensures open { OnOk result (self.new.text.closed ≡ false) }
     {
         self.cutter.feed(piece)?;
         read_lines(self.alloc, &mut self.cutter, &mut self.reader)?;
+        self.cutter.shorten();
         Ok(())
     }
 

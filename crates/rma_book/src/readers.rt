@@ -1,8 +1,8 @@
 //! Reading the lines of a log one by one.
-ghost use Rattle.std.specs.Prelude.{◌≡◌, ℕ, ◌+◌, ◌<◌, List, ◌++◌, ◌∷◌, [], length, IfOk, OnOk, true, false, Ok, Err, Some, None};
+ghost use Rattle.std.specs.Prelude.{◌≡◌, ℕ, ◌+◌, ◌<◌, List, ◌++◌, ◌∷◌, [], length, IfOk, OnOk, true, false, Contains, Ok, Err, Some, None};
 ghost use Rattle.rma_lex.specs.Told.{told, number};
 ghost use Rattle.rma_lex.specs.Lines.{lines};
-ghost use Rattle.rma_lex.specs.Cutting.{StandsFor};
+ghost use Rattle.rma_lex.specs.Cutting.{StandsAlike};
 ghost use Rattle.rma_book.specs.Ends.{IsEnd};
 ghost use Rattle.rma_book.specs.Logs.{Checked, says};
 ghost use Rattle.rma_book.specs.Reading.{HasRead, IsReading};
@@ -101,7 +101,8 @@ pub(crate) fn read_lines(
     reader: &mut Reader,
 ) -> Result<(), Memory>
     ensures read { OnOk result ((rank logs : ℕ) (text : List ℕ) → IsReading rank logs cutter.old text reader.old → IsReading rank logs cutter.new text reader.new) }
-    ensures all { OnOk result ((text : List ℕ) → StandsFor cutter.new text → cutter.new.closed ≡ true → cutter.new.handed ≡ length (lines text)) }
+    ensures all { OnOk result ((text : List ℕ) → StandsAlike cutter.new text → cutter.new.closed ≡ true → cutter.new.handed ≡ length (lines text)) }
+    ensures none_left { OnOk result (¬ Contains cutter.new.rest 10) }
     ensures closed { OnOk result (cutter.new.closed ≡ cutter.old.closed) }
     ensures fed { OnOk result (cutter.new.fed ≡ cutter.old.fed) }
 {
@@ -112,7 +113,8 @@ pub(crate) fn read_lines(
 // Reads the next line, if a whole one is left, and says whether one was.
 fn read_next(alloc: Global, cutter: &mut LineCutter, reader: &mut Reader) -> Result<bool, Memory>
     ensures read { OnOk result ((rank logs : ℕ) (text : List ℕ) → IsReading rank logs cutter.old text reader.old → IsReading rank logs cutter.new text reader.new) }
-    ensures all { IfOk result (λ more. more ≡ false → (text : List ℕ) → StandsFor cutter.new text → cutter.new.closed ≡ true → cutter.new.handed ≡ length (lines text)) }
+    ensures all { IfOk result (λ more. more ≡ false → (text : List ℕ) → StandsAlike cutter.new text → cutter.new.closed ≡ true → cutter.new.handed ≡ length (lines text)) }
+    ensures none_left { IfOk result (λ more. more ≡ false → ¬ Contains cutter.new.rest 10) }
     ensures smaller { IfOk result (λ more. more ≡ true → length cutter.new.rest < length cutter.old.rest) }
     ensures closed { OnOk result (cutter.new.closed ≡ cutter.old.closed) }
     ensures fed { OnOk result (cutter.new.fed ≡ cutter.old.fed) }

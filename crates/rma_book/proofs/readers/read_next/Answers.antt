@@ -12,7 +12,7 @@ returns-in_ok-read-in-Some-clause-read c = λ rank logs text h.
     let line = told c.in-Some.found in
     let out = c.next_line.follows.holds-at-none in
     let taken = rw c.in-Some.is at out.line in
-    let found = c.in-Some.ensures.text text h.stands_for in
+    let found = c.in-Some.ensures.alike text h.stands_for in
     let number = c.in-Some.ensures.number ∙ ap (λ n. n + 1) (sym (lines_before before.handed lines line found)) in
-    IsReading-more rank logs before c.next_line.follows.lender-at-none text line c.read.new.self (out.text text h.stands_for) found
+    IsReading-more rank logs before c.next_line.follows.lender-at-none text line c.read.new.self (out.alike text h.stands_for) found
     (ap (λ (cutting : Cutting). cutting.handed) taken.1.1) (c.in_ok-read-in-Some.ensures rank logs (take before.handed lines) number h.read)

@@ -1,5 +1,7 @@
-use Rattle.std.proofs.Common.{◌++◌, ap, sym, ◌∙◌, subst}
+use Rattle.std.proofs.Common.{◌++◌, take, ap, sym, ◌∙◌, subst}
 use Rattle.rma_lex.specs.Cutting.{Cutting}
+use Rattle.rma_lex.specs.Checked.{checked_lines}
+use Rattle.rma_book.specs.Reading.{IsBehind}
 use Rattle.rma_book.specs.RankReading.{StandsFor}
 use Rattle.rma_book.proofs.ReadingLemmas.{IsReading-fed}
 use Rattle.rma_book.proofs.rank_books.RankBook.feed.Goals as goal
@@ -11,10 +13,11 @@ returns-clause-text c = λ rank logs bytes h.
     let held = subst (λ reading. StandsFor rank logs reading bytes) (sym c.self.view_is) h in
     let fed = c.in_ok-feed.ensures in
     let start = IsReading-fed rank logs inside.cutter c.feed.new.self bytes piece inside.reader held.goes_on (ap (λ (cutting : Cutting). cutting.handed) fed.ok)
-    (fed.text bytes held.fed) (record { stands_for = held.fed; read = held.read }) in
+    (fed.alike bytes held.fed) (record { stands_for = held.fed; read = held.read }) in
     let read = c.in_ok-read_lines.ensures.read rank logs (bytes ++ piece) start in
     record {
-      fed = read.stands_for;
-      goes_on = c.in_ok-read_lines.ensures.closed ∙ ap (λ (cutting : Cutting). cutting.closed) fed.ok ∙ held.goes_on;
-      read = read.read;
+      fed = c.shorten.ensures.alike (bytes ++ piece) read.stands_for;
+      goes_on = ap (λ (cutting : Cutting). cutting.closed) c.shorten.ensures.same ∙ c.in_ok-read_lines.ensures.closed ∙ ap (λ (cutting : Cutting). cutting.closed) fed.ok ∙ held.goes_on;
+      read = subst (λ n. IsBehind rank logs (take n (checked_lines (bytes ++ piece))) c.read_lines.new.reader.book c.read_lines.new.reader.fault)
+          (sym (ap (λ (cutting : Cutting). cutting.handed) c.shorten.ensures.same)) read.read;
     }
