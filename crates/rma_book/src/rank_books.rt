@@ -67,7 +67,7 @@ impl RankBook {
         ensures text { OnOk result ((rank logs : ℕ) (bytes : List ℕ) → StandsFor rank logs self.old bytes → StandsFor rank logs self.new (bytes ++ piece.now)) }
         ensures fed { OnOk result (self.new.text.fed ≡ self.old.text.fed + length piece.now) }
         ensures kept { OnOk result (length self.new.text.rest ≤ LINE + 1) }
-        ensures open { OnOk result (self.new.text.closed ≡ false) }
+        ensures open { self.new.text.closed ≡ false }
     {
         self.cutter.feed(piece)?;
         read_lines(self.alloc, &mut self.cutter, &mut self.reader)?;

@@ -103,7 +103,7 @@ pub(crate) fn read_lines(
     ensures read { OnOk result ((rank logs : ℕ) (text : List ℕ) → IsReading rank logs cutter.old text reader.old → IsReading rank logs cutter.new text reader.new) }
     ensures all { OnOk result ((text : List ℕ) → StandsAlike cutter.new text → cutter.new.closed ≡ true → cutter.new.handed ≡ length (lines text)) }
     ensures none_left { OnOk result (¬ Contains cutter.new.rest 10) }
-    ensures closed { OnOk result (cutter.new.closed ≡ cutter.old.closed) }
+    ensures closed { cutter.new.closed ≡ cutter.old.closed }
     ensures fed { OnOk result (cutter.new.fed ≡ cutter.old.fed) }
 {
     'lines: while read_next(alloc, cutter, reader)? {}
@@ -116,7 +116,7 @@ fn read_next(alloc: Global, cutter: &mut LineCutter, reader: &mut Reader) -> Res
     ensures all { IfOk result (λ more. more ≡ false → (text : List ℕ) → StandsAlike cutter.new text → cutter.new.closed ≡ true → cutter.new.handed ≡ length (lines text)) }
     ensures none_left { IfOk result (λ more. more ≡ false → ¬ Contains cutter.new.rest 10) }
     ensures smaller { IfOk result (λ more. more ≡ true → length cutter.new.rest < length cutter.old.rest) }
-    ensures closed { OnOk result (cutter.new.closed ≡ cutter.old.closed) }
+    ensures closed { cutter.new.closed ≡ cutter.old.closed }
     ensures fed { OnOk result (cutter.new.fed ≡ cutter.old.fed) }
 {
     match cutter.next_line() {

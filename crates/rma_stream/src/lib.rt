@@ -1,0 +1,7 @@
+//! The audit of the logs of a run, as their bytes come.
+#![tactic(auto)]
+
+pub mod audits;
+mod ends;
+#[cfg(test)]
+mod tests;
