@@ -1,3 +1,4 @@
 pub mod JudgingLemmas
 pub mod StandingLemmas
 pub mod ReadingLemmas
+pub mod OneEndLemmas

@@ -3,6 +3,7 @@
 
 pub mod books;
 pub mod faults;
+pub mod laws;
 pub mod rank_books;
 mod readers;
 #[cfg(test)]

@@ -6,6 +6,7 @@ use Rattle.rma_book.specs.declared.faults.BookEnd.{BookEnd}
 use Rattle.rma_book.specs.declared.faults.BookEnd.TheVariants.{Calls, Fault}
 use Rattle.rma_book.specs.declared.faults.FormFault.{FormFault}
 use Rattle.rma_book.specs.Ends.{IsEnd}
+use Rattle.rma_book.proofs.OneEndLemmas.{one_end}
 use Rattle.rma_report.specs.declared.findings.Finding.{Finding}
 use Rattle.rma_report.specs.declared.findings.Finding.TheVariants.{Malformed}
 use Rattle.rma_stream.specs.Findings.{AreEnds, bad_lines, calls_in, first_pass}
@@ -54,3 +55,15 @@ first_pass-none (first ∷ found) later none = cc
 pub first_pass-some : (found later : List Finding) → found ≢ [] → first_pass found later ≡ found
 first_pass-some [] later some = absurd (some refl)
 first_pass-some (first ∷ found) later some = refl
+
+-- the logs come to one list of ends
+pub one_list : (logs rank : ℕ) (texts : List (List ℕ)) (ends others : List BookEnd) → AreEnds logs rank texts ends → AreEnds logs rank texts others → ends ≡ others
+one_list logs rank [] [] [] h k = refl
+one_list logs rank [] [] (other ∷ others) h k = absurd k
+one_list logs rank [] (end ∷ ends) others h k = absurd h
+one_list logs rank (text ∷ texts) [] others h k = absurd h
+one_list logs rank (text ∷ texts) (end ∷ ends) [] h k = absurd k
+one_list logs rank (text ∷ texts) (end ∷ ends) (other ∷ others) h k =
+    let first = one_end rank logs (checked_lines text) end other h.0 k.0 in
+    let later = one_list logs (rank + 1) texts ends others h.1 k.1 in
+    rw (first, later) refl

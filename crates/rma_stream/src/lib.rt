@@ -3,5 +3,6 @@
 
 pub mod audits;
 mod ends;
+pub mod laws;
 #[cfg(test)]
 mod tests;

@@ -1,0 +1,9 @@
+//! What the definitions of this crate come to.
+ghost use Rattle.std.specs.Prelude.{◌≡◌, ℕ, List};
+ghost use Rattle.rma_report.specs.declared.findings.Finding.{Finding};
+ghost use Rattle.rma_stream.specs.Findings.{AreFindings};
+
+/// The logs of a run have one list of findings, so a run that is clean has none.
+pub fn findings_are_one_list()
+    ensures { (logs : List (List ℕ)) (found others : List Finding) → AreFindings logs found → AreFindings logs others → found ≡ others }
+{}
