@@ -1,10 +1,14 @@
 -- The first field of a text, and the fields behind it.
-use Rattle.std.proofs.Common.{◌≡◌, ℕ, suc, ◌+◌, ◌<◌, ◌≤◌, Bool, true, false, List, [], ◌∷◌, length, take, drop, refl, sym, ap, ◌∙◌, ⊎_elim, ◌⊎◌, inl, inr, arith, add-zero}
+use Rattle.std.proofs.Common.{◌≡◌, ◌≢◌, ℕ, zero, suc, ◌+◌, ◌-◌, ◌<◌, ◌≤◌, Bool, true, false, not, cond, List, [], ◌∷◌, length, take, drop, get_or, refl, sym, ap, ◌∙◌, ◌⊎◌, ⊎_elim, arith, add-zero}
 use Rattle.std.proofs.Math.Numerals.{one-add}
-use Rattle.std.specs.List.{prefix_len, take_while}
-use Rattle.std.proofs.lemmas.List.Folds.{length-prefix_len}
-use Rattle.std.proofs.lemmas.Bool.{cases_Bool, false≢true}
-use Rattle.rma_lex.specs.Fields.{Field, is_blank, is_field, begins_field, onto_first_field, fields_from}
+use Rattle.std.specs.List.{prefix_len}
+use Rattle.std.proofs.lemmas.Bool.{cases_Bool, cases_eq, cases_lt, false≢true}
+use Rattle.std.proofs.lemmas.List.{length-drop, get_or-drop, get_or_past, drop-drop, drop_more}
+use Rattle.std.proofs.lemmas.List.Sums.{prefix_len_is}
+use Rattle.rma_lex.proofs.FeedLemmas.{cond_one}
+use Rattle.rma_lex.specs.Blanks.{blank_bit}
+use Rattle.rma_lex.specs.Edges.{IsNextEdge}
+use Rattle.rma_lex.specs.Fields.{Field, is_blank, is_field, begins_field, onto_first_field, fields_from, fields}
 
 fields_from-blank : (place b : ℕ) (bs : List ℕ) → is_blank b ≡ true → fields_from place (b ∷ bs) ≡ fields_from (place + 1) bs
 fields_from-blank place b bs blank = rw blank
@@ -37,18 +41,6 @@ fields_from-blanks place (b ∷ bs) =
     (λ (field : is_blank b ≡ false). rw (prefix_len-fails is_blank b bs field, add-zero))
     (cases_Bool (is_blank b))
 
--- behind the blanks a field begins, or the text ends
-pub behind_blanks : (bs : List ℕ) → (drop (prefix_len is_blank bs) bs ≡ []) ⊎ (begins_field (drop (prefix_len is_blank bs) bs) ≡ true)
-behind_blanks [] = inl refl
-behind_blanks (b ∷ bs) =
-    ⊎_elim
-    (λ (blank : is_blank b ≡ true). rw (prefix_len-passes is_blank b bs blank) (behind_blanks bs))
-    (λ (field : is_blank b ≡ false). rw (prefix_len-fails is_blank b bs field) (inr (rw field)))
-    (cases_Bool (is_blank b))
-
-field_byte : (b : ℕ) → is_blank b ≡ false → is_field b ≡ true
-field_byte b h = rw h
-
 field_byte-not : (b : ℕ) → is_field b ≡ true → is_blank b ≡ false
 field_byte-not b h = ⊎_elim (λ (blank : is_blank b ≡ true). absurd (false≢true (rw blank at h))) (λ (field : is_blank b ≡ false). field) (cases_Bool (is_blank b))
 
@@ -77,49 +69,106 @@ fields_from-field place (b ∷ bs) h =
     rw (prefix_len-passes is_field b bs h, prefix_len-no_field bs next) (fields_from-alone place b bs here next))
     (cases_Bool (begins_field bs))
 
--- the fields of a text, where so many blanks and then so many bytes of a field stand in front
-module _ (place : ℕ) (bs : List ℕ) (skipped held : ℕ) (blanks : skipped ≡ length (take_while is_blank bs)) (field : held ≡ length (take_while is_field (drop skipped bs))) where
-  skipped_is : skipped ≡ prefix_len is_blank bs
-  skipped_is = blanks ∙ length-prefix_len is_blank bs
+cond_zero : (b : Bool) → cond {A = ℕ} b 1 0 ≡ 0 → b ≡ false
+cond_zero true e = absurd (omega arith)
+cond_zero false e = refl
 
-  held_is : held ≡ prefix_len is_field (drop skipped bs)
-  held_is = field ∙ length-prefix_len is_field (drop skipped bs)
+zero_of : (b : Bool) → cond {A = ℕ} b 1 0 ≢ 1 → cond {A = ℕ} b 1 0 ≡ 0
+zero_of true ne = absurd (ne refl)
+zero_of false ne = refl
 
-  behind : (drop skipped bs ≡ []) ⊎ (begins_field (drop skipped bs) ≡ true)
-  behind = rw skipped_is (behind_blanks bs)
+one_of : (b : Bool) → cond {A = ℕ} b 1 0 ≢ 0 → cond {A = ℕ} b 1 0 ≡ 1
+one_of true ne = refl
+one_of false ne = absurd (ne refl)
 
-  pub no_field : held ≡ 0 → drop skipped bs ≡ []
-  no_field none =
-      ⊎_elim
-      (λ (ended : drop skipped bs ≡ []). ended)
-      (λ (begins : begins_field (drop skipped bs) ≡ true). let some = prefix_len-field (drop skipped bs) begins in absurd (omega (arith, some, held_is, none)))
-      behind
+-- from one place of a line up to the next edge
+module _ (line : List ℕ) (from to : ℕ) (next : IsNextEdge line from to) where
+  same_behind : (d : ℕ) → from + d < to → blank_bit line (from + d) ≡ blank_bit line from
+  same_behind zero below = ap (blank_bit line) (omega arith)
+  same_behind (suc d) below =
+      let no_edge = next.none (from + suc d) (omega arith) below in
+      ⊎_elim (λ e. sym e) (λ ne. absurd (no_edge ne)) (cases_eq (blank_bit line (from + suc d - 1)) (blank_bit line (from + suc d)))
+      ∙ ap (blank_bit line) (omega arith) ∙ same_behind d (omega arith)
 
-  pub no_fields : held ≡ 0 → fields_from place bs ≡ []
-  no_fields none = fields_from-blanks place bs ∙ rw (← skipped_is, no_field none)
+  -- all bytes are as the first one
+  same : (k : ℕ) → k < to - from → blank_bit line (from + k) ≡ blank_bit line from
+  same k below = same_behind k (omega arith)
 
-  pub first_field : 0 < held → fields_from place bs ≡ record { start = place + skipped; text = take held (drop skipped bs) } ∷ fields_from (place + skipped + held) (drop held (drop skipped bs))
-  first_field some =
-      ⊎_elim
-      (λ (ended : drop skipped bs ≡ []). absurd (let none : prefix_len is_field (drop skipped bs) ≡ 0 = rw ended in omega (arith, some, held_is, none)))
-      (λ (begins : begins_field (drop skipped bs) ≡ true).
-      fields_from-blanks place bs ∙ rw (← skipped_is, held_is) (fields_from-field (place + skipped) (drop skipped bs) begins))
-      behind
+  -- and the next one is not
+  other : to < length line → blank_bit line to ≢ blank_bit line from
+  other more e =
+      let edge = next.edge more in
+      edge.1 (ap (blank_bit line) (omega arith) ∙ same_behind (to - 1 - from) (omega (arith, edge.0)) ∙ sym e)
 
--- one field is handed out: what was left is that field and what is left then
-pub turn : (left : List Field) (start : ℕ) (bs : List ℕ) (skipped held blanks_length text_length : ℕ) (behind text after : List ℕ)
-    → fields_from start bs ≡ left
-    → fields_from start bs ≡ record { start = start + skipped; text = take held (drop skipped bs) } ∷ fields_from (start + skipped + held) (drop held (drop skipped bs))
-    → blanks_length ≡ skipped → text_length ≡ held → behind ≡ drop skipped bs → text ≡ take held behind → after ≡ drop held behind
-    → left ≡ record { start = start + blanks_length; text = text } ∷ fields_from (start + blanks_length + text_length) after
-turn left start bs skipped held blanks_length text_length behind text after was first blanks length_is behind_is text_is after_is =
-    rw (blanks, length_is, text_is, after_is, behind_is) (sym was ∙ first)
+  at_front : (k : ℕ) → get_or (drop from line) k 32 ≡ get_or line (from + k) 32
+  at_front k = get_or-drop from line k 32
 
--- no field is left
-pub last_turn : (left : List Field) (start place : ℕ) (bs : List ℕ) (skipped held : ℕ) (behind after : List ℕ)
-    → fields_from start bs ≡ left → fields_from start bs ≡ [] → drop skipped bs ≡ [] → held ≡ 0 → behind ≡ drop skipped bs → after ≡ drop held behind
-    → (left ≡ []) × (fields_from place after ≡ [])
-last_turn left start place bs skipped held behind after was none ended nothing behind_is after_is = (sym was ∙ none, rw (after_is, nothing, behind_is, ended))
+  rest_long : length (drop from line) ≡ length line - from
+  rest_long = length-drop from line
+
+  behind_run : drop (to - from) (drop from line) ≡ drop to line
+  behind_run = drop-drop (to - from) from line ∙ ap (λ n. drop n line) (omega (arith, next.low))
+
+  -- a run of blanks is passed over
+  module _ (blank : blank_bit line from ≡ 1) where
+    -- behind the blanks a field begins, or the line ends
+    pub field_behind : to < length line → blank_bit line to ≡ 0
+    field_behind more = zero_of (is_blank (get_or line to 32)) (λ one. other more (one ∙ sym blank))
+
+    blanks_are : prefix_len is_blank (drop from line) ≡ to - from
+    blanks_are =
+        prefix_len_is is_blank (drop from line) (to - from) 32 (omega (arith, rest_long, next.high))
+        (λ k below. cond_one _ (ap (λ byte. cond (is_blank byte) 1 0) (at_front k) ∙ same k below ∙ blank))
+        (λ more. cond_zero _ (ap (λ byte. cond (is_blank byte) 1 0) (at_front (to - from)) ∙ ap (blank_bit line) (omega (arith, next.low)) ∙ field_behind (omega (arith, more, rest_long, next.low))))
+
+    pub fields_from-passed : fields_from from (drop from line) ≡ fields_from to (drop to line)
+    fields_from-passed =
+        fields_from-blanks from (drop from line) ∙ ap (λ n. fields_from (from + n) (drop n (drop from line))) blanks_are
+        ∙ ap (λ n. fields_from n (drop (to - from) (drop from line))) (omega (arith, next.low)) ∙ ap (fields_from to) behind_run
+
+  -- a run of other bytes is a field
+  module _ (within : from < length line) (field : blank_bit line from ≡ 0) where
+    -- behind the field a blank stands, or the line ends
+    pub blank_behind : blank_bit line to ≡ 1
+    blank_behind =
+        ⊎_elim (λ (more : to < length line). one_of (is_blank (get_or line to 32)) (λ none. other more (none ∙ sym field)))
+        (λ (ended : length line ≤ to). ap (λ byte. cond (is_blank byte) 1 0) (get_or_past line to 32 ended)) (cases_lt to (length line))
+
+    field_is : prefix_len is_field (drop from line) ≡ to - from
+    field_is =
+        prefix_len_is is_field (drop from line) (to - from) 32 (omega (arith, rest_long, next.high))
+        (λ k below. ap not (cond_zero _ (ap (λ byte. cond (is_blank byte) 1 0) (at_front k) ∙ same k below ∙ field)))
+        (λ more. ap not (cond_one _ (ap (λ byte. cond (is_blank byte) 1 0) (at_front (to - from)) ∙ ap (blank_bit line) (omega (arith, next.low)) ∙ blank_behind)))
+
+    begins : begins_field (drop from line) ≡ true
+    begins = ap begins_field (drop_more line from 32 within) ∙ ap not (cond_zero _ field)
+
+    pub fields_from-taken : fields_from from (drop from line) ≡ record { start = from; text = take (to - from) (drop from line) } ∷ fields_from to (drop to line)
+    fields_from-taken =
+        fields_from-field from (drop from line) begins
+        ∙ ap (λ n. record { start = from; text = take n (drop from line) } ∷ fields_from (from + n) (drop n (drop from line))) field_is
+        ∙ ap (λ n. record { start = from; text = take (to - from) (drop from line) } ∷ fields_from n (drop (to - from) (drop from line))) (omega (arith, next.low))
+        ∙ ap (λ rest. record { start = from; text = take (to - from) (drop from line) } ∷ fields_from to rest) behind_run
+
+-- the first field is taken, and the blanks behind it are passed over
+pub fields_from-next : (line : List ℕ) (start end place : ℕ) → IsNextEdge line start end → IsNextEdge line end place → start < length line → blank_bit line start ≡ 0
+    → (place < length line → blank_bit line place ≡ 0)
+    × (fields_from start (drop start line) ≡ record { start = start; text = take (end - start) (drop start line) } ∷ fields_from place (drop place line))
+fields_from-next line start end place field blanks within begins =
+    let blank = blank_behind line start end field within begins in (
+      field_behind line end place blanks blank,
+      fields_from-taken line start end field within begins
+          ∙ ap (λ later. record { start = start; text = take (end - start) (drop start line) } ∷ later) (fields_from-passed line end place blanks blank),
+    )
+
+-- the line begins with blanks, which are passed over, or with a field
+pub fields-begun : (line : List ℕ) (place : ℕ) → ((blank_bit line 0 ≡ 1) × IsNextEdge line 0 place) ⊎ ((blank_bit line 0 ≡ 0) × (place ≡ 0))
+    → (place < length line → blank_bit line place ≡ 0) × (fields_from place (drop place line) ≡ fields line)
+fields-begun line place cases =
+    ⊎_elim
+    (λ (blank : (blank_bit line 0 ≡ 1) × IsNextEdge line 0 place). (field_behind line 0 place blank.1 blank.0, sym (fields_from-passed line 0 place blank.1 blank.0)))
+    (λ (field : (blank_bit line 0 ≡ 0) × (place ≡ 0)). (λ _. ap (blank_bit line) field.1 ∙ field.0, ap (λ n. fields_from n (drop n line)) field.1))
+    cases
 
 length-onto_first_field : (place b : ℕ) (them : List Field) (n : ℕ) → length them ≤ n → length (onto_first_field place b them) ≤ suc n
 length-onto_first_field place b [] n h = omega arith

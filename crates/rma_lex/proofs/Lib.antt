@@ -1,10 +1,11 @@
 pub mod LineLemmas
 pub mod CutLemmas
 pub mod MaskLemmas
+pub mod BlankLemmas
+pub mod EdgeLemmas
 pub mod FeedLemmas
 pub mod CleanLemmas
 pub mod FieldLemmas
 pub mod TextLemmas
 pub mod CheckLemmas
-pub mod StayLemmas
 pub mod AlikeLemmas

@@ -8,6 +8,9 @@ pub mod Found
 pub mod Kept
 pub mod Handing
 pub mod Fields
+pub mod Blanks
+pub mod Edges
+pub mod Reached
 pub mod Tokens
 pub mod Checked
 pub mod Told

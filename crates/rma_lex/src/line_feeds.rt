@@ -1,10 +1,10 @@
 // The line feeds of a text, found a block of 64 bytes at a time and handed out one by one.
-ghost use Rattle.std.specs.Prelude.{◌≡◌, ◌≢◌, ◌↔◌, ℕ, ◌+◌, ◌<◌, ◌≤◌, List, length, drop, take, true, false, IsTrue, IfNone, IfSome};
+ghost use Rattle.std.specs.Prelude.{◌≡◌, ◌↔◌, ℕ, ◌+◌, ◌<◌, ◌≤◌, List, length, drop, take, true, false, IsTrue, IfNone, IfSome};
 ghost use Rattle.std.specs.List.{list_all};
 ghost use Rattle.rma_lex.specs.Feeds.{NoFeed, IsFirstFeed, IsLineAt, MarksFeeds};
-ghost use Rattle.rma_lex.specs.Masks.{IsLowestBit, DropsBit};
 ghost use Rattle.rma_lex.specs.Clean.{is_clean_byte, IsClean, MarksClean};
 
+use crate::masks::{lowest, without_lowest};
 use crate::texts::is_text;
 use std::simd::prelude::*;
 
@@ -226,23 +226,4 @@ fn all_clean(bytes: &[u8]) -> bool
     ensures { result ≡ list_all is_clean_byte bytes.now }
 {
     bytes.iter().all(|byte| is_text(*byte) || *byte == b'\n')
-}
-
-// The lowest bit that is set.
-#[inline]
-fn lowest(mask: u64) -> usize
-    requires { mask ≢ 0 }
-    ensures bound { result < 64 }
-    ensures lowest { IsLowestBit mask result }
-{
-    mask.trailing_zeros() as usize
-}
-
-// The mask without its lowest bit.
-#[inline]
-fn without_lowest(mask: u64) -> u64
-    requires { mask ≢ 0 }
-    ensures { (low : ℕ) → IsLowestBit mask low → DropsBit mask low result }
-{
-    mask & (mask - 1)
 }

@@ -1,9 +1,12 @@
 //! The fields of a line, one by one.
-ghost use Rattle.std.specs.Prelude.{◌≡◌, ◌<◌, ◌^◌, length, take_while};
+ghost use Rattle.std.specs.Prelude.{◌≡◌, ◌<◌, ◌^◌, length, if◌then◌else◌};
 ghost use Rattle.std.specs.Iterator.{YieldsFirstBy, item_count};
-ghost use Rattle.rma_lex.specs.Fields.{fields, is_blank, is_field};
+ghost use Rattle.rma_lex.specs.Blanks.{blank_bit};
+ghost use Rattle.rma_lex.specs.Fields.{fields};
 ghost use Rattle.rma_lex.specs.Tokens.{field_of};
 
+use crate::blanks::is_blank;
+use crate::edges::Edges;
 use std::marker::Model;
 
 /// A field of a line: its bytes, and the place of the first of them.
@@ -16,31 +19,43 @@ pub struct Token<'a> {
 /// The fields of a line that are left.
 #[derive(Debug, Drop)]
 pub struct TokenIter<'a> {
-    start: usize,
-    rest: &'a [u8],
+    edges: Edges<'a>,
 }
 
 impl<'a> Model for TokenIter<'a> {
-    ghost use Rattle.std.specs.Prelude.{List, ◌+◌, ◌<◌, ◌^◌, length};
+    ghost use Rattle.std.specs.Prelude.{List, ◌≡◌, ◌<◌, drop, length};
+    ghost use Rattle.rma_lex.specs.Blanks.{blank_bit};
     ghost use Rattle.rma_lex.specs.Fields.{Field, fields_from};
+    ghost use Rattle.rma_lex.specs.Reached.{Reaches};
 
     ghost Value = { List Field };
 
-    ghost view = { λ tokens. fields_from tokens.start tokens.rest.now };
+    ghost view = { λ tokens. fields_from tokens.edges.place (drop tokens.edges.place tokens.edges.line.now) };
 
-    ghost invariant = { λ tokens. tokens.start + length tokens.rest.now < 2 ^ 64 };
+    ghost invariant = { λ tokens. Reaches tokens.edges × (tokens.edges.place < length tokens.edges.line.now → blank_bit tokens.edges.line.now tokens.edges.place ≡ 0) };
 }
 
 /// The fields of the line, in order.
-#[tactic(auto, using(crate::proofs::FieldLemmas::length_fields_from))]
+#[inline]
 pub fn tokens(line: &[u8]) -> TokenIter<'_>
     ensures fields { result ≡ fields line.now }
     ensures bound { length result < 2 ^ 64 }
 {
-    let _length = line.len();
-    TokenIter {
-        start: 0,
-        rest: line,
+    let mut edges = Edges::new(line);
+    if begins_blank(line) {
+        edges.go_on();
+    }
+    TokenIter { edges }
+}
+
+// Whether no field begins at the front of the line.
+#[inline]
+fn begins_blank(line: &[u8]) -> bool
+    ensures { (if result then 1 else 0) ≡ blank_bit line.now 0 }
+{
+    match line.first() {
+        Some(byte) => is_blank(*byte),
+        None => true,
     }
 }
 
@@ -53,34 +68,17 @@ impl<'a> Iterator for TokenIter<'a> {
 
     #[inline]
     fn next(&mut self) -> Option<Token<'a>> {
-        let (blanks, rest) = self.rest.split_at(blank_length(self.rest));
-        let (text, after) = rest.split_at(field_length(rest));
-        let start = self.start + blanks.len();
-        self.start = start + text.len();
-        self.rest = after;
-        if text.is_empty() {
+        let line = self.edges.line;
+        let start = self.edges.place;
+        if start == line.len() {
             return None;
         }
-        Some(Token { start, text })
+        self.edges.go_on();
+        let end = self.edges.place;
+        self.edges.go_on();
+        Some(Token {
+            start,
+            text: &line[start..end],
+        })
     }
-}
-
-// How many blanks stand at the front.
-fn blank_length(bytes: &[u8]) -> usize
-    ensures { result ≡ length (take_while is_blank bytes.now) }
-{
-    bytes.iter().take_while(|byte| is_blank(**byte)).count()
-}
-
-// How many bytes that are no blanks stand at the front.
-fn field_length(bytes: &[u8]) -> usize
-    ensures { result ≡ length (take_while is_field bytes.now) }
-{
-    bytes.iter().take_while(|byte| !is_blank(**byte)).count()
-}
-
-fn is_blank(byte: u8) -> bool
-    ensures { result ≡ is_blank byte }
-{
-    byte == b' ' || byte == b'\t'
 }

@@ -1,29 +1,34 @@
-use Rattle.std.proofs.Common.{◌≡◌, ◌<◌, length, rules, ap, sym, ◌∙◌, arith}
-use Rattle.rma_lex.proofs.FieldLemmas.{no_field, no_fields, first_field, turn, last_turn}
+use Rattle.std.proofs.Common.{◌≡◌, ◌-◌, ◌<◌, ◌∷◌, length, take, drop, rules, ap, sym, subst, ◌∙◌, arith}
+use Rattle.rma_lex.specs.Blanks.{blank_bit}
+use Rattle.rma_lex.specs.Edges.{IsNextEdge}
+use Rattle.rma_lex.specs.Fields.{Field, fields_from}
+use Rattle.rma_lex.proofs.FieldLemmas.{fields_from-next}
 use Rattle.rma_lex.proofs.tokens.TokenIterIterator.next.Goals as goal
 
-pub returns-then-is_empty-clause-steps : goal.returns-then-is_empty-clause-steps
-returns-then-is_empty-clause-steps c =
-    let start = c.self.inside.start in
-    let rest = c.self.inside.rest.now in
-    let skipped = c.blank_length.result in
-    let held = c.field_length.result in
-    let empty : length c.split_at-2.result.0.now ≡ 0 = search rules in
-    let none : held ≡ 0 = sym c.split_at-2.ensures.front_len ∙ empty in
-    let field = rw c.split_at.ensures.back at c.field_length.ensures in
-    last_turn _ start _ rest skipped held _ _ c.self.view_is (no_fields start rest skipped held c.blank_length.ensures field none)
-    (no_field start rest skipped held c.blank_length.ensures field none) none c.split_at.ensures.back c.split_at-2.ensures.back
+pub invariant_of-self : goal.invariant_of-self
+invariant_of-self c =
+    let edges = c.self.inside.edges in
+    let line = edges.line.now in
+    let end = c.go_on.new.self.place in
+    let next = c.go_on-2.new.self in
+    let blanks = subst (λ l. IsNextEdge l end next.place) c.go_on.ensures.line c.go_on-2.ensures.next in
+    let same = c.go_on-2.ensures.line ∙ c.go_on.ensures.line in
+    let within : edges.place < length line = omega (arith, c.self.invariant.0.placed) in
+    let step = fields_from-next line edges.place end next.place c.go_on.ensures.next blanks within (c.self.invariant.1 within) in
+    (c.go_on-2.ensures.reaches, subst (λ l. next.place < length l → blank_bit l next.place ≡ 0) (sym same) step.0)
 
 pub returns-clause-steps : goal.returns-clause-steps
 returns-clause-steps c =
-    let start = c.self.inside.start in
-    let rest = c.self.inside.rest.now in
-    let skipped = c.blank_length.result in
-    let held = c.field_length.result in
-    let some : 0 < length c.split_at-2.result.0.now = search rules in
-    let field = rw c.split_at.ensures.back at c.field_length.ensures in
-    turn _ start rest skipped held _ _ _ _ _ c.self.view_is (first_field start rest skipped held c.blank_length.ensures field (omega arith))
-    c.split_at.ensures.front_len c.split_at-2.ensures.front_len c.split_at.ensures.back c.split_at-2.ensures.front c.split_at-2.ensures.back
+    let edges = c.self.inside.edges in
+    let line = edges.line.now in
+    let end = c.go_on.new.self.place in
+    let next = c.go_on-2.new.self in
+    let blanks = subst (λ l. IsNextEdge l end next.place) c.go_on.ensures.line c.go_on-2.ensures.next in
+    let same = c.go_on-2.ensures.line ∙ c.go_on.ensures.line in
+    let within : edges.place < length line = omega (arith, c.self.invariant.0.placed) in
+    let step = fields_from-next line edges.place end next.place c.go_on.ensures.next blanks within (c.self.invariant.1 within) in
+    let field : Field = record { start = edges.place; text = take (end - edges.place) (drop edges.place line) } in
+    sym c.self.view_is ∙ step.1 ∙ ap (λ l. field ∷ fields_from next.place (drop next.place l)) (sym same)
 
 pub returns-clause-goes : goal.returns-clause-goes
 returns-clause-goes c =
