@@ -1,5 +1,6 @@
 pub mod NumberLemmas
 pub mod LineLemmas
+pub mod SeenLemmas
 pub mod RankFieldLemmas
 pub mod DivisionLemmas
 pub mod JoinLemmas

@@ -29,7 +29,8 @@ made_of-take (kind ∷ kinds) make zero words enough = absurd (omega arith)
 made_of-take (kind ∷ kinds) make (suc n) [] enough = refl
 made_of-take (kind ∷ kinds) make (suc n) (word ∷ words) enough = bind-equal (meaning kind word) _ _ (λ value. made_of-take kinds (make value) n words (omega arith))
 
-fields-front : (words : List (List ℕ)) (n : ℕ) → length (fields_of words) ≡ n → fields_of words ≡ take n words
+-- the words without the site are the first
+pub fields-front : (words : List (List ℕ)) (n : ℕ) → length (fields_of words) ≡ n → fields_of words ≡ take n words
 fields-front words n is =
     ⊎_elim
     (λ (sited : is_some (site_text words) ≡ true).
@@ -56,15 +57,31 @@ counted-fits : (form : LineForm) (words : List (List ℕ)) → length words ≡ 
 counted-fits form words fits = rw (eq-eqb _ _ fits)
 
 -- the last step, where the steps before it found nothing
+pub stated_by-step : (verb : List ℕ) (words left : List (List ℕ)) (form : LineForm) (site : Option (List ℕ))
+    → form_of verb (fields_of words) ≡ Ok form → length (fields_of words) ≡ (form_at form).kind_words + length (form_at form).kinds → site_of (site_text words) ≡ Ok site
+    → event_of form left ≡ event_of form (drop (form_at form).kind_words (fields_of words))
+    → stated_by verb words ≡ (event_of form left >>= λ event. Ok (record { event = event; site = site }))
+stated_by-step verb words left form site formed counts sited same =
+    ap (λ read. read >>= λ form. counted form (fields_of words) >>= λ form. site_of (site_text words) >>= λ site. event_of form (drop (form_at form).kind_words (fields_of words)) >>= λ event. Ok (record { event = event; site = site })) formed
+    ∙ ap (λ read. read >>= λ form. site_of (site_text words) >>= λ site. event_of form (drop (form_at form).kind_words (fields_of words)) >>= λ event. Ok (record { event = event; site = site })) (counted-fits form (fields_of words) counts)
+    ∙ ap (λ read. read >>= λ site. event_of form (drop (form_at form).kind_words (fields_of words)) >>= λ event. Ok (record { event = event; site = site })) sited
+    ∙ ap (λ read. read >>= λ event. Ok (record { event = event; site = site })) (sym same)
+
+-- what the line states, where no step found anything
+pub stated_by-all : (verb : List ℕ) (words left : List (List ℕ)) (form : LineForm) (site : Option (List ℕ)) (event : Event)
+    → form_of verb (fields_of words) ≡ Ok form → length (fields_of words) ≡ (form_at form).kind_words + length (form_at form).kinds → site_of (site_text words) ≡ Ok site
+    → event_of form left ≡ event_of form (drop (form_at form).kind_words (fields_of words)) → event_of form left ≡ Ok event
+    → stated_by verb words ≡ Ok (record { event = event; site = site })
+stated_by-all verb words left form site event formed counts sited same is =
+    stated_by-step verb words left form site formed counts sited same ∙ ap (λ read. read >>= λ event. Ok (record { event = event; site = site })) is
+
+-- the same as the last step, where the site is left among the words
 pub stated_by-last : (verb : List ℕ) (words left : List (List ℕ)) (form : LineForm) (site : Option (List ℕ))
     → form_of verb (fields_of words) ≡ Ok form → length (fields_of words) ≡ (form_at form).kind_words + length (form_at form).kinds → site_of (site_text words) ≡ Ok site
     → left ≡ drop (form_at form).kind_words words
     → stated_by verb words ≡ (event_of form left >>= λ event. Ok (record { event = event; site = site }))
 stated_by-last verb words left form site formed counts sited is =
-    ap (λ read. read >>= λ form. counted form (fields_of words) >>= λ form. site_of (site_text words) >>= λ site. event_of form (drop (form_at form).kind_words (fields_of words)) >>= λ event. Ok (record { event = event; site = site })) formed
-    ∙ ap (λ read. read >>= λ form. site_of (site_text words) >>= λ site. event_of form (drop (form_at form).kind_words (fields_of words)) >>= λ event. Ok (record { event = event; site = site })) (counted-fits form (fields_of words) counts)
-    ∙ ap (λ read. read >>= λ site. event_of form (drop (form_at form).kind_words (fields_of words)) >>= λ event. Ok (record { event = event; site = site })) sited
-    ∙ ap (λ read. read >>= λ event. Ok (record { event = event; site = site })) (event_of-fields form words counts ∙ ap (event_of form) (sym is))
+    stated_by-step verb words left form site formed counts sited (ap (event_of form) is ∙ sym (event_of-fields form words counts))
 
 pub Fails-bind : {A B : Type 0} (error : ParseError) (read : Result A FormReason) (f : A → Result B FormReason) → Fails error read → Fails error (read >>= f)
 Fails-bind Memory read f fails = tt

@@ -4,6 +4,6 @@ pub mod Ranks
 pub mod Kinds
 pub mod Forms
 pub mod Lines
-pub mod Tails
+pub mod Words
 pub mod Listed
 pub mod Canonical

@@ -8,13 +8,13 @@ use crate::numbers::fault;
 use rma_base::names::{Name, NameError};
 use rma_base::reasons::FormReason;
 use rma_base::windows::{AccOps, WinModel};
-use std::alloc::Global;
+use rma_intern::interner::Interner;
 
 // The field as a name.
-pub(crate) fn name_field(alloc: Global, text: &[u8]) -> Result<Name, ParseError>
+pub(crate) fn name_field(interner: &mut Interner, text: &[u8]) -> Result<Name, ParseError>
     ensures { Gives result (meaning name text.now) }
 {
-    match Name::new(alloc, text) {
+    match interner.name(text) {
         Ok(name) => Ok(name),
         Err(NameError::Bad) => Err(fault(FormReason::BadName)),
         Err(NameError::Memory) => Err(ParseError::Memory),

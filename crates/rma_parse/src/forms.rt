@@ -1,5 +1,5 @@
 //! The forms of lines.
-ghost use Rattle.std.specs.Prelude.{◌≡◌, ◌+◌, length};
+ghost use Rattle.std.specs.Prelude.{◌≡◌, ◌+◌, ◌≤◌, length};
 ghost use Rattle.rma_parse.specs.Forms.{form_at};
 
 /// A form of a line, by its words.
@@ -20,17 +20,19 @@ pub enum LineForm {
 }
 
 impl LineForm {
-    // How many fields it has behind the verb, the site not counted.
-    pub(crate) fn count(self) -> usize
-        ensures { result ≡ (form_at self).kind_words + length (form_at self).kinds }
+    // How many words of its kind stand behind the verb, and how many further fields.
+    pub(crate) fn counts(self) -> (usize, usize)
+        ensures kind_words { result.0 ≡ (form_at self).kind_words }
+        ensures further { result.1 ≡ length (form_at self).kinds }
+        ensures few { result.0 + result.1 ≤ 16 }
     {
         match self {
-            LineForm::Header => 3,
-            LineForm::End => 0,
-            LineForm::Comm => 2,
-            LineForm::Barrier => 1,
-            LineForm::Create => 8,
-            LineForm::Free => 2,
+            LineForm::Header => (0, 3),
+            LineForm::End => (0, 0),
+            LineForm::Comm => (0, 2),
+            LineForm::Barrier => (0, 1),
+            LineForm::Create => (1, 7),
+            LineForm::Free => (1, 1),
         }
     }
 }

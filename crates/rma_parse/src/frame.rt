@@ -10,7 +10,7 @@ use crate::forms::LineForm;
 use crate::numbers::natural;
 use crate::rank_fields::ranks_field;
 use rma_base::ranks::Rank;
-use std::alloc::Global;
+use rma_intern::interner::Interner;
 
 pub(crate) fn header(version: &[u8], rank: &[u8], size: &[u8]) -> Result<Event, ParseError>
     ensures { Gives result (event_of LineForm.Header (version.now ∷ rank.now ∷ size.now ∷ [])) }
@@ -21,17 +21,17 @@ pub(crate) fn header(version: &[u8], rank: &[u8], size: &[u8]) -> Result<Event, 
     Ok(Event::Frame(Frame::Header { rank, size }))
 }
 
-pub(crate) fn comm(alloc: Global, comm: &[u8], ranks: &[u8]) -> Result<Event, ParseError>
+pub(crate) fn comm(interner: &mut Interner, comm: &[u8], ranks: &[u8]) -> Result<Event, ParseError>
     ensures { Gives result (event_of LineForm.Comm (comm.now ∷ ranks.now ∷ [])) }
 {
-    let comm = name_field(alloc, comm)?;
-    let ranks = ranks_field(alloc, ranks)?;
+    let comm = name_field(interner, comm)?;
+    let ranks = ranks_field(interner.alloc(), ranks)?;
     Ok(Event::Frame(Frame::Comm { comm, ranks }))
 }
 
-pub(crate) fn barrier(alloc: Global, comm: &[u8]) -> Result<Event, ParseError>
+pub(crate) fn barrier(interner: &mut Interner, comm: &[u8]) -> Result<Event, ParseError>
     ensures { Gives result (event_of LineForm.Barrier (comm.now ∷ [])) }
 {
-    let comm = name_field(alloc, comm)?;
+    let comm = name_field(interner, comm)?;
     Ok(Event::Frame(Frame::Barrier { comm }))
 }

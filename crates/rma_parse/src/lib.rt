@@ -14,4 +14,5 @@ mod repeats;
 #[cfg(test)]
 mod tests;
 mod window;
+mod words;
 pub mod writing;

@@ -6,6 +6,7 @@ use crate::writing::line_of;
 use rma_base::ranks::Rank;
 use rma_base::reasons::FormReason;
 use rma_base::windows::{AccOps, WinModel};
+use rma_intern::interner::Interner;
 use std::test::Fail;
 
 // The first reason that holds of each line.
@@ -109,14 +110,16 @@ const CANONICAL: [(&[u8], &[u8]); 13] = [
 ];
 
 fn reason_of(rt: &HostRuntime, line: &[u8]) -> Option<FormReason> {
-    match parse_line(rt.alloc(), line) {
+    let mut interner = Interner::new(rt.alloc());
+    match parse_line(&mut interner, line) {
         Err(ParseError::Fault(fault)) => Some(fault.reason),
         _ => None,
     }
 }
 
 fn stated(rt: &HostRuntime, line: &[u8]) -> Result<Stated, Fail> {
-    Ok(parse_line(rt.alloc(), line)?.ok_or("nothing")?)
+    let mut interner = Interner::new(rt.alloc());
+    Ok(parse_line(&mut interner, line)?.ok_or("nothing")?)
 }
 
 #[test]
@@ -131,8 +134,9 @@ fn bad_lines_have_their_reason(rt: HostRuntime) {
 
 #[test]
 fn blank_lines_and_comments_state_nothing(rt: HostRuntime) -> Result<(), Fail> {
+    let mut interner = Interner::new(rt.alloc());
     for line in NOTHING {
-        assert!(rt; parse_line(rt.alloc(), line)?.is_none());
+        assert!(rt; parse_line(&mut interner, line)?.is_none());
     }
     Ok(())
 }

@@ -9,11 +9,11 @@ use crate::fields::{model_field, name_field, operations_field};
 use crate::forms::LineForm;
 use crate::numbers::natural;
 use rma_base::limits::SPACE;
-use std::alloc::Global;
+use rma_intern::interner::Interner;
 
 #[allow(clippy::too_many_arguments)]
 pub(crate) fn create(
-    alloc: Global,
+    interner: &mut Interner,
     window: &[u8],
     comm: &[u8],
     base: &[u8],
@@ -24,8 +24,8 @@ pub(crate) fn create(
 ) -> Result<Event, ParseError>
     ensures { Gives result (event_of LineForm.Create (window.now ∷ comm.now ∷ base.now ∷ size.now ∷ unit.now ∷ model.now ∷ ops.now ∷ [])) }
 {
-    let window = name_field(alloc, window)?;
-    let comm = name_field(alloc, comm)?;
+    let window = name_field(interner, window)?;
+    let comm = name_field(interner, comm)?;
     let base = natural(base, 0, SPACE)?;
     let size = natural(size, 0, SPACE)?;
     let unit = natural(unit, 1, 2_147_483_647)? as u32;
@@ -42,9 +42,9 @@ pub(crate) fn create(
     }))
 }
 
-pub(crate) fn free(alloc: Global, window: &[u8]) -> Result<Event, ParseError>
+pub(crate) fn free(interner: &mut Interner, window: &[u8]) -> Result<Event, ParseError>
     ensures { Gives result (event_of LineForm.Free (window.now ∷ [])) }
 {
-    let window = name_field(alloc, window)?;
+    let window = name_field(interner, window)?;
     Ok(Event::Window(Window::Free { window }))
 }
