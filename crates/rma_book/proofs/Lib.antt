@@ -1,4 +1,5 @@
 pub mod JudgingLemmas
 pub mod StandingLemmas
+pub mod KnownLemmas
 pub mod ReadingLemmas
 pub mod OneEndLemmas

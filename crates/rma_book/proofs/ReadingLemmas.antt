@@ -20,6 +20,8 @@ use Rattle.rma_lex.proofs.CheckLemmas.{checked_lines-more, length-checked_lines}
 use Rattle.rma_book.specs.Reading.{HasTaken, HasRead, IsBehind, IsReading}
 use Rattle.rma_book.specs.declared.readers.Reader.{Reader}
 use Rattle.rma_book.specs.Standing.{Standing, StandsFor}
+use Rattle.rma_book.specs.Known.{IsRead}
+use Rattle.rma_parse.specs.Lines.{states}
 
 -- ---- lists with one item more
 
@@ -139,6 +141,19 @@ judge_good rank logs lines line old new at stated h said number given taken same
   among = same_logs ∙ h.among;
 }
 
+-- a line that the book knows is bad
+pub known_bad : (rank logs : ℕ) (lines : List Checked) (text : List ℕ) (book new : Standing) (at : LineNo) (reason : FormReason) → HasTaken rank logs lines book
+    → (stated : Stated) × states text stated × IsRead book new at stated (Some reason) → at.0 ≡ length lines + 1
+    → IsFirstBad rank logs (more lines (Ok text)) (record { line = at; reason = reason })
+known_bad rank logs lines text book new at reason h known number =
+    judge_bad rank logs lines (Ok text) book at known.0 reason h known.1 number known.2.judged
+
+-- a line that the book knows is good
+pub known_good : (rank logs : ℕ) (lines : List Checked) (text : List ℕ) (book new : Standing) (at : LineNo) → HasTaken rank logs lines book
+    → (stated : Stated) × states text stated × IsRead book new at stated None → at.0 ≡ length lines + 1 → HasTaken rank logs (more lines (Ok text)) new
+known_good rank logs lines text book new at h known number =
+    judge_good rank logs lines (Ok text) book new at known.0 h known.1 number known.2.judged (known.2.taken refl) known.2.rank known.2.logs
+
 -- a reader that found no bad line has taken all
 pub HasTaken-read : (rank logs : ℕ) (lines : List Checked) (reader : Reader) → HasRead rank logs lines reader → reader.fault ≡ None → HasTaken rank logs lines reader.book
 HasTaken-read rank logs lines reader h none = subst (λ fault. IsBehind rank logs lines reader.book fault) none h
@@ -156,6 +171,11 @@ HasRead-bad rank logs lines line reader h bad = step reader.fault refl h bad
 pub OnOk-then : {X E A B : Type 0} → (r : Result X E) → OnOk r A → (A → B) → OnOk r B
 OnOk-then (Ok x) h f = f h
 OnOk-then (Err e) h f = h
+
+-- what holds in any case holds where there is an answer
+pub OnOk-any : {X E B : Type 0} → (r : Result X E) → B → OnOk r B
+OnOk-any (Ok x) h = h
+OnOk-any (Err e) h = tt
 
 pub none_from : {X : Type 0} → (o : Option X) → is_some o ≡ false → o ≡ None
 none_from None h = refl

@@ -1,5 +1,5 @@
 -- The calls that the lines of a log record.
-use Rattle.std.specs.Prelude.{List, map, filter_map, Option, Some, None, if◌then◌else◌, [], ◌∷◌}
+use Rattle.std.specs.Prelude.{ℕ, List, map, filter_map, Option, Some, None, if◌then◌else◌, [], ◌∷◌}
 use Rattle.rma_base.specs.declared.lines.LineNo.{LineNo}
 use Rattle.rma_parse.specs.declared.events.Event.{Event}
 use Rattle.rma_parse.specs.declared.events.Stated.{Stated}
@@ -8,6 +8,7 @@ use Rattle.rma_parse.specs.declared.events.Frame.TheVariants as frame
 use Rattle.rma_parse.specs.declared.events.Window.TheVariants as window
 use Rattle.rma_book.specs.Events.{is_end}
 use Rattle.rma_call.specs.declared.calls.Call.{Call}
+use Rattle.rma_call.specs.declared.calls.CallBody.{CallBody}
 use Rattle.rma_call.specs.declared.calls.SyncCall.{SyncCall}
 use Rattle.rma_call.specs.declared.calls.What.TheVariants.{Sync}
 use Rattle.rma_call.specs.declared.calls.SyncCall.TheVariants.{Frame, Window}
@@ -37,13 +38,22 @@ sync_of (event.Frame (frame.Barrier comm)) = Some (Frame (Barrier comm))
 sync_of (event.Window (window.Create name comm base size unit model ops)) = Some (Window (Create name comm base size unit model ops))
 sync_of (event.Window (window.Free name)) = Some (Window (Free name))
 
--- the call of a line, where it has one
-abbrev pub call_with : Entry → Option SyncCall → Option Call
-call_with entry None = None
-call_with entry (Some call) = Some (record { line = entry.line; site = entry.stated.site; what = Sync call })
+-- what stands in the line of a call, where this site and this call stand there
+abbrev pub body_with : Option (List ℕ) → Option SyncCall → Option CallBody
+body_with site None = None
+body_with site (Some call) = Some (record { site = site; what = Sync call })
+
+-- what stands in the line of a call, where the line records one
+abbrev pub body_of : Stated → Option CallBody
+body_of stated = body_with stated.site (sync_of stated.event)
+
+-- the call of a line, where it records one
+abbrev pub call_with : LineNo → Option CallBody → Option Call
+call_with line None = None
+call_with line (Some body) = Some (record { line = line; body = body })
 
 abbrev pub call_of : Entry → Option Call
-call_of entry = call_with entry (sync_of entry.stated.event)
+call_of entry = call_with entry.line (body_of entry.stated)
 
 -- the calls of some lines, in their order
 abbrev pub calls_of : List Entry → List Call

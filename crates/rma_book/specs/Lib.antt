@@ -2,6 +2,9 @@ pub mod Events
 pub mod Judging
 pub mod Calls
 pub mod Standing
+pub mod Lasting
+pub mod Places
+pub mod Known
 pub mod Logs
 pub mod Reading
 pub mod Ends

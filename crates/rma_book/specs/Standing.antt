@@ -55,3 +55,10 @@ pub record IsTaken (old new : Standing) (entry : Entry) : Type 0 where
   pub comms : (name : List ℕ) → list_any (is_same name) new.comms ≡ (declares name entry.stated.event || list_any (is_same name) old.comms)
   pub windows : (name : List ℕ) → lookup (is_same name) new.windows ≡ window_after entry.stated.event name (lookup (is_same name) old.windows)
   pub calls : new.calls ≡ old.calls ++ option_to_list (call_of entry)
+
+-- The book noted what an event of this line does to the names, and the line of the end; nothing else changed.
+pub record IsNoted (old new : Standing) (line : LineNo) (event : Event) : Type 0 where
+  pub ended : new.ended ≡ (if is_end event then Some line else old.ended)
+  pub comms : (name : List ℕ) → list_any (is_same name) new.comms ≡ (declares name event || list_any (is_same name) old.comms)
+  pub windows : (name : List ℕ) → lookup (is_same name) new.windows ≡ window_after event name (lookup (is_same name) old.windows)
+  pub others : new ≡ record old { ended = new.ended; comms = new.comms; windows = new.windows }

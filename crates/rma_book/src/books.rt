@@ -1,13 +1,18 @@
 //! The book of one rank: it judges each event with those before it, and keeps the calls.
-ghost use Rattle.std.specs.Prelude.{◌≡◌, ◌+◌, ◌++◌, ◌∷◌, [], ℕ, List, Some, None, true, ◌||◌, is_some, unwrap_or, IfOk, OnOk, false, not, nat_lt, ◌==◌, ◌&&◌, if◌then◌else◌};
+ghost use Rattle.std.specs.Prelude.{◌≡◌, ◌+◌, ◌++◌, ◌∷◌, [], ℕ, List, Some, None, true, ◌||◌, is_some, unwrap_or, option_to_list, IfSome, IfOk, OnOk, false, not, nat_lt, ◌==◌, ◌&&◌, if◌then◌else◌};
 ghost use Rattle.std.specs.List.{list_any};
 ghost use Rattle.std.specs.Map.{lookup};
 ghost use Rattle.rma_base.specs.RankSets.{has_number};
-ghost use Rattle.rma_book.specs.Calls.{Entry, events_of};
+ghost use Rattle.rma_book.specs.Calls.{Entry, events_of, call_with};
 ghost use Rattle.rma_book.specs.Events.{is_same, world};
 ghost use Rattle.rma_book.specs.Judging.{reason_of, place_reason, name_reason};
-ghost use Rattle.rma_book.specs.Standing.{StandsFor, IsTaken};
+ghost use Rattle.rma_book.specs.Standing.{StandsFor, IsTaken, IsNoted};
+ghost use Rattle.rma_book.specs.Known.{IsKnown, IsRead};
+ghost use Rattle.rma_parse.specs.Lines.{states};
+ghost use Rattle.rma_parse.specs.declared.events.Stated.{Stated};
 
+use crate::lasting_lines::LastingLines;
+use crate::statements::Statement;
 use indexmap::{IndexMap, IndexSet};
 use rma_base::allocation::Memory;
 use rma_base::limits::SPACE;
@@ -17,9 +22,9 @@ use rma_base::names::{Name, NameError};
 use rma_base::rank_sets::RankSet;
 use rma_base::ranks::Rank;
 use rma_base::reasons::FormReason;
-use rma_base::sites::Site;
-use rma_call::calls::{Call, FrameCall, RankCalls, SyncCall, What, WindowCall};
-use rma_parse::events::{Event, Frame, Stated, Window};
+use rma_call::calls::{Call, RankCalls};
+use rma_call::shared_bodies::SharedBody;
+use rma_parse::events::{Event, Frame, Window};
 use std::alloc::Global;
 use std::marker::Model;
 
@@ -35,6 +40,8 @@ pub struct Book {
     // The windows that were created, each with whether it is still there.
     windows: IndexMap<Name, bool>,
     calls: Sequence<Call>,
+    // Barriers that the log repeats, on communicators that are there.
+    lasting: LastingLines,
 }
 
 impl Model for Book {
@@ -51,6 +58,10 @@ impl Model for Book {
       windows = book.windows.entries;
       calls = book.calls;
     } };
+
+    ghost use Rattle.rma_book.specs.Places.{AreThere};
+
+    ghost invariant = { λ book. AreThere book.comms.keys book.lasting.places.items };
 }
 
 impl Book {
@@ -73,6 +84,7 @@ impl Book {
             comms,
             windows: IndexMap::new(alloc),
             calls: Sequence::new(alloc),
+            lasting: LastingLines::new(alloc)?,
         })
     }
 
@@ -107,23 +119,93 @@ impl Book {
     /// # Errors
     ///
     /// `Memory` where memory ran out: the book no longer stands for the lines that it took.
-    pub fn read(&mut self, line: LineNo, stated: Stated) -> Result<Option<FormReason>, Memory>
-        ensures judged { IfOk result (λ reason. (entries : List Entry) → StandsFor self.old entries → reason ≡ reason_of self.old.rank self.old.logs (events_of entries) stated.event) }
-        ensures taken { IfOk result (λ reason. reason ≡ None → (entries : List Entry) → StandsFor self.old entries → StandsFor self.new (entries ++ record { line = line; stated = stated } ∷ [])) }
+    pub fn read(
+        &mut self,
+        line: LineNo,
+        statement: &Statement,
+    ) -> Result<Option<FormReason>, Memory>
+        ensures judged { IfOk result (λ reason. (entries : List Entry) → StandsFor self.old entries → reason ≡ reason_of self.old.rank self.old.logs (events_of entries) statement.now.event) }
+        ensures taken { IfOk result (λ reason. reason ≡ None → (entries : List Entry) → StandsFor self.old entries → StandsFor self.new (entries ++ record { line = line; stated = statement.now } ∷ [])) }
         ensures refused { IfOk result (λ reason. is_some reason ≡ true → self.new ≡ self.old) }
         ensures rank { OnOk result (self.new.rank ≡ self.old.rank) }
         ensures logs { OnOk result (self.new.logs ≡ self.old.logs) }
     {
-        match self.reason(&stated.event) {
+        match self.reason(statement.event()) {
             Some(reason) => Ok(Some(reason)),
             None => {
-                self.take(line, stated)?;
+                self.take(line, statement)?;
                 Ok(None)
             }
         }
     }
 
+    /// Judges the line of this text, whose key this is, and takes it where it is good, if it is one that the book knows.
+    /// It answers nothing for any other line.
+    ///
+    /// # Errors
+    ///
+    /// `Memory` where memory ran out: the book no longer stands for the lines that it took.
+    #[inline]
+    pub(crate) fn read_known(
+        &mut self,
+        line: LineNo,
+        key: u64,
+        text: &[u8],
+    ) -> Result<Option<Option<FormReason>>, Memory>
+        ensures known { IfOk result (λ known. IfSome known (λ reason. (stated : Stated) × states text.now stated × IsRead self.old self.new line stated reason)) }
+        ensures unknown { IfOk result (λ known. known ≡ None → self.new ≡ self.old) }
+    {
+        let Some(body) = self.known(key, text)? else {
+            return Ok(None);
+        };
+        match self.behind_header() {
+            Some(reason) => Ok(Some(Some(reason))),
+            None => {
+                self.keep(line, Some(body))?;
+                Ok(Some(None))
+            }
+        }
+    }
+
+    // The body of the barrier of this text, if the book knows it.
+    #[inline]
+    fn known(&self, key: u64, text: &[u8]) -> Result<Option<SharedBody>, Memory>
+        ensures { IfOk result (λ known. IfSome known (λ body. IsKnown self.now text.now body)) }
+    {
+        match self.lasting.find(key, text) {
+            Some(line) => match line.body().copy() {
+                Ok(body) => Ok(Some(body)),
+                Err(error) => Err(error),
+            },
+            None => Ok(None),
+        }
+    }
+
+    /// Remembers a line, where it is one that stays good and comes for the second time.
+    pub(crate) fn remember(
+        &mut self,
+        key: u64,
+        text: &[u8],
+        statement: &Statement,
+    ) -> Result<(), Memory>
+        requires { states text.now statement.now }
+        ensures { self.new ≡ self.old }
+    {
+        let Event::Frame(Frame::Barrier { comm }) = statement.event() else {
+            return Ok(());
+        };
+        let there = self.comms.contains(comm);
+        match statement.body()? {
+            Some(body) if there => {
+                let comm = comm.copy()?;
+                self.lasting.keep(key, text, comm, body)
+            }
+            _ => Ok(()),
+        }
+    }
+
     /// Why an event is bad behind the lines that the book took, if it is.
+    #[inline]
     pub fn reason(&self, event: &Event) -> Option<FormReason>
         ensures { (entries : List Entry) → StandsFor self.now entries → result ≡ reason_of self.now.rank self.now.logs (events_of entries) event.now }
     {
@@ -263,67 +345,43 @@ impl Book {
     }
 
     // Takes a line.
-    fn take(&mut self, line: LineNo, stated: Stated) -> Result<(), Memory>
-        ensures { OnOk result (IsTaken self.old self.new (record { line = line; stated = stated })) }
+    fn take(&mut self, line: LineNo, statement: &Statement) -> Result<(), Memory>
+        ensures { OnOk result (IsTaken self.old self.new (record { line = line; stated = statement.now })) }
     {
-        let Stated { event, site } = stated;
         self.begun = true;
+        self.note(line, statement.event())?;
+        self.keep(line, statement.body()?)
+    }
+
+    // Notes what an event does to the names, and the line of the end.
+    fn note(&mut self, line: LineNo, event: &Event) -> Result<(), Memory>
+        ensures { OnOk result (IsNoted self.old self.new line event.now) }
+    {
         match event {
-            Event::Frame(frame) => self.take_frame(line, site, frame),
-            Event::Window(window) => self.take_window(line, site, window),
+            Event::Frame(frame) => self.note_frame(line, frame),
+            Event::Window(window) => self.note_window(line, window),
         }
     }
 
-    fn take_frame(&mut self, line: LineNo, site: Option<Site>, frame: Frame) -> Result<(), Memory>
-        requires { self.old.begun ≡ true }
-        ensures { OnOk result (IsTaken self.old self.new (record { line = line; stated = record { event = Event.Frame frame; site = site } })) }
+    fn note_frame(&mut self, line: LineNo, frame: &Frame) -> Result<(), Memory>
+        ensures { OnOk result (IsNoted self.old self.new line (Event.Frame frame.now)) }
     {
         match frame {
-            Frame::Header { .. } => Ok(()),
+            Frame::Header { .. } | Frame::Barrier { .. } => Ok(()),
             Frame::End => {
                 self.ended = Some(line);
                 Ok(())
             }
-            Frame::Comm { comm, ranks } => {
-                self.declare(&comm)?;
-                self.keep(line, site, SyncCall::Frame(FrameCall::Comm { comm, ranks }))
-            }
-            Frame::Barrier { comm } => {
-                self.keep(line, site, SyncCall::Frame(FrameCall::Barrier { comm }))
-            }
+            Frame::Comm { comm, .. } => self.declare(comm),
         }
     }
 
-    fn take_window(&mut self, line: LineNo, site: Option<Site>, event: Window) -> Result<(), Memory>
-        requires { self.old.begun ≡ true }
-        ensures { OnOk result (IsTaken self.old self.new (record { line = line; stated = record { event = Event.Window event; site = site } })) }
+    fn note_window(&mut self, line: LineNo, event: &Window) -> Result<(), Memory>
+        ensures { OnOk result (IsNoted self.old self.new line (Event.Window event.now)) }
     {
         match event {
-            Window::Create {
-                window,
-                comm,
-                base,
-                size,
-                unit,
-                model,
-                ops,
-            } => {
-                self.mark(&window, true)?;
-                let call = WindowCall::Create {
-                    window,
-                    comm,
-                    base,
-                    size,
-                    unit,
-                    model,
-                    ops,
-                };
-                self.keep(line, site, SyncCall::Window(call))
-            }
-            Window::Free { window } => {
-                self.mark(&window, false)?;
-                self.keep(line, site, SyncCall::Window(WindowCall::Free { window }))
-            }
+            Window::Create { window, .. } => self.mark(window, true),
+            Window::Free { window } => self.mark(window, false),
         }
     }
 
@@ -349,15 +407,14 @@ impl Book {
         }
     }
 
-    // Keeps the call of a line.
-    fn keep(&mut self, line: LineNo, site: Option<Site>, call: SyncCall) -> Result<(), Memory>
-        ensures { OnOk result (self.new ≡ record self.old { calls = self.old.calls ++ record { line = line; site = site; what = What.Sync call } ∷ [] }) }
+    // Keeps the call of a line, if it records one.
+    fn keep(&mut self, line: LineNo, body: Option<SharedBody>) -> Result<(), Memory>
+        ensures { OnOk result (self.new ≡ record self.old { calls = self.old.calls ++ option_to_list (call_with line body) }) }
     {
-        self.calls.push(Call {
-            line,
-            site,
-            what: What::Sync(call),
-        })
+        match body {
+            Some(body) => self.calls.push(Call { line, body }),
+            None => Ok(()),
+        }
     }
 }
 

@@ -3,8 +3,11 @@
 
 pub mod books;
 pub mod faults;
+mod lasting_line;
+mod lasting_lines;
 pub mod laws;
 pub mod rank_books;
 mod readers;
+pub mod statements;
 #[cfg(test)]
 mod tests;

@@ -5,8 +5,7 @@ ghost use Rattle.rma_lex.specs.Lines.{lines};
 ghost use Rattle.rma_book.specs.Ends.{IsEnd};
 ghost use Rattle.rma_book.specs.RankReading.{StandsFor};
 
-use crate::books::Book;
-use crate::faults::{BookEnd, FormFault};
+use crate::faults::BookEnd;
 use crate::readers::{Reader, read_lines};
 use rma_base::allocation::Memory;
 use rma_base::limits::{FED, LINE};
@@ -20,7 +19,6 @@ use std::marker::Model;
 /// The log of one rank: the book of its good lines, its first bad line, and the rest that is no whole line yet.
 #[derive(Drop)]
 pub struct RankBook {
-    alloc: Global,
     cutter: LineCutter,
     reader: Reader,
 }
@@ -39,12 +37,8 @@ impl RankBook {
         ensures { IfOk result (λ log. StandsFor rank.0 logs log []) }
     {
         Ok(RankBook {
-            alloc,
             cutter: LineCutter::for_checked_lines(alloc),
-            reader: Reader {
-                book: Book::new(alloc, rank, logs)?,
-                fault: None,
-            },
+            reader: Reader::new(alloc, rank, logs)?,
         })
     }
 
@@ -70,7 +64,7 @@ impl RankBook {
         ensures open { self.new.text.closed ≡ false }
     {
         self.cutter.feed(piece)?;
-        read_lines(self.alloc, &mut self.cutter, &mut self.reader)?;
+        read_lines(&mut self.cutter, &mut self.reader)?;
         self.cutter.shorten();
         Ok(())
     }
@@ -92,7 +86,7 @@ impl RankBook {
         ensures { IfOk result (λ end. (rank logs : ℕ) (bytes : List ℕ) → StandsFor rank logs self bytes → IsEnd rank logs (checked_lines bytes) end) }
     {
         self.cutter.close();
-        read_lines(self.alloc, &mut self.cutter, &mut self.reader)?;
+        read_lines(&mut self.cutter, &mut self.reader)?;
         let behind = LineNo(self.cutter.lines() + 1);
         Ok(self.reader.end(behind))
     }

@@ -5,13 +5,18 @@ ghost use Rattle.rma_lex.specs.Lines.{lines};
 ghost use Rattle.rma_lex.specs.Cutting.{StandsAlike};
 ghost use Rattle.rma_book.specs.Ends.{IsEnd};
 ghost use Rattle.rma_book.specs.Logs.{Checked, says};
-ghost use Rattle.rma_book.specs.Reading.{HasRead, IsReading};
+ghost use Rattle.rma_book.specs.Reading.{HasRead, HasTaken, IsBehind, IsReading};
+ghost use Rattle.rma_parse.specs.Lines.{states};
 
 use crate::books::Book;
 use crate::faults::{BookEnd, FormFault};
+use crate::statements::Statement;
 use rma_base::allocation::Memory;
 use rma_base::lines::LineNo;
+use rma_base::ranks::Rank;
 use rma_base::reasons::FormReason;
+use rma_intern::interner::Interner;
+use rma_intern::keys::key_of;
 use rma_lex::cutter::{LexFault, Line, LineCutter};
 use rma_parse::events::Stated;
 use rma_parse::faults::ParseError;
@@ -21,13 +26,25 @@ use std::alloc::Global;
 /// The book of the good lines, and the first bad one, behind which nothing is read.
 #[derive(Drop)]
 pub(crate) struct Reader {
+    interner: Interner,
     pub(crate) book: Book,
     pub(crate) fault: Option<FormFault>,
 }
 
 impl Reader {
+    /// A reader of the lines of the log of a rank among so many logs.
+    pub(crate) fn new(alloc: Global, rank: Rank, logs: u32) -> Result<Reader, Memory>
+        ensures { IfOk result (λ reader. HasRead rank.0 logs [] reader) }
+    {
+        Ok(Reader {
+            interner: Interner::new(alloc),
+            book: Book::new(alloc, rank, logs)?,
+            fault: None,
+        })
+    }
+
     /// Reads the next line.
-    fn read(&mut self, alloc: Global, found: Result<Line<'_>, LexFault>) -> Result<(), Memory>
+    fn read(&mut self, found: Result<Line<'_>, LexFault>) -> Result<(), Memory>
         ensures { OnOk result ((rank logs : ℕ) (before : List Checked) → number found.entry ≡ length before + 1 → HasRead rank logs before self.old
             → HasRead rank logs (before ++ told found.entry ∷ []) self.new) }
     {
@@ -35,7 +52,7 @@ impl Reader {
             return Ok(());
         }
         match found {
-            Ok(line) => self.read_text(alloc, line.no, line.text),
+            Ok(line) => self.read_text(line.no, line.text),
             Err(fault) => {
                 self.refuse(fault.no, fault.reason);
                 Ok(())
@@ -44,14 +61,34 @@ impl Reader {
     }
 
     // Reads the text of the next line.
-    fn read_text(&mut self, alloc: Global, no: LineNo, text: &[u8]) -> Result<(), Memory>
+    fn read_text(&mut self, no: LineNo, text: &[u8]) -> Result<(), Memory>
         requires { self.old.fault ≡ None }
         ensures { OnOk result ((rank logs : ℕ) (before : List Checked) → no.0 ≡ length before + 1 → HasRead rank logs before self.old
             → HasRead rank logs (before ++ Ok text.now ∷ []) self.new) }
     {
-        match parse_line(alloc, text) {
+        if text.first() == Some(&b'#') {
+            return self.read_unknown(no, 0, text);
+        }
+        let key = key_of(text);
+        match self.book.read_known(no, key, text)? {
+            Some(Some(reason)) => {
+                self.refuse(no, reason);
+                Ok(())
+            }
+            Some(None) => Ok(()),
+            None => self.read_unknown(no, key, text),
+        }
+    }
+
+    // Reads the text of the next line, which is not known.
+    fn read_unknown(&mut self, no: LineNo, key: u64, text: &[u8]) -> Result<(), Memory>
+        requires { self.old.fault ≡ None }
+        ensures { OnOk result ((rank logs : ℕ) (before : List Checked) → no.0 ≡ length before + 1 → HasRead rank logs before self.old
+            → HasRead rank logs (before ++ Ok text.now ∷ []) self.new) }
+    {
+        match parse_line(&mut self.interner, text) {
             Ok(None) => Ok(()),
-            Ok(Some(stated)) => self.judge(no, stated),
+            Ok(Some(stated)) => self.read_stated(no, key, text, stated),
             Err(ParseError::Fault(fault)) => {
                 self.refuse(no, fault.reason);
                 Ok(())
@@ -60,16 +97,27 @@ impl Reader {
         }
     }
 
-    // Judges what the next line states.
-    fn judge(&mut self, no: LineNo, stated: Stated) -> Result<(), Memory>
-        requires { self.old.fault ≡ None }
-        ensures { OnOk result ((rank logs : ℕ) (before : List Checked) (line : Checked) → no.0 ≡ length before + 1 → says line ≡ Ok (Some stated)
-            → HasRead rank logs before self.old → HasRead rank logs (before ++ line ∷ []) self.new) }
+    // Reads the next line, which was not known and states this.
+    fn read_stated(
+        &mut self,
+        no: LineNo,
+        key: u64,
+        text: &[u8],
+        stated: Stated,
+    ) -> Result<(), Memory>
+        requires none { self.old.fault ≡ None }
+        requires said { states text.now stated }
+        ensures { OnOk result ((rank logs : ℕ) (before : List Checked) → no.0 ≡ length before + 1 → HasRead rank logs before self.old
+            → HasRead rank logs (before ++ Ok text.now ∷ []) self.new) }
     {
-        if let Some(reason) = self.book.read(no, stated)? {
-            self.refuse(no, reason);
+        let statement = Statement::new(self.interner.alloc(), stated)?;
+        match self.book.read(no, &statement)? {
+            Some(reason) => {
+                self.refuse(no, reason);
+                Ok(())
+            }
+            None => self.book.remember(key, text, &statement),
         }
-        Ok(())
     }
 
     // The line is the first bad one.
@@ -95,23 +143,19 @@ impl Reader {
 }
 
 /// Reads the whole lines that are left.
-pub(crate) fn read_lines(
-    alloc: Global,
-    cutter: &mut LineCutter,
-    reader: &mut Reader,
-) -> Result<(), Memory>
+pub(crate) fn read_lines(cutter: &mut LineCutter, reader: &mut Reader) -> Result<(), Memory>
     ensures read { OnOk result ((rank logs : ℕ) (text : List ℕ) → IsReading rank logs cutter.old text reader.old → IsReading rank logs cutter.new text reader.new) }
     ensures all { OnOk result ((text : List ℕ) → StandsAlike cutter.new text → cutter.new.closed ≡ true → cutter.new.handed ≡ length (lines text)) }
     ensures none_left { OnOk result (¬ Contains cutter.new.rest 10) }
     ensures closed { cutter.new.closed ≡ cutter.old.closed }
     ensures fed { OnOk result (cutter.new.fed ≡ cutter.old.fed) }
 {
-    'lines: while read_next(alloc, cutter, reader)? {}
+    'lines: while read_next(cutter, reader)? {}
     Ok(())
 }
 
 // Reads the next line, if a whole one is left, and says whether one was.
-fn read_next(alloc: Global, cutter: &mut LineCutter, reader: &mut Reader) -> Result<bool, Memory>
+fn read_next(cutter: &mut LineCutter, reader: &mut Reader) -> Result<bool, Memory>
     ensures read { OnOk result ((rank logs : ℕ) (text : List ℕ) → IsReading rank logs cutter.old text reader.old → IsReading rank logs cutter.new text reader.new) }
     ensures all { IfOk result (λ more. more ≡ false → (text : List ℕ) → StandsAlike cutter.new text → cutter.new.closed ≡ true → cutter.new.handed ≡ length (lines text)) }
     ensures none_left { IfOk result (λ more. more ≡ false → ¬ Contains cutter.new.rest 10) }
@@ -121,7 +165,7 @@ fn read_next(alloc: Global, cutter: &mut LineCutter, reader: &mut Reader) -> Res
 {
     match cutter.next_line() {
         Some(found) => {
-            reader.read(alloc, found)?;
+            reader.read(found)?;
             Ok(true)
         }
         None => Ok(false),

@@ -14,7 +14,7 @@ struct Case {
     end: Result<usize, (u32, FormReason)>,
 }
 
-static CASES: [Case; 30] = [
+static CASES: [Case; 34] = [
     Case {
         log: "rma 1 1 3\ncomm C 0,1\nbarrier C\nwin create W C 0 8 1 unified same_op\nwin free W\nend\n",
         end: Ok(4),
@@ -134,6 +134,23 @@ static CASES: [Case; 30] = [
     Case {
         log: "rma 1 1 3\nend\nend\n",
         end: Err((3, FormReason::AfterEnd)),
+    },
+    // Lines that the log repeats.
+    Case {
+        log: "rma 1 1 3\ncomm C 0,1\nbarrier C @a\nbarrier C @a\nbarrier C @b\nbarrier C @a\nbarrier C @b\nend\n",
+        end: Ok(6),
+    },
+    Case {
+        log: "rma 1 1 3\nbarrier world @a\nbarrier world @a\nbarrier world @a\nend\nbarrier world @a\n",
+        end: Err((6, FormReason::AfterEnd)),
+    },
+    Case {
+        log: "rma 1 1 3\ncomm C 0,1\ncomm C 0,1\ncomm C 0,1\nend\n",
+        end: Err((3, FormReason::NameInUse)),
+    },
+    Case {
+        log: "rma 1 1 3\n# a\n# a\n# a\n\n\nbarrier world\nbarrier world\nbarrier world\nbarrier worl\nend\n",
+        end: Err((10, FormReason::UnknownComm)),
     },
 ];
 

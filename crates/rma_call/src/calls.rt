@@ -1,4 +1,5 @@
 //! The calls of a rank, as its log records them.
+use crate::shared_bodies::SharedBody;
 use rma_base::lines::LineNo;
 use rma_base::lists::Sequence;
 use rma_base::names::Name;
@@ -15,10 +16,16 @@ pub struct RankCalls {
     pub end: LineNo,
 }
 
-/// A call: the line that records it, the site that the recorder gave it, and what it does.
+/// A call: the line that records it, and what stands there.
 #[derive(Debug, Drop)]
 pub struct Call {
     pub line: LineNo,
+    pub body: SharedBody,
+}
+
+/// What stands in the line of a call: the site that the recorder gave it, and what it does.
+#[derive(Debug, Drop)]
+pub struct CallBody {
     pub site: Option<Site>,
     pub what: What,
 }

@@ -3,3 +3,4 @@
 
 pub mod calls;
 pub mod match_faults;
+pub mod shared_bodies;

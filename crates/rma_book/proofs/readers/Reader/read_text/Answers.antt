@@ -1,25 +1,18 @@
-use Rattle.std.proofs.Common.{◌≡◌, ap, ◌∙◌, Ok, Err, Some, None, Option, Result}
-use Rattle.rma_base.specs.declared.reasons.FormReason.{FormReason}
-use Rattle.rma_parse.specs.declared.events.Stated.{Stated}
-use Rattle.rma_parse.specs.Lines.{reading}
-use Rattle.rma_book.specs.Logs.{entries, judged}
-use Rattle.rma_book.proofs.ReadingLemmas.{HasTaken-read, HasTaken-nothing, IsFirstBad-now, OnOk-then}
+use Rattle.rma_book.proofs.ReadingLemmas.{HasTaken-read, OnOk-then, known_bad, known_good}
 use Rattle.rma_book.proofs.readers.Reader.read_text.Goals as goal
 
-pub returns-in-Ok-None : goal.returns-in-Ok-None
-returns-in-Ok-None c = λ rank logs before number h.
+pub returns-in-Some-Some : goal.returns-in-Some-Some
+returns-in-Some-Some c = λ rank logs before number h.
     let taken = HasTaken-read rank logs before c.args.self.now h c.requires in
-    let said : reading c.args.text.now ≡ Ok None = c.in-Ok-None.ensures ∙ ap Ok c.in-Ok-None.field-0-is in
-    rw c.requires (HasTaken-nothing rank logs before (Ok c.args.text.now) c.args.self.now.book taken said)
+    let known = rw (c.in-Some-Some.is, c.in-Some-Some.field-0-is) at c.in_ok-reason.ensures.known in
+    rw c.refuse.ensures (known_bad rank logs before c.args.text.now c.args.self.now.book c.read_known.new.self c.args.no c.in-Some-Some.reason taken known number)
 
-pub returns-in-Ok-Some : goal.returns-in-Ok-Some
-returns-in-Ok-Some c =
-    let said : reading c.args.text.now ≡ Ok (Some c.in-Ok-Some.stated) = c.in-Ok-Some.ensures ∙ ap Ok c.in-Ok-Some.field-0-is in
-    OnOk-then c.judge.result c.judge.ensures (λ given rank logs before number h. given rank logs before (Ok c.args.text.now) number said h)
-
-pub returns-in-Err-Fault : goal.returns-in-Err-Fault
-returns-in-Err-Fault c = λ rank logs before number h.
+pub returns-in-Some-None : goal.returns-in-Some-None
+returns-in-Some-None c = λ rank logs before number h.
     let taken = HasTaken-read rank logs before c.args.self.now h c.requires in
-    let said : reading c.args.text.now ≡ Err c.in-Err-Fault.fault.reason = rw c.in-Err-Fault.field-0-is at c.in-Err-Fault.ensures in
-    let bad = ap (λ (it : Result (Option Stated) FormReason). judged rank logs (entries before) it) said in
-    rw c.refuse.ensures (IsFirstBad-now rank logs before (Ok c.args.text.now) (record { line = c.args.no; reason = c.in-Err-Fault.fault.reason }) taken.good bad number)
+    let known = rw (c.in-Some-None.is, c.in-Some-None.field-0-is) at c.in_ok-reason.ensures.known in
+    rw c.requires (known_good rank logs before c.args.text.now c.args.self.now.book c.read_known.new.self c.args.no taken known number)
+
+pub returns-in-None : goal.returns-in-None
+returns-in-None c = OnOk-then c.read_unknown-in-None.result c.read_unknown-in-None.ensures (λ given rank logs before number h.
+    given rank logs before number (rw (c.in_ok-reason.ensures.unknown c.in-None.is) h))
