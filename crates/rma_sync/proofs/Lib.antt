@@ -1,5 +1,9 @@
 pub mod WalkLemmas
 pub mod PlaceLemmas
+pub mod TallyLemmas
+pub mod SoFarLemmas
+pub mod EvenLemmas
+pub mod ReadingLemmas
 pub mod MeetingLemmas
 pub mod TotalLemmas
 pub mod MissingLemmas

@@ -2,8 +2,9 @@
 use Rattle.std.proofs.Common.{◌≡◌, ℕ, zero, suc, List, [], ◌∷◌, ◌++◌, refl}
 use Rattle.rma_call.specs.declared.calls.RankCalls.{RankCalls}
 use Rattle.rma_sync.specs.declared.kinds.Kind.{Kind}
+use Rattle.rma_sync.specs.Collectives.{made}
 use Rattle.rma_sync.specs.Counts.{AreCounts}
-use Rattle.rma_sync.specs.Totals.{Numbers, AreTotals, total_in, made}
+use Rattle.rma_sync.specs.Totals.{Numbers, AreTotals, total_in}
 
 -- the numbers of one more rank
 pub AreTotals-push : (kind : Kind) (ranks : List RankCalls) (totals : List Numbers) (rank : RankCalls) (numbers : Numbers) →

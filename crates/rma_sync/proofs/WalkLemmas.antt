@@ -1,5 +1,8 @@
 -- One more element at a loop's step.
-use Rattle.std.proofs.Common.{◌≡◌, ℕ, ◌+◌, ◌<◌, List, [], ◌∷◌, ◌++◌, length, get_or, take, Option, sym, ap, ◌∙◌}
+use Rattle.std.proofs.Common.{◌≡◌, ℕ, ◌+◌, ◌<◌, List, [], ◌∷◌, ◌++◌, length, get_or, take, Option, Some, None, refl, sym, ap, ◌∙◌}
+use Rattle.rma_base.specs.declared.ranks.Rank.{Rank}
+use Rattle.rma_call.specs.declared.calls.Call.{Call}
+use Rattle.rma_sync.specs.Collectives.{walked}
 use Rattle.std.specs.List.{filter_map, flat_map, cons_option}
 use Rattle.std.proofs.lemmas.List.{take_more, append_assoc, append-nil, flat_map_more}
 use Rattle.std.proofs.lemmas.List.Elements.{filter_map-append}
@@ -27,3 +30,15 @@ pub joined : {X : Type 0} (a b c d l b' c' d' l1 l2 l3 : List X) → l ≡ a →
 joined a b c d l b' c' d' l1 l2 l3 at_a at_b at_c at_d e1 e2 e3 =
     let e : l3 ≡ ((a ++ b) ++ c) ++ d = cc in
     e ∙ simp (append_assoc, append-nil)
+
+cons_option-append : {Y : Type 0} (o : Option Y) (xs ys : List Y) → cons_option o (xs ++ ys) ≡ cons_option o xs ++ ys
+cons_option-append None xs ys = refl
+cons_option-append (Some x) xs ys = refl
+
+pub walked-push : {Y : Type 0} (f : Rank → List Call → Call → Option Y) (rank : Rank) (before xs : List Call) (x : Call) →
+    walked f rank before (xs ++ x ∷ []) ≡ walked f rank before xs ++ cons_option (f rank (before ++ xs) x) []
+walked-push f rank before [] x = ap (λ l. cons_option (f rank l x) []) (sym (append-nil before))
+walked-push f rank before (y ∷ ys) x =
+    ap (cons_option (f rank before y)) (walked-push f rank (before ++ y ∷ []) ys x)
+    ∙ cons_option-append (f rank before y) (walked f rank (before ++ y ∷ []) ys) (cons_option (f rank ((before ++ y ∷ []) ++ ys) x) [])
+    ∙ ap (λ l. cons_option (f rank before y) (walked f rank (before ++ y ∷ []) ys) ++ cons_option (f rank l x) []) (append_assoc before (y ∷ []) ys)

@@ -1,6 +1,6 @@
 -- Which calls are collective on a communicator, and the place of each among those of its rank (MPI 4.0, "Collective
 -- Communication").
-use Rattle.std.specs.Prelude.{ℕ, List, [], ◌∷◌, ◌++◌, Bool, false, Option, Some, None, option_map, nat_eq, count_by}
+use Rattle.std.specs.Prelude.{ℕ, List, [], ◌∷◌, ◌++◌, Bool, false, Option, Some, None, option_map, nat_eq, count_by, slice_get}
 use Rattle.std.specs.List.{cons_option, flat_map}
 use Rattle.std.specs.Option.{option_map_or}
 use Rattle.std.specs.Cmp.Lexicographic.{pointwise}
@@ -42,7 +42,7 @@ named kind.Free what = freed what
 
 -- whether a call of this kind is on this name
 abbrev pub is_on : Kind → List ℕ → Call → Bool
-is_on kind name call = option_map_or (λ own. pointwise nat_eq own name) (named kind call.what) false
+is_on kind name call = option_map_or (λ own. pointwise nat_eq own name) (named kind call.body.what) false
 
 -- the number of calls of this kind on this name
 abbrev pub count_of : Kind → List ℕ → List Call → ℕ
@@ -69,8 +69,20 @@ pub record Collective : Type 0 where
 -- a call of a rank behind others, where it is collective
 abbrev pub collective_at : Rank → List Call → Call → Option Collective
 collective_at rank before call =
-    option_map (λ comm. record { rank = rank; line = call.line; comm = comm; number = count_of kind.Collective comm before; window = window_of call.what }) (comm_of call.what)
+    option_map (λ comm. record { rank = rank; line = call.line; comm = comm; number = count_of kind.Collective comm before; window = window_of call.body.what }) (comm_of call.body.what)
 
 -- the collective calls of a run
 abbrev pub collectives : List RankCalls → List Collective
 collectives ranks = walked_all collective_at ranks
+
+-- how many calls of this kind a rank makes on the name
+abbrev pub made : Kind → List RankCalls → ℕ → List ℕ → ℕ
+made kind ranks rank name = option_map_or (λ r. count_of kind name r.calls) (slice_get ranks rank) 0
+
+-- the same of each rank, by its place
+abbrev pub made_on : Kind → List RankCalls → List ℕ → ℕ → ℕ
+made_on kind ranks name rank = made kind ranks rank name
+
+-- the ranks before one, and that one with its first calls
+abbrev pub so_far : List RankCalls → RankCalls → List Call → List RankCalls
+so_far done rank calls = done ++ (record rank { calls = calls }) ∷ []

@@ -4,7 +4,9 @@ pub mod Terms
 pub mod Collectives
 pub mod Counts
 pub mod Members
+pub mod Tallies
 pub mod Meetings
+pub mod Reading
 pub mod Totals
 pub mod Missing
 pub mod Faults

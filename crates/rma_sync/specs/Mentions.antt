@@ -10,7 +10,7 @@ use Rattle.rma_sync.specs.declared.mentions.Mention.{Mention}
 
 -- what a call of a rank says of the thing that it names, where it is of the kind that says so
 abbrev pub mention_of : {T : Type 0} → (What → Option (List ℕ × T)) → Rank → Call → Option (Mention T)
-mention_of said rank call = option_map (λ s. record { rank = rank; line = call.line; name = s.0; said = s.1 }) (said call.what)
+mention_of said rank call = option_map (λ s. record { rank = rank; line = call.line; name = s.0; said = s.1 }) (said call.body.what)
 
 -- what calls of one rank say, by line
 abbrev pub mentions_of : {T : Type 0} → (What → Option (List ℕ × T)) → Rank → List Call → List (Mention T)

@@ -13,9 +13,9 @@ use Rattle.rma_sync.specs.declared.kinds.Kind.{Kind}
 use Rattle.rma_sync.specs.declared.kinds.Kind.TheVariants.{Collective, Free}
 use Rattle.rma_sync.specs.declared.missing.Watch.{Watch}
 use Rattle.rma_sync.specs.declared.missing.Watches.{Watches}
-use Rattle.rma_sync.specs.Collectives.{named, count_of, walked_all}
+use Rattle.rma_sync.specs.Collectives.{named, count_of, walked_all, made}
 use Rattle.rma_sync.specs.Members.{members, AreMembers}
-use Rattle.rma_sync.specs.Totals.{made, is_reached, AreTotals}
+use Rattle.rma_sync.specs.Totals.{is_reached, AreTotals}
 
 -- whether some member makes no call of this number on the name, from 0
 abbrev pub lacks : Kind → List RankCalls → List ℕ → ℕ → Bool
@@ -27,7 +27,7 @@ fault_if lacking rank call = if lacking then Some (record { reason = CollectiveM
 
 -- the fault of a call of this kind, behind others of its rank, that some member does not make
 abbrev pub missing_of : Kind → List RankCalls → Rank → List Call → Call → Option MatchFault
-missing_of kind ranks rank before call = option_and_then (λ name. fault_if (lacks kind ranks name (count_of kind name before)) rank call) (named kind call.what)
+missing_of kind ranks rank before call = option_and_then (λ name. fault_if (lacks kind ranks name (count_of kind name before)) rank call) (named kind call.body.what)
 
 -- the fault of a call, collective or of a free, that some member does not make
 abbrev pub missing_at : List RankCalls → Rank → List Call → Call → Option MatchFault

@@ -7,7 +7,6 @@ use Rattle.std.specs.declared.hash.FoldHasher.{FoldHasher}
 use Rattle.std.specs.declared.hash.BuildHasherDefault.{BuildHasherDefault}
 use Rattle.rma_call.specs.declared.calls.RankCalls.{RankCalls}
 use Rattle.rma_sync.specs.declared.kinds.Kind.{Kind}
-use Rattle.rma_sync.specs.Collectives.{count_of}
 use Rattle.rma_sync.specs.Counts.{count_in, AreCounts}
 
 -- the numbers of one rank
@@ -21,10 +20,6 @@ AreTotals kind ranks totals = AllZip (λ r t. AreCounts kind r.calls t.entries) 
 -- how many calls on the name stand in the numbers of a rank, and 0 where there is no such rank
 abbrev pub total_in : List Numbers → ℕ → List ℕ → ℕ
 total_in totals rank name = option_map_or (λ t. count_in t.entries name) (slice_get totals rank) 0
-
--- how many calls of this kind a rank makes on the name
-abbrev pub made : Kind → List RankCalls → ℕ → List ℕ → ℕ
-made kind ranks rank name = option_map_or (λ r. count_of kind name r.calls) (slice_get ranks rank) 0
 
 -- whether a number is as large as the fewest calls of a member, so that this member has no call of this number
 abbrev pub is_reached : Option ℕ → ℕ → Bool

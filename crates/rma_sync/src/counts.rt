@@ -28,7 +28,7 @@ pub(crate) fn note(
     requires { (name : List ℕ) → count_in counts.old.entries name + 1 < 2 ^ 64 }
     ensures { OnOk result (IsCounted kind counts.old.entries counts.new.entries call.now) }
 {
-    let Some(name) = kinds::named(kind, &call.what) else {
+    let Some(name) = kinds::named(kind, call) else {
         return Ok(());
     };
     if let Some(number) = counts.get_mut(name) {

@@ -2,15 +2,18 @@
 #![tactic(auto)]
 
 mod counts;
-pub mod differences;
+mod differences;
 mod first_places;
-pub mod kinds;
+mod frees;
+mod kinds;
 pub mod matching;
-pub mod meetings;
+mod meetings;
 mod members;
-pub mod mentions;
+mod mentions;
 mod missing;
-pub mod terms;
+mod reading;
+mod tallies;
+mod terms;
 #[cfg(test)]
 mod tests;
 mod totals;

@@ -1,12 +1,15 @@
 //! Who has to make a call: the members of its communicator, or of the communicator of its window.
 ghost use Rattle.std.specs.Prelude.{◌≡◌, List, IfOk};
 ghost use Rattle.rma_call.specs.declared.calls.RankCalls.{RankCalls};
+ghost use Rattle.rma_sync.specs.Mentions.{mentions};
+ghost use Rattle.rma_sync.specs.Terms.{declared, created};
 ghost use Rattle.rma_sync.specs.Members.{AreMembers, members_of_comm, members};
 
 use crate::kinds::Kind;
-use crate::mentions::Mentions;
+use crate::mentions::{Mention, Mentions};
 use crate::terms::WindowTerms;
 use rma_base::allocation::Memory;
+use rma_base::lists::Sequence;
 use rma_base::names::Name;
 use rma_base::rank_sets::RankSet;
 use rma_call::calls::RankCalls;
@@ -21,12 +24,19 @@ pub(crate) struct Members {
 }
 
 impl Members {
-    /// Those of the run of these ranks.
-    pub(crate) fn new(alloc: Global, ranks: &[RankCalls]) -> Result<Members, Memory>
+    /// Those of the run of these ranks, whose calls declare these communicators and create these windows.
+    pub(crate) fn new(
+        alloc: Global,
+        ranks: &[RankCalls],
+        declarations: Sequence<Mention<RankSet>>,
+        creations: Sequence<Mention<WindowTerms>>,
+    ) -> Result<Members, Memory>
+        requires declarations { declarations ≡ mentions declared ranks.now }
+        requires creations { creations ≡ mentions created ranks.now }
         ensures { IfOk result (λ it. AreMembers ranks.now it) }
     {
-        let declarations = Mentions::new(alloc, ranks)?;
-        let creations = Mentions::new(alloc, ranks)?;
+        let declarations = Mentions::new(alloc, declarations)?;
+        let creations = Mentions::new(alloc, creations)?;
         let everyone = ranks.iter().map(|rank| rank.rank.0).collect(alloc)?;
         Ok(Members {
             declarations,

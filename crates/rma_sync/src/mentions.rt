@@ -1,7 +1,7 @@
 //! What the calls of a run say of the things that they name.
 ghost use Rattle.std.specs.Prelude.{◌≡◌, ◌++◌, [], OnOk, IfOk, option_copied};
 ghost use Rattle.std.specs.List.{cons_option};
-ghost use Rattle.rma_sync.specs.Mentions.{mention_of, mentions_of, mentions, first_of};
+ghost use Rattle.rma_sync.specs.Mentions.{mention_of, first_of};
 
 use crate::first_places::first_places;
 use indexmap::IndexMap;
@@ -10,7 +10,7 @@ use rma_base::lines::LineNo;
 use rma_base::lists::Sequence;
 use rma_base::names::Name;
 use rma_base::ranks::Rank;
-use rma_call::calls::{Call, RankCalls, What};
+use rma_call::calls::{Call, What};
 use std::alloc::Global;
 use std::marker::Model;
 
@@ -63,11 +63,10 @@ impl<T: Drop> Model for Mentions<T> {
 }
 
 impl<T: Said> Mentions<T> {
-    /// What the calls of these ranks say.
-    pub fn new(alloc: Global, ranks: &[RankCalls]) -> Result<Mentions<T>, Memory>
-        ensures { IfOk result (λ found. found ≡ mentions T.said ranks.now) }
+    /// What the calls say, with the first of each name.
+    pub fn new(alloc: Global, list: Sequence<Mention<T>>) -> Result<Mentions<T>, Memory>
+        ensures { IfOk result (λ mentions. mentions ≡ list) }
     {
-        let list = list_mentions(alloc, ranks)?;
         let places = first_places(alloc, list.as_slice())?;
         Ok(Mentions { list, places })
     }
@@ -90,45 +89,15 @@ impl<T: Said> Mentions<T> {
     }
 }
 
-/// What the calls of all ranks say of the things that they name, by rank and then by line.
-fn list_mentions<T: Said>(
-    alloc: Global,
-    ranks: &[RankCalls],
-) -> Result<Sequence<Mention<T>>, Memory>
-    ensures { IfOk result (λ list. list ≡ mentions T.said ranks.now) }
-{
-    let mut list = Sequence::new(alloc);
-    for rank in ranks {
-        match push_mentions(rank, &mut list) {
-            Ok(()) => {}
-            Err(error) => return Err(error),
-        }
-    }
-    Ok(list)
-}
-
-/// Puts what the calls of one rank say at the end of a list.
-fn push_mentions<T: Said>(rank: &RankCalls, list: &mut Sequence<Mention<T>>) -> Result<(), Memory>
-    ensures { OnOk result (list.new ≡ list.old ++ mentions_of T.said rank.now.rank rank.now.calls) }
-{
-    for call in rank.calls.as_slice() {
-        match push_mention(rank.rank, call, list) {
-            Ok(()) => {}
-            Err(error) => return Err(error),
-        }
-    }
-    Ok(())
-}
-
 /// Puts what a call says, if it is of the kind, at the end of a list.
-fn push_mention<T: Said>(
+pub fn push_mention<T: Said>(
     rank: Rank,
     call: &Call,
     list: &mut Sequence<Mention<T>>,
 ) -> Result<(), Memory>
     ensures { OnOk result (list.new ≡ list.old ++ cons_option (mention_of T.said rank call.now) []) }
 {
-    match T::read(&call.what) {
+    match T::read(&call.body.get().what) {
         Ok(Some((name, said))) => list.push(Mention {
             rank,
             line: call.line,

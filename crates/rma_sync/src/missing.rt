@@ -83,7 +83,7 @@ impl Watch {
         ensures watch { OnOk result ((kind : Kind) (ranks : List RankCalls) → AreMembers ranks members.now → IsWatch kind ranks self.old
             → IsWatch kind ranks self.new) }
     {
-        let Some(name) = kinds::named(self.kind, &call.what) else {
+        let Some(name) = kinds::named(self.kind, call) else {
             return Ok(None);
         };
         let number = counts::count(counts, name);

@@ -7,8 +7,9 @@ use rma_base::names::Name;
 use rma_base::rank_sets::RankSet;
 use rma_base::ranks::Rank;
 use rma_base::windows::{AccOps, WinModel};
-use rma_call::calls::{Call, FrameCall, RankCalls, SyncCall, What, WindowCall};
+use rma_call::calls::{Call, CallBody, FrameCall, RankCalls, SyncCall, What, WindowCall};
 use rma_call::match_faults::MatchFault;
+use rma_call::shared_bodies::SharedBody;
 use std::alloc::Global;
 use std::process::Abort;
 use std::test::Fail;
@@ -65,10 +66,13 @@ fn calls(alloc: Global, rank: u32, shorts: &[Short<'_>]) -> Result<RankCalls, Fa
     let mut line: u32 = 1;
     for short in shorts {
         line = line.checked_add(1).ok_or("too many calls")?;
-        calls.push(Call {
-            line: LineNo(line),
+        let body = CallBody {
             site: None,
             what: What::Sync(what(alloc, short)?),
+        };
+        calls.push(Call {
+            line: LineNo(line),
+            body: SharedBody::new(alloc, body)?,
         })?;
     }
     Ok(RankCalls {

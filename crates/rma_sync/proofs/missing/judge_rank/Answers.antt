@@ -3,8 +3,7 @@ use Rattle.std.proofs.lemmas.Grind.{common_steps}
 use Rattle.std.specs.List.{cons_option}
 use Rattle.rma_sync.specs.Collectives.{walked}
 use Rattle.rma_sync.specs.Missing.{missing_at}
-use Rattle.rma_sync.proofs.WalkLemmas.{taken}
-use Rattle.rma_sync.proofs.MeetingLemmas.{walked-push}
+use Rattle.rma_sync.proofs.WalkLemmas.{taken, walked-push}
 use Rattle.rma_sync.proofs.missing.judge_rank.Goals as goal
 
 pub loop-call-preserved : goal.loop-call-preserved

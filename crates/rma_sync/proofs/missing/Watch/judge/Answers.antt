@@ -10,7 +10,7 @@ returns-clause-fault c = λ kind ranks before members watch counted.
     let call = c.args.call.now in
     let name = c.in-Some.name.now in
     let fewest = c.in_ok-fewest.fewest in
-    let at : named kind call.what ≡ Some name = ap (λ k. named k call.what) (sym watch.kind_is) ∙ sym c.named.ensures ∙ ap option_copied c.in-Some.is in
+    let at : named kind call.body.what ≡ Some name = ap (λ k. named k call.body.what) (sym watch.kind_is) ∙ sym c.named.ensures ∙ ap option_copied c.in-Some.is in
     let number : c.count-number.result ≡ count_of kind name before = c.count-number.ensures ∙ counted name in
     let told = c.in_ok-fewest.ensures.fewest kind ranks members watch in
     c.fault_if.ensures
