@@ -1,11 +1,5 @@
-mod AuditLemmas
-mod LogFormLemmas
 mod OpeningLemmas
 mod ProgressLemmas
-mod ReadingLemmas
-mod ReportLemmas
 mod RunLemmas
 mod SaysLemmas
-mod TextLemmas
-mod VerdictLemmas
 mod WordLemmas

@@ -1,5 +1,5 @@
 -- The two halves of a run.
-use Rattle.std.proofs.Common.{◌≡◌, ℕ, List, [], ◌∷◌, ◌++◌, Option, Some, None, IfSome, All, length, map, refl, ap, sym, ◌∙◌, inl, arith, append-nil}
+use Rattle.std.proofs.Common.{◌≡◌, ℕ, List, [], ◌∷◌, ◌++◌, Option, Some, None, IfSome, All, map, refl, ap, sym, ◌∙◌, inl, append-nil}
 use Rattle.std.proofs.lemmas.List.Elements.{All-head, All-tail}
 use Rattle.rma_io.specs.Tapes.{Tape, whole, IsSpent}
 use Rattle.rma_io.specs.Sources.{Opened}
@@ -8,10 +8,6 @@ use Rattle.rma_audit.specs.Answers.{OpensSome}
 -- where nothing was opened or refused
 pub opens_none : (names : List (List ℕ)) (opened : Opened) → opened.names ≡ [] → opened.refused ≡ None → OpensSome names opened
 opens_none names opened none unrefused = record { rest = names; front = ap (λ ns. ns ++ names) (sym none); refused = inl unrefused }
-
--- where all was opened
-pub opens_all : (names : List (List ℕ)) (opened : Opened) → opened.names ≡ names → opened.refused ≡ None → OpensSome names opened
-opens_all names opened all unrefused = record { rest = []; front = sym (append-nil opened.names ∙ all); refused = inl unrefused }
 
 -- what was taken of logs of which nothing is left is all of them
 spent_whole : (tapes : List Tape) → All IsSpent tapes → map whole tapes ≡ map (λ tape. tape.taken) tapes
@@ -23,7 +19,3 @@ spent_whole (tape ∷ tapes) h =
 pub told_whole : (texts : List (List ℕ)) (told : Option (List Tape)) → IfSome told (λ tapes. All IsSpent tapes) → IfSome told (λ tapes. map (λ tape. tape.taken) tapes ≡ texts) → IfSome told (λ tapes. All IsSpent tapes × (map whole tapes ≡ texts))
 told_whole texts None spent taken = tt
 told_whole texts (Some tapes) spent taken = (spent, spent_whole tapes spent ∙ taken)
-
-pub nothing_in : {X : Type 0} (xs : List X) → length xs ≡ 0 → xs ≡ []
-nothing_in [] h = refl
-nothing_in (x ∷ xs) h = absurd (omega arith)

@@ -1,11 +1,5 @@
 pub mod Words
-pub mod LogForm
-pub mod Findings
-pub mod Report
 pub mod Answers
-pub mod Malformed
-pub mod Stages
 pub mod Opening
-pub mod Reading
 pub mod Progress
 pub mod Runs

@@ -6,21 +6,21 @@ use Rattle.rma_io.specs.Tapes.{IsSpent}
 use Rattle.rma_io.specs.Sources.{Source}
 use Rattle.rma_io.specs.declared.sources.OpenFault.{OpenFault}
 use Rattle.rma_io.specs.declared.sources.OpenFault.TheVariants as refusal
-use Rattle.rma_audit.specs.Reading.{HaveRead}
-use Rattle.rma_audit.specs.declared.log_reader.LogReader.{LogReader}
+use Rattle.rma_book.specs.RankReading.{RankReading}
+use Rattle.rma_stream.specs.Feeding.{HaveBooks}
 use Rattle.rma_audit.specs.declared.stop.Stop.{Stop}
 use Rattle.rma_audit.specs.declared.stop.Stop.TheVariants as stops
 
--- the readers were fed what was taken of the logs, which are these texts so far
-pub record HasTaken (source : Source) (readers : List LogReader) (texts : List (List ℕ)) : Type 0 where
+-- the books were fed what was taken of the logs, which are these texts so far
+pub record HasTaken (source : Source) (books : List RankReading) (texts : List (List ℕ)) : Type 0 where
   pub one_a_log : length texts ≡ source.logs
-  pub read : HaveRead source.logs readers texts
+  pub read : HaveBooks source.logs books texts
   pub all_taken : sum_by length texts ≡ source.taken
   pub told : IfSome source.tapes (λ tapes. map (λ tape. tape.taken) tapes ≡ texts)
 
--- the readers were fed what was taken of the logs
-abbrev pub FollowsSource : Source → List LogReader → Type 0
-FollowsSource source readers = (texts : List (List ℕ)) × HasTaken source readers texts
+-- the books were fed what was taken of the logs
+abbrev pub FollowsSource : Source → List RankReading → Type 0
+FollowsSource source books = (texts : List (List ℕ)) × HasTaken source books texts
 
 -- nothing is left of any log, where bytes are told
 abbrev pub IsRead : Source → Type 0

@@ -5,11 +5,10 @@ use Rattle.rma_io.specs.Counts.{Rose}
 use Rattle.rma_io.specs.Tapes.{whole, IsSpent, StillTold}
 use Rattle.rma_io.specs.Sources.{Source, Opened}
 use Rattle.rma_io.specs.Sinks.{Output, AppendsFrontOf}
+use Rattle.rma_report.specs.ReportText.{report_text}
+use Rattle.rma_report.specs.declared.findings.Findings.{Findings}
+use Rattle.rma_stream.specs.Findings.{AreFindings, count_of_lines}
 use Rattle.rma_audit.specs.Answers.{OpensSome}
-use Rattle.rma_audit.specs.Findings.{AreFindings}
-use Rattle.rma_audit.specs.Malformed.{bad_line}
-use Rattle.rma_audit.specs.Report.{report_text, count_of_lines}
-use Rattle.rma_audit.specs.declared.findings.Findings.{Findings}
 use Rattle.rma_audit.specs.declared.status.Status.{Status}
 use Rattle.rma_audit.specs.declared.status.Status.TheVariants as status
 use Rattle.rma_audit.specs.declared.stop.Stop.{Stop}
@@ -25,7 +24,7 @@ pub record HasJudged (names : List (List ℕ)) (source : Source) (opened : Opene
   pub told : IfSome source.tapes (λ tapes. All IsSpent tapes × (map whole tapes ≡ texts))
   pub ranks : findings.ranks ≡ length texts
   pub lines : findings.lines ≡ count_of_lines texts
-  pub found : AreFindings texts (map bad_line findings.list.items)
+  pub found : AreFindings texts findings.list
 
 -- the reading of the logs of these names stopped for this cause
 abbrev pub HasStopped : Stop → List (List ℕ) → Source → Source → Opened → Type 0
@@ -40,19 +39,19 @@ status_of stops.Fault = status.ReadFault 0
 status_of (stops.TooLarge bytes) = status.TooLarge bytes
 status_of stops.Memory = status.Memory
 
--- the text of the report on these findings
+-- the text of the report on these findings, all of them shown
 abbrev pub text_of : Findings → List ℕ
-text_of findings = report_text findings.ranks findings.lines (map bad_line findings.list.items)
+text_of findings = report_text findings.ranks findings.lines findings.list (length findings.list)
 
 -- what was written of the report on these findings, by the answer
 abbrev pub HasWritten : Status → Findings → Output → Output → Type 0
 HasWritten status.Clean findings before after =
-    (findings.list.items ≡ []) × StillTold (λ old new. new ≡ old ++ text_of findings) before.written after.written
+    (findings.list ≡ []) × StillTold (λ old new. new ≡ old ++ text_of findings) before.written after.written
 HasWritten status.Findings findings before after =
-    (findings.list.items ≢ []) × StillTold (λ old new. new ≡ old ++ text_of findings) before.written after.written
+    (findings.list ≢ []) × StillTold (λ old new. new ≡ old ++ text_of findings) before.written after.written
 HasWritten status.Usage findings before after = ⊥
 HasWritten (status.ReadFault recorded) findings before after = ⊥
 HasWritten status.WriteFault findings before after =
     Rose before.faults after.faults × StillTold (AppendsFrontOf (text_of findings)) before.written after.written
 HasWritten (status.TooLarge bytes) findings before after = ⊥
-HasWritten status.Memory findings before after = Unit {0}
+HasWritten status.Memory findings before after = ⊥

@@ -1,5 +1,5 @@
 //! Opening the logs of a run.
-ghost use Rattle.std.specs.Prelude.{◌≡◌, ◌+◌, ◌^◌, ◌<◌, length, map, string_bytes, OnOk, OnErr, IsErrOf};
+ghost use Rattle.std.specs.Prelude.{◌≡◌, ◌^◌, ◌<◌, length, map, string_bytes, OnOk, OnErr, IsErrOf};
 ghost use Rattle.rma_io.specs.Counts.{Rose};
 ghost use Rattle.rma_audit.specs.Answers.{IsFresh, OpensSome};
 ghost use Rattle.rma_audit.specs.Opening.{HasOpened};

@@ -1,14 +1,10 @@
 //! The top call: what the program does with its words, its logs and its output.
-ghost use Rattle.std.specs.Prelude.{◌≡◌, ℕ, ◌≤◌, List, length, map, string_bytes, vec_len, IfOk, IfErr, OnErr, OnOk};
+ghost use Rattle.std.specs.Prelude.{◌≡◌, ℕ, ◌≤◌, List, length, map, string_bytes, vec_len, IfOk, IfErr};
 ghost use Rattle.rma_audit.specs.Answers.{IsFresh, Says, WritesNothing};
 ghost use Rattle.rma_audit.specs.Runs.{HasJudged, HasStopped, HasWritten, status_of};
-ghost use Rattle.rma_audit.specs.Words.{IsAudit};
 
-use crate::audit::Audit;
-use crate::findings::Findings;
 use crate::opening::open_all;
 use crate::reading::read_all;
-use crate::report::report_on;
 use crate::status::Status;
 use crate::stop::Stop;
 use crate::words::audit_names;
@@ -16,13 +12,19 @@ use rma_base::allocation::Memory;
 use rma_base::limits::RANKS;
 use rma_io::sinks::Sink;
 use rma_io::sources::Logs;
+use rma_report::findings::Findings;
+use rma_report::report_texts::write_text;
+use rma_stream::audits::Audit;
 use std::alloc::Global;
 
-/// How many bytes are read at once: a piece of every log, and what its reader keeps of it, stay in the caches together.
+/// How many bytes are read at once: a piece of every log, and what its book keeps of it, stay in the caches together.
 const ROOM: usize = 16_384;
 
 /// Does what the words of the command line say: opens the logs that they name, in order, one log a rank; reads them
 /// to their ends; audits them; and writes the report to `out`.
+///
+/// An audit finds the first bad line of each log that has one; and where no log has one, the barriers, the windows and
+/// the communicators of a rank that those of the other ranks do not match. All findings are shown.
 ///
 /// All memory is taken before the first byte is written.
 pub fn run<L: Logs, S: Sink>(alloc: Global, words: &[String], logs: &mut L, out: &mut S) -> Status
@@ -44,7 +46,7 @@ pub fn run<L: Logs, S: Sink>(alloc: Global, words: &[String], logs: &mut L, out:
         return Status::Usage;
     };
     match read_logs(alloc, names, logs) {
-        Ok(findings) => write_report(alloc, &findings, out),
+        Ok(findings) => write_report(&findings, out),
         Err(stop) => status_of(stop),
     }
 }
@@ -60,7 +62,7 @@ fn read_logs<L: Logs>(alloc: Global, names: &[String], logs: &mut L) -> Result<F
     let mut audit = Audit::new(alloc, names.len() as u32)?;
     open_all(logs, names)?;
     read_all(logs, &mut room, &mut audit)?;
-    Ok(audit.finish(alloc)?)
+    Ok(audit.finish()?)
 }
 
 // Room for the bytes that are read at once.
@@ -71,14 +73,12 @@ fn new_room(alloc: Global) -> Result<Vec<u8>, Memory>
 }
 
 // Writes the report.
-fn write_report<S: Sink>(alloc: Global, findings: &Findings, out: &mut S) -> Status
+fn write_report<S: Sink>(findings: &Findings, out: &mut S) -> Status
     ensures written { HasWritten result findings.now (S.output out.old) (S.output out.new) }
-    ensures nothing_written { result ≡ Status.Memory → out.new ≡ out.old }
+    ensures nothing_written { WritesNothing result → out.new ≡ out.old }
 {
-    let Ok(text) = report_on(alloc, findings) else {
-        return Status::Memory;
-    };
-    match out.put(text.as_bytes()) {
+    let all = findings.list.len() as u64;
+    match write_text(findings, all, out) {
         Ok(()) if findings.list.is_empty() => Status::Clean,
         Ok(()) => Status::Findings,
         Err(_) => Status::WriteFault,

@@ -1,11 +1,12 @@
 //! The loop that reads the logs.
-ghost use Rattle.std.specs.Prelude.{◌≡◌, ℕ, ◌+◌, ◌<◌, ◌≤◌, length, OnOk, IfOk, IfErr, IfSome, IfNone};
+ghost use Rattle.std.specs.Prelude.{◌≡◌, ◌+◌, ◌<◌, ◌≤◌, length, OnOk, IfOk, IfErr, IfSome, IfNone};
 ghost use Rattle.rma_audit.specs.Progress.{FollowsSource, IsRead, StopsAt};
 
-use crate::audit::Audit;
 use crate::stop::Stop;
 use rma_base::limits::BYTES;
+use rma_base::ranks::Rank;
 use rma_io::sources::{Logs, Pull};
+use rma_stream::audits::Audit;
 
 /// Reads all logs to their ends, in whatever pieces they come.
 pub(crate) fn read_all<L: Logs>(
@@ -16,8 +17,8 @@ pub(crate) fn read_all<L: Logs>(
     requires some_room { 0 < length room.old }
     requires room { length room.old ≤ 65536 }
     requires none_taken { (L.source logs.old).taken ≡ 0 }
-    requires follows { FollowsSource (L.source logs.old) audit.old.readers.items }
-    ensures follows { OnOk result (FollowsSource (L.source logs.new) audit.new.readers.items) }
+    requires follows { FollowsSource (L.source logs.old) audit.old }
+    ensures follows { OnOk result (FollowsSource (L.source logs.new) audit.new) }
     ensures read { OnOk result (IsRead (L.source logs.new)) }
     ensures taken { OnOk result ((L.source logs.new).taken ≤ BYTES) }
     ensures stops { IfErr result (λ stop. StopsAt stop (L.source logs.old) (L.source logs.new)) }
@@ -42,8 +43,8 @@ fn read_piece<L: Logs>(
     requires room { length room.old ≤ 65536 }
     requires taken { (L.source logs.old).taken ≡ taken }
     requires few { taken ≤ BYTES }
-    requires follows { FollowsSource (L.source logs.old) audit.old.readers.items }
-    ensures follows { OnOk result (FollowsSource (L.source logs.new) audit.new.readers.items) }
+    requires follows { FollowsSource (L.source logs.old) audit.old }
+    ensures follows { OnOk result (FollowsSource (L.source logs.new) audit.new) }
     ensures more { IfOk result (λ more. IfSome more (λ so_far. ((L.source logs.new).taken ≡ so_far) × (taken < so_far) × (so_far ≤ BYTES))) }
     ensures done { IfOk result (λ more. IfNone more (((L.source logs.new).taken ≡ taken) × IsRead (L.source logs.new))) }
     ensures stops { IfErr result (λ stop. StopsAt stop (L.source logs.old) (L.source logs.new)) }
@@ -58,7 +59,7 @@ fn read_piece<L: Logs>(
             if so_far > BYTES {
                 return Err(Stop::TooLarge { bytes: so_far });
             }
-            audit.feed(rank, &room[..len])?;
+            audit.feed(Rank(rank), &room[..len])?;
             Ok(Some(so_far))
         }
     }

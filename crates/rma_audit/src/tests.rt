@@ -23,9 +23,9 @@ const CASES: [Case; 9] = [
         report: "rmaudit 1 ranks 1 lines 2\nclean\n",
     },
     Case {
-        logs: &["rma 1 0 1\nbarrier world\nend"],
+        logs: &["# a\r\nrma 1 00 0x1 @s\n\nbarrier world\nend"],
         status: Status::Clean,
-        report: "rmaudit 1 ranks 1 lines 3\nclean\n",
+        report: "rmaudit 1 ranks 1 lines 5\nclean\n",
     },
     Case {
         logs: &[""],
@@ -47,27 +47,30 @@ const CASES: [Case; 9] = [
             "rma 1 0 2\nbarrier world\nend\n",
             "rma 1 1 2\nbarrier world\nbarrier world\nend\n",
         ],
-        status: Status::Clean,
-        report: "rmaudit 1 ranks 2 lines 7\nclean\n",
+        status: Status::Findings,
+        report: "rmaudit 1 ranks 2 lines 7\nmismatch collective_missing rank 1 line 3\nfindings 1\n",
     },
     Case {
-        logs: &["rma 1 0 2\nend\n\n", "rma 1 0 2\nend\n"],
+        logs: &["rma 1 0 2\nend\nend\n", "rma 1 0 2\nend\n"],
         status: Status::Findings,
-        report: "rmaudit 1 ranks 2 lines 5\nmalformed rank 0 line 3 reason unknown_verb\nmalformed rank 1 line 1 reason unknown_verb\nfindings 2\n",
+        report: "rmaudit 1 ranks 2 lines 5\nmalformed rank 0 line 3 reason after_end\nmalformed rank 1 line 1 reason wrong_header\nfindings 2\n",
     },
     Case {
         logs: &[
             "rma 1 0 3\nend\n",
             "rma 1 1 3",
-            "rma 1 2 3\nbarrier  world\nend\n",
+            "rma 1 2 3\nbarrier\tw\nend\n",
         ],
         status: Status::Findings,
-        report: "rmaudit 1 ranks 3 lines 6\nmalformed rank 1 line 2 reason missing_end\nmalformed rank 2 line 2 reason unknown_verb\nfindings 2\n",
+        report: "rmaudit 1 ranks 3 lines 6\nmalformed rank 1 line 2 reason missing_end\nmalformed rank 2 line 2 reason unknown_comm\nfindings 2\n",
     },
     Case {
-        logs: &["rma 1 0 2\nend\n", "rma 1 1 2\nbarrier world\nend\nend\n"],
+        logs: &[
+            "rma 1 0 2\nwin create W world 0 8 1 unified same_op\nwin free W\nend\n",
+            "rma 1 1 2\nwin create W world 0 8 1 separate same_op\nwin free W\nend\n",
+        ],
         status: Status::Findings,
-        report: "rmaudit 1 ranks 2 lines 6\nmalformed rank 1 line 4 reason unknown_verb\nfindings 1\n",
+        report: "rmaudit 1 ranks 2 lines 8\nmismatch window_differs rank 1 line 2 with rank 0 line 2\nfindings 1\n",
     },
 ];
 

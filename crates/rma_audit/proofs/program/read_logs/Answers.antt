@@ -1,7 +1,7 @@
 use Rattle.std.proofs.Common.{length, ap, sym, ◌∙◌, subst, arith}
 use Rattle.std.proofs.lemmas.Result.{err_from_is_err_and}
 use Rattle.rma_io.specs.Sources.{Opened}
-use Rattle.rma_audit.specs.Reading.{HaveRead}
+use Rattle.rma_stream.specs.Feeding.{HaveBooks}
 use Rattle.rma_audit.proofs.RunLemmas.{opens_none, told_whole}
 use Rattle.rma_audit.proofs.program.read_logs.Goals as goal
 
@@ -22,7 +22,7 @@ returns-clause-judged g c =
     let texts = follows.0 in
     let taken = follows.1 in
     let in_order = ap (λ (o : Opened). o.names) c.in_ok-read_all.ensures.opened ∙ c.in_ok-open_all.ensures.all.names in
-    let found = c.in_ok-finish.ensures texts (subst (λ n. HaveRead n c.read_all.new.audit.readers.items texts) (sym taken.one_a_log) taken.read) in (
+    let found = c.in_ok-finish.ensures texts (subst (λ n. HaveBooks n c.read_all.new.audit texts) (sym taken.one_a_log) taken.read) in (
       texts,
       record {
         in_order = in_order;

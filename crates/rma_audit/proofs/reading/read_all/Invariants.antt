@@ -3,11 +3,11 @@ use Rattle.rma_base.specs.declared.limits.TheConstants.{BYTES}
 use Rattle.rma_audit.specs.Progress.{FollowsSource}
 use Rattle.rma_audit.proofs.reading.read_all.Given as goal
 
--- the readers were fed what was taken
+-- the books were fed what was taken
 abbrev pub invariant-pieces : goal.invariant-pieces
 invariant-pieces g l =
     let source = g.L.Pulls.source in
-    FollowsSource (source l.logs) l.audit.readers.items
+    FollowsSource (source l.logs) l.audit
     × ((source l.logs).taken ≡ l.taken)
     × (l.taken ≤ BYTES)
     × ((source l.fn.logs).faults ≤ (source l.logs).faults)
