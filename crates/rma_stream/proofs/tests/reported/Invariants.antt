@@ -1,4 +1,4 @@
-use Rattle.std.proofs.Common.{◌≡◌, ◌≤◌, ◌<◌, length}
+use Rattle.std.proofs.Common.{◌≡◌, ◌<◌, length}
 use Rattle.rma_base.specs.declared.limits.TheConstants.{RANKS}
 use Rattle.rma_stream.proofs.tests.reported.Given as goal
 

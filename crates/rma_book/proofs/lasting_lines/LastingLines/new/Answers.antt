@@ -1,9 +1,8 @@
-use Rattle.std.proofs.Common.{◌≡◌, ℕ, List, None, true, sym, subst}
+use Rattle.std.proofs.Common.{◌≡◌, None, true, sym, subst}
 use Rattle.std.specs.Prelude.{IfSome}
 use Rattle.std.specs.List.{All, list_any}
 use Rattle.std.proofs.lemmas.List.Elements.{All-push}
 use Rattle.rma_book.specs.Events.{is_same}
-use Rattle.rma_book.specs.Places.{AreThere}
 use Rattle.rma_book.specs.declared.lasting_lines.Place.{Place}
 use Rattle.rma_book.proofs.lasting_lines.LastingLines.new.Goals as goal
 

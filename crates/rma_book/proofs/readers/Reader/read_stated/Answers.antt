@@ -1,4 +1,4 @@
-use Rattle.std.proofs.Common.{◌≡◌, sym, ap, ◌∙◌, Ok, Some, None}
+use Rattle.std.proofs.Common.{sym, ap, ◌∙◌, Ok, Some}
 use Rattle.rma_book.proofs.ReadingLemmas.{HasTaken-read, OnOk-any, judge_bad, judge_good}
 use Rattle.rma_book.proofs.readers.Reader.read_stated.Goals as goal
 

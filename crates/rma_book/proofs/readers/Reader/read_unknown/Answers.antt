@@ -1,4 +1,4 @@
-use Rattle.std.proofs.Common.{◌≡◌, ap, ◌∙◌, Ok, Err, Some, None, Option, Result}
+use Rattle.std.proofs.Common.{◌≡◌, ap, ◌∙◌, Ok, Err, None, Option, Result}
 use Rattle.rma_base.specs.declared.reasons.FormReason.{FormReason}
 use Rattle.rma_parse.specs.declared.events.Stated.{Stated}
 use Rattle.rma_parse.specs.Lines.{reading}
