@@ -7,11 +7,11 @@ ghost use Rattle.rma_book.specs.Calls.{Entry, events_of, call_with};
 ghost use Rattle.rma_book.specs.Events.{is_same, world};
 ghost use Rattle.rma_book.specs.Judging.{reason_of, place_reason, name_reason};
 ghost use Rattle.rma_book.specs.Standing.{StandsFor, IsTaken, IsNoted};
-ghost use Rattle.rma_book.specs.Known.{IsKnown, IsRead};
+ghost use Rattle.rma_book.specs.Known.{IsKnown, Recalls};
 ghost use Rattle.rma_parse.specs.Lines.{states};
-ghost use Rattle.rma_parse.specs.declared.events.Stated.{Stated};
 
 use crate::lasting_lines::LastingLines;
+use crate::recalls::Recall;
 use crate::statements::Statement;
 use indexmap::{IndexMap, IndexSet};
 use rma_base::allocation::Memory;
@@ -140,29 +140,22 @@ impl Book {
     }
 
     /// Judges the line of this text, whose key this is, and takes it where it is good, if it is one that the book knows.
-    /// It answers nothing for any other line.
     ///
     /// # Errors
     ///
     /// `Memory` where memory ran out: the book no longer stands for the lines that it took.
     #[inline]
-    pub(crate) fn read_known(
-        &mut self,
-        line: LineNo,
-        key: u64,
-        text: &[u8],
-    ) -> Result<Option<Option<FormReason>>, Memory>
-        ensures known { IfOk result (λ known. IfSome known (λ reason. (stated : Stated) × states text.now stated × IsRead self.old self.new line stated reason)) }
-        ensures unknown { IfOk result (λ known. known ≡ None → self.new ≡ self.old) }
+    pub(crate) fn recall(&mut self, line: LineNo, key: u64, text: &[u8]) -> Result<Recall, Memory>
+        ensures { IfOk result (λ recall. Recalls self.old self.new line text.now recall) }
     {
         let Some(body) = self.known(key, text)? else {
-            return Ok(None);
+            return Ok(Recall::Unknown);
         };
         match self.behind_header() {
-            Some(reason) => Ok(Some(Some(reason))),
+            Some(reason) => Ok(Recall::Bad(reason)),
             None => {
                 self.keep(line, Some(body))?;
-                Ok(Some(None))
+                Ok(Recall::Good)
             }
         }
     }

@@ -8,6 +8,7 @@ mod lasting_lines;
 pub mod laws;
 pub mod rank_books;
 mod readers;
+mod recalls;
 pub mod statements;
 #[cfg(test)]
 mod tests;

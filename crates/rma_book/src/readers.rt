@@ -10,6 +10,7 @@ ghost use Rattle.rma_parse.specs.Lines.{states};
 
 use crate::books::Book;
 use crate::faults::{BookEnd, FormFault};
+use crate::recalls::Recall;
 use crate::statements::Statement;
 use rma_base::allocation::Memory;
 use rma_base::lines::LineNo;
@@ -70,13 +71,13 @@ impl Reader {
             return self.read_unknown(no, 0, text);
         }
         let key = key_of(text);
-        match self.book.read_known(no, key, text)? {
-            Some(Some(reason)) => {
+        match self.book.recall(no, key, text)? {
+            Recall::Unknown => self.read_unknown(no, key, text),
+            Recall::Good => Ok(()),
+            Recall::Bad(reason) => {
                 self.refuse(no, reason);
                 Ok(())
             }
-            Some(None) => Ok(()),
-            None => self.read_unknown(no, key, text),
         }
     }
 
