@@ -174,7 +174,8 @@ impl Book {
         }
     }
 
-    /// Remembers a line, where it is one that stays good and comes for the second time.
+    /// Remembers a line, where it is one that stays good and comes for the second time: a line that comes once is not
+    /// looked up again, and takes no memory.
     pub(crate) fn remember(
         &mut self,
         key: u64,
@@ -187,6 +188,24 @@ impl Book {
         let Event::Frame(Frame::Barrier { comm }) = statement.event() else {
             return Ok(());
         };
+        if !self.lasting.comes_again(key) {
+            return Ok(());
+        }
+        self.keep_lasting(key, text, comm, statement)
+    }
+
+    // Keeps a line with a barrier, where its communicator is there.
+    fn keep_lasting(
+        &mut self,
+        key: u64,
+        text: &[u8],
+        comm: &Name,
+        statement: &Statement,
+    ) -> Result<(), Memory>
+        requires said { states text.now statement.now }
+        requires barrier { statement.now.event ≡ Event.Frame (Frame.Barrier comm.now) }
+        ensures { self.new ≡ self.old }
+    {
         let there = self.comms.contains(comm);
         match statement.body()? {
             Some(body) if there => {

@@ -58,7 +58,21 @@ impl LastingLines {
         }
     }
 
-    /// Keeps the line where it comes for the second time: a line that comes once takes no memory.
+    /// Whether the line of this key was the last at its place that was not known there; it is now.
+    pub(crate) fn comes_again(&mut self, key: u64) -> bool
+        ensures { (comms : List (List ℕ)) → AreThere comms self.old.places.items → AreThere comms self.new.places.items }
+    {
+        match self.places.get_mut(place_of(key)) {
+            Some(place) => {
+                let again = place.key == key;
+                place.key = key;
+                again
+            }
+            None => false,
+        }
+    }
+
+    /// Keeps the line.
     pub(crate) fn keep(
         &mut self,
         key: u64,
@@ -69,16 +83,10 @@ impl LastingLines {
         requires { IsBarrier (record { text = text.now; comm = comm; body = body }) }
         ensures { (comms : List (List ℕ)) → list_any (is_same comm) comms ≡ true → AreThere comms self.old.places.items → AreThere comms self.new.places.items }
     {
-        let alloc = self.alloc;
-        let Some(place) = self.places.get_mut(place_of(key)) else {
-            return Ok(());
-        };
-        if place.key != key {
-            place.key = key;
-            return Ok(());
+        let line = LastingLine::new(self.alloc, text, comm, body)?;
+        if let Some(place) = self.places.get_mut(place_of(key)) {
+            place.line = Some(line);
         }
-        let line = LastingLine::new(alloc, text, comm, body)?;
-        place.line = Some(line);
         Ok(())
     }
 }

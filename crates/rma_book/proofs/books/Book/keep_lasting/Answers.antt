@@ -1,7 +1,7 @@
 use Rattle.std.proofs.Common.{◌≡◌, ℕ, List, true, sym, ap, ◌∙◌}
 use Rattle.std.specs.List.{list_any}
 use Rattle.rma_book.specs.Events.{is_same}
-use Rattle.rma_book.proofs.books.Book.remember.Goals as goal
+use Rattle.rma_book.proofs.books.Book.keep_lasting.Goals as goal
 
 pub invariant_of-self : goal.invariant_of-self
 invariant_of-self c =
