@@ -6,7 +6,7 @@ use Rattle.std.proofs.lemmas.List.Folds.{list_any_at, list_any-append}
 use Rattle.std.proofs.lemmas.List.Edits.{get_or-insert_at, get_or-insert_below, get_or-insert_above, length-insert}
 use Rattle.std.proofs.lemmas.Bool.{cases_lt, false≢true, lt-ltb, le-ltb}
 use Rattle.std.proofs.lemmas.Bool.Decides.{nat_tests}
-use Rattle.rma_base.specs.RankSets.{has_repeat, has_number, placed}
+use Rattle.rma_base.specs.RankSet.{has_repeat, has_number, placed}
 
 rises : (xs : List ℕ) → IsStrictlyIncreasing xs → (i n : ℕ) → i + n < length xs → get_or xs i 0 ≤ get_or xs (i + n) 0
 rises xs up i zero h = grind arith
@@ -19,25 +19,25 @@ rises_to xs up i j le lt =
     let far : i + (j - i) ≡ j = omega arith in
     subst (λ k. get_or xs i 0 ≤ get_or xs k 0) far (rises xs up i (j - i) (omega arith))
 
-pub has_number-at : (xs : List ℕ) (n i : ℕ) → i < length xs → get_or xs i 0 ≡ n → has_number n xs ≡ true
-has_number-at xs n i lt is = list_any_at (λ m. eqb m n) xs i 0 lt (eq-eqb (get_or xs i 0) n is)
+pub has_number_at : (xs : List ℕ) (n i : ℕ) → i < length xs → get_or xs i 0 ≡ n → has_number n xs ≡ true
+has_number_at xs n i lt is = list_any_at (λ m. eqb m n) xs i 0 lt (eq-eqb (get_or xs i 0) n is)
 
 test_fails : (x n : ℕ) → (x ≡ n → ⊥) → eqb x n ≡ false
 test_fails x n differs = grind (arith, nat_tests)
 
-has_number-none : (xs : List ℕ) (n : ℕ) → ((k : ℕ) → k < length xs → get_or xs k 0 ≡ n → ⊥) → has_number n xs ≡ false
-has_number-none [] n differs = refl
-has_number-none (x ∷ xs) n differs =
+has_number_none : (xs : List ℕ) (n : ℕ) → ((k : ℕ) → k < length xs → get_or xs k 0 ≡ n → ⊥) → has_number n xs ≡ false
+has_number_none [] n differs = refl
+has_number_none (x ∷ xs) n differs =
     let first : eqb x n ≡ false = test_fails x n (differs 0 (omega arith)) in
-    rw first (has_number-none xs n (λ k lt. differs (suc k) (omega arith)))
+    rw first (has_number_none xs n (λ k lt. differs (suc k) (omega arith)))
 
-pub has_number-between : (xs : List ℕ) (n i : ℕ) → ((k : ℕ) → k < i → get_or xs k 0 < n) → ((k : ℕ) → i ≤ k → k < length xs → n < get_or xs k 0) → has_number n xs ≡ false
-has_number-between xs n i below above =
-    has_number-none xs n (λ k lt is. ⊎_elim (λ low. let b = below k low in omega arith) (λ high. let a = above k high lt in omega arith) (cases_lt k i))
+pub has_number_between : (xs : List ℕ) (n i : ℕ) → ((k : ℕ) → k < i → get_or xs k 0 < n) → ((k : ℕ) → i ≤ k → k < length xs → n < get_or xs k 0) → has_number n xs ≡ false
+has_number_between xs n i below above =
+    has_number_none xs n (λ k lt is. ⊎_elim (λ low. let b = below k low in omega arith) (λ high. let a = above k high lt in omega arith) (cases_lt k i))
 
-pub increasing-insert : (xs : List ℕ) (n i : ℕ) → IsStrictlyIncreasing xs → i ≤ length xs
+pub increasing_insert : (xs : List ℕ) (n i : ℕ) → IsStrictlyIncreasing xs → i ≤ length xs
     → ((k : ℕ) → k < i → get_or xs k 0 < n) → ((k : ℕ) → i ≤ k → k < length xs → n < get_or xs k 0) → IsStrictlyIncreasing (insert xs i n)
-increasing-insert xs n i up within below above k lt =
+increasing_insert xs n i up within below above k lt =
     let len : length (insert xs i n) ≡ length xs + 1 = length-insert xs i n within in
     ⊎_elim
     (λ (low : k < i). ⊎_elim
@@ -71,8 +71,8 @@ increasing-insert xs n i up within below above k lt =
     (cases_lt i k))
     (cases_lt k i)
 
-test-sym : (x y : ℕ) → eqb x y ≡ eqb y x
-test-sym x y = grind (arith, nat_tests)
+test_sym : (x y : ℕ) → eqb x y ≡ eqb y x
+test_sym x y = grind (arith, nat_tests)
 
 regroup : (a e r n : Bool) → ((a || (e || false)) || (r || n)) ≡ ((a || r) || (e || n))
 regroup true e r n = refl
@@ -80,38 +80,38 @@ regroup false true true n = refl
 regroup false true false n = refl
 regroup false false r n = refl
 
-pub has_repeat-push : (xs : List ℕ) (x : ℕ) → has_repeat (xs ++ x ∷ []) ≡ (has_repeat xs || has_number x xs)
-has_repeat-push [] x = refl
-has_repeat-push (y ∷ ys) x =
-    rw (list_any-append (λ m. eqb m y) ys (x ∷ []), has_repeat-push ys x, test-sym x y)
+pub has_repeat_push : (xs : List ℕ) (x : ℕ) → has_repeat (xs ++ x ∷ []) ≡ (has_repeat xs || has_number x xs)
+has_repeat_push [] x = refl
+has_repeat_push (y ∷ ys) x =
+    rw (list_any-append (λ m. eqb m y) ys (x ∷ []), has_repeat_push ys x, test_sym x y)
     (regroup (has_number y ys) (eqb y x) (has_repeat ys) (has_number x ys))
 
-or-true : (a b : Bool) → (a || b) ≡ true → (a ≡ true) ⊎ (b ≡ true)
-or-true true b h = inl refl
-or-true false b h = inr h
+or_true : (a b : Bool) → (a || b) ≡ true → (a ≡ true) ⊎ (b ≡ true)
+or_true true b h = inl refl
+or_true false b h = inr h
 
-true-or : (a b : Bool) → a ≡ true → (a || b) ≡ true
-true-or a b h = rw h refl
+true_or : (a b : Bool) → a ≡ true → (a || b) ≡ true
+true_or a b h = rw h refl
 
-or-right : (a b : Bool) → b ≡ true → (a || b) ≡ true
-or-right true b h = refl
-or-right false b h = h
+or_right_lem : (a b : Bool) → b ≡ true → (a || b) ≡ true
+or_right_lem true b h = refl
+or_right_lem false b h = h
 
-pub has_repeat-front : (xs ys : List ℕ) → has_repeat xs ≡ true → has_repeat (xs ++ ys) ≡ true
-has_repeat-front [] ys h = absurd (false≢true h)
-has_repeat-front (x ∷ xs) ys h =
+pub has_repeat_front : (xs ys : List ℕ) → has_repeat xs ≡ true → has_repeat (xs ++ ys) ≡ true
+has_repeat_front [] ys h = absurd (false≢true h)
+has_repeat_front (x ∷ xs) ys h =
     ⊎_elim
-    (λ here. true-or _ _ (list_any-append (λ m. eqb m x) xs ys ∙ true-or _ _ here))
-    (λ later. or-right _ _ (has_repeat-front xs ys later))
-    (or-true (has_number x xs) (has_repeat xs) h)
+    (λ here. true_or _ _ (list_any-append (λ m. eqb m x) xs ys ∙ true_or _ _ here))
+    (λ later. or_right_lem _ _ (has_repeat_front xs ys later))
+    (or_true (has_number x xs) (has_repeat xs) h)
 
-pub placed-insert : (xs : List ℕ) (n i : ℕ) → i ≤ length xs → ((k : ℕ) → k < i → get_or xs k 0 < n) → ((k : ℕ) → i ≤ k → k < length xs → n < get_or xs k 0)
+pub placed_insert : (xs : List ℕ) (n i : ℕ) → i ≤ length xs → ((k : ℕ) → k < i → get_or xs k 0 < n) → ((k : ℕ) → i ≤ k → k < length xs → n < get_or xs k 0)
     → placed n xs ≡ insert xs i n
-placed-insert [] n zero within below above = refl
-placed-insert [] n (suc i) within below above = absurd (omega arith)
-placed-insert (x ∷ xs) n zero within below above =
+placed_insert [] n zero within below above = refl
+placed_insert [] n (suc i) within below above = absurd (omega arith)
+placed_insert (x ∷ xs) n zero within below above =
     let first : ltb n x ≡ true = lt-ltb n x (above 0 (omega arith) (omega arith)) in rw first
-placed-insert (x ∷ xs) n (suc i) within below above =
+placed_insert (x ∷ xs) n (suc i) within below above =
     let first : ltb n x ≡ false = le-ltb n x (let under = below 0 (omega arith) in omega arith) in
     rw first
-    (ap (λ them. x ∷ them) (placed-insert xs n i (omega arith) (λ k low. below (suc k) (omega arith)) (λ k high there. above (suc k) (omega arith) (omega arith))))
+    (ap (λ them. x ∷ them) (placed_insert xs n i (omega arith) (λ k low. below (suc k) (omega arith)) (λ k high there. above (suc k) (omega arith) (omega arith))))

@@ -1,8 +1,8 @@
-pub mod Basics
-pub mod Names
-pub mod Operations
-pub mod Reasons
-pub mod Sites
-pub mod RankSets
-pub mod WindowWords
-pub mod MatchReasons
+pub mod Limits
+pub mod Name
+pub mod FormReason
+pub mod Site
+pub mod RankSet
+pub mod Window
+pub mod MatchReason
+pub mod inside

@@ -1,21 +1,35 @@
-//! The plain data that every layer of the auditor speaks of: ranks, lines, points, limits, the reasons of a
-//! bad line and of a fault of matching, and want of memory.
+//! The plain data that every layer of the auditor speaks of.
+//!
+//! A run has ranks ([`Rank`], [`RankSet`]), and each rank a log of numbered lines ([`LineNo`]), whose calls lie between
+//! points of time ([`Point`]). Lines name things by a [`Name`] and places in the source by a [`Site`]; copies of both share
+//! one text. What is wrong with a line is a [`FormReason`], and with how calls match a [`MatchReason`], each with its word of
+//! the report. The [`limits`] of one audit stand here alone, in the code as in `specs/Limits.antt`.
+//!
+//! Whatever takes memory answers [`Memory`] where there is none left.
 #![tactic(auto)]
 
-pub mod allocation;
-pub mod basics;
+mod form_reason;
+pub mod laws;
 pub mod limits;
-pub mod lines;
-pub mod lists;
-pub mod makes;
-pub mod match_reasons;
-pub mod names;
-pub mod operations;
-pub mod points;
-pub mod rank_sets;
-pub mod ranks;
-pub mod reasons;
-pub mod sites;
-#[cfg(test)]
-mod tests;
-pub mod windows;
+mod line;
+mod match_reason;
+mod memory;
+mod name;
+mod point;
+mod rank;
+mod rank_set;
+mod sequence;
+mod site;
+mod window;
+
+pub use form_reason::FormReason;
+pub use line::LineNo;
+pub use match_reason::MatchReason;
+pub use memory::Memory;
+pub use name::{Name, NameError};
+pub use point::Point;
+pub use rank::Rank;
+pub use rank_set::{RankSet, RankSetError};
+pub use sequence::Sequence;
+pub use site::Site;
+pub use window::{AccOps, WinModel};

@@ -1,4 +1,4 @@
-//! The stated limits of one audit.
+//! The limits of one audit. `specs/Limits.antt` states the same numbers, and `laws::limits_are_as_stated` that they agree.
 
 /// The most logs of one run.
 pub const RANKS: usize = 64;
