@@ -21,50 +21,50 @@ other_byte other byte differs decimal =
     (λ (apart : eqb other byte ≡ false). apart)
     (cases_Bool (eqb other byte))
 
-and-false : (b : Bool) → (b && false) ≡ false
-and-false true = refl
-and-false false = refl
+and_false : (b : Bool) → (b && false) ≡ false
+and_false true = refl
+and_false false = refl
 
-decimal-digit : (byte : ℕ) → digit_value byte < 10 → is_decimal byte ≡ true
-decimal-digit byte low = grind (arith, nat_tests)
+decimal_digit : (byte : ℕ) → digit_value byte < 10 → is_decimal byte ≡ true
+decimal_digit byte low = grind (arith, nat_tests)
 
-all-decimal : (digits : List ℕ) → AllDigits 10 digits → list_all is_decimal digits ≡ true
-all-decimal [] all = refl
-all-decimal (byte ∷ digits) all = rw (decimal-digit byte all.0, all-decimal digits all.1)
+all_decimal : (digits : List ℕ) → AllDigits 10 digits → list_all is_decimal digits ≡ true
+all_decimal [] all = refl
+all_decimal (byte ∷ digits) all = rw (decimal_digit byte all.0, all_decimal digits all.1)
 
-all-digits : (digits : List ℕ) → AllDigits 10 digits → list_all (λ c. is_digit c 10) digits ≡ true
-all-digits [] all = refl
-all-digits (byte ∷ digits) all = rw (lt-ltb (digit_value byte) 10 all.0, all-digits digits all.1)
+all_digits : (digits : List ℕ) → AllDigits 10 digits → list_all (λ c. is_digit c 10) digits ≡ true
+all_digits [] all = refl
+all_digits (byte ∷ digits) all = rw (lt-ltb (digit_value byte) 10 all.0, all_digits digits all.1)
 
 -- decimal digits have no sign and no `0x` in front
 unsigned : (digits : List ℕ) → list_all is_decimal digits ≡ true → starts_with nat_eq digits (codes "-") ≡ false
 unsigned [] all = refl
 unsigned (byte ∷ digits) all = rw (other_byte 45 byte refl (and_left (is_decimal byte) _ all)) refl
 
-not-hexadecimal : (digits : List ℕ) → list_all is_decimal digits ≡ true → starts_with nat_eq digits (codes "0x") ≡ false
-not-hexadecimal [] all = refl
-not-hexadecimal (byte ∷ []) all = and-false (eqb 48 byte)
-not-hexadecimal (byte ∷ next ∷ digits) all =
-    rw (other_byte 120 next refl (and_left (is_decimal next) _ (and_right (is_decimal byte) _ all))) (and-false (eqb 48 byte))
+not_hexadecimal : (digits : List ℕ) → list_all is_decimal digits ≡ true → starts_with nat_eq digits (codes "0x") ≡ false
+not_hexadecimal [] all = refl
+not_hexadecimal (byte ∷ []) all = and_false (eqb 48 byte)
+not_hexadecimal (byte ∷ next ∷ digits) all =
+    rw (other_byte 120 next refl (and_left (is_decimal next) _ (and_right (is_decimal byte) _ all))) (and_false (eqb 48 byte))
 
-some-digits : (digits : List ℕ) → 0 < length digits → not (eqb (length digits) 0) ≡ true
-some-digits digits some = rw (ne_eqb (length digits) 0 (λ none. absurd (omega (arith, none, some)))) refl
+some_digits : (digits : List ℕ) → 0 < length digits → not (eqb (length digits) 0) ≡ true
+some_digits digits some = rw (ne_eqb (length digits) 0 (λ none. absurd (omega (arith, none, some)))) refl
 
-number-digits : (digits : List ℕ) → IsNumeral 10 digits → number digits ≡ Some (pos (digits_value 10 digits))
-number-digits digits (some, all) =
-    let decimals : list_all is_decimal digits ≡ true = all-decimal digits all in
-    rw (unsigned digits decimals, not-hexadecimal digits decimals, some-digits digits some, all-digits digits all) refl
+number_digits : (digits : List ℕ) → IsNumeral 10 digits → number digits ≡ Some (pos (digits_value 10 digits))
+number_digits digits (some, all) =
+    let decimals : list_all is_decimal digits ≡ true = all_decimal digits all in
+    rw (unsigned digits decimals, not_hexadecimal digits decimals, some_digits digits some, all_digits digits all) refl
 
 -- the decimal digits of a number are one or more, and stand for it
 module _ (n : ℕ) (low : n < 2 ^ 64) where
-  pub some-decimal : 0 < length (decimal n)
-  some-decimal = (decimal_is_IsNumeral n low).0.0
+  pub some_decimal : 0 < length (decimal n)
+  some_decimal = (decimal_is_IsNumeral n low).0.0
 
-  pub decimal-decimal : list_all is_decimal (decimal n) ≡ true
-  decimal-decimal = all-decimal (decimal n) (decimal_is_IsNumeral n low).0.1
+  pub decimal_decimal : list_all is_decimal (decimal n) ≡ true
+  decimal_decimal = all_decimal (decimal n) (decimal_is_IsNumeral n low).0.1
 
-  pub number-decimal : number (decimal n) ≡ Some (pos n)
-  number-decimal = number-digits (decimal n) (decimal_is_IsNumeral n low).0 ∙ ap (λ m. Some (pos m)) (decimal_is_IsNumeral n low).1
+  pub number_decimal : number (decimal n) ≡ Some (pos n)
+  number_decimal = number_digits (decimal n) (decimal_is_IsNumeral n low).0 ∙ ap (λ m. Some (pos m)) (decimal_is_IsNumeral n low).1
 
-pub natural-decimal : (low high n : ℕ) → n < 2 ^ 64 → low ≤ n → n ≤ high → natural low high (decimal n) ≡ Ok n
-natural-decimal low high n small from to = rw (number-decimal n small, le-leb low n from, le-leb n high to) refl
+pub natural_decimal : (low high n : ℕ) → n < 2 ^ 64 → low ≤ n → n ≤ high → natural low high (decimal n) ≡ Ok n
+natural_decimal low high n small from to = rw (number_decimal n small, le-leb low n from, le-leb n high to) refl

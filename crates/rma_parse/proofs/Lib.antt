@@ -2,6 +2,7 @@ pub mod NumberLemmas
 pub mod LineLemmas
 pub mod SeenLemmas
 pub mod RankFieldLemmas
+pub mod KeyLemmas
 pub mod DivisionLemmas
 pub mod JoinLemmas
 pub mod WordLemmas
@@ -12,3 +13,4 @@ pub mod KindLemmas
 pub mod PlainLemmas
 pub mod HeadLemmas
 pub mod CanonicalLemmas
+pub mod SiteLemmas

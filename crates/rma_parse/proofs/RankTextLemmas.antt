@@ -6,55 +6,55 @@ use Rattle.std.specs.List.{list_all, join_with_byte}
 use Rattle.std.proofs.lemmas.Bool.{cases_Bool, false≢true, le-leb}
 use Rattle.std.proofs.lemmas.Bool.Decides.{nat_tests}
 use Rattle.rma_base.proofs.NameLemmas.{and_left, and_right}
-use Rattle.rma_base.specs.RankSets.{ascending}
-use Rattle.rma_base.specs.declared.reasons.FormReason.TheVariants.{BadNumber}
-use Rattle.rma_parse.specs.Canonical.{ranks_text}
+use Rattle.rma_base.specs.RankSet.{ascending}
+use Rattle.rma_base.specs.declared.form_reason.FormReason.TheVariants.{BadNumber}
+use Rattle.rma_parse.specs.Kinds.{ranks_text}
 use Rattle.rma_parse.specs.Ranks.{is_rank, natural_of, numbers, onto_first_piece, pieces, rank_set, repeats, set_of}
-use Rattle.rma_parse.proofs.DecimalLemmas.{is_decimal, some-decimal, decimal-decimal, number-decimal, other_byte}
-use Rattle.rma_parse.proofs.RankFieldLemmas.{pieces-other, repeats-ranks, rank_set-ranks}
-use Rattle.rma_parse.proofs.RisingLemmas.{Rises, Rises-ascending, ascending-rising, has_repeat-rising}
+use Rattle.rma_parse.proofs.DecimalLemmas.{is_decimal, some_decimal, decimal_decimal, number_decimal, other_byte}
+use Rattle.rma_parse.proofs.RankFieldLemmas.{pieces_other, repeats_ranks, rank_set_ranks}
+use Rattle.rma_parse.proofs.RisingLemmas.{Rises, Rises_ascending, ascending_rising, has_repeat_rising}
 
 flip : (x y : ℕ) → eqb x y ≡ false → eqb y x ≡ false
 flip x y differs = grind (arith, nat_tests)
 
-not-comma : (byte : ℕ) → is_decimal byte ≡ true → eqb byte 44 ≡ false
-not-comma byte decimal = flip 44 byte (other_byte 44 byte refl decimal)
+not_comma : (byte : ℕ) → is_decimal byte ≡ true → eqb byte 44 ≡ false
+not_comma byte decimal = flip 44 byte (other_byte 44 byte refl decimal)
 
-first-differs : (byte : ℕ) → is_decimal byte ≡ true → eqb byte 110 ≡ false
-first-differs byte decimal = flip 110 byte (other_byte 110 byte refl decimal)
+first_differs : (byte : ℕ) → is_decimal byte ≡ true → eqb byte 110 ≡ false
+first_differs byte decimal = flip 110 byte (other_byte 110 byte refl decimal)
 
 -- a piece of decimal digits, with a comma and more behind it
-pieces-more : (piece rest : List ℕ) → list_all is_decimal piece ≡ true → pieces (piece ++ 44 ∷ rest) ≡ piece ∷ pieces rest
-pieces-more [] rest all = refl
-pieces-more (byte ∷ piece) rest all =
-    pieces-other byte (piece ++ 44 ∷ rest) (not-comma byte (and_left (is_decimal byte) _ all))
-    ∙ ap (onto_first_piece byte) (pieces-more piece rest (and_right (is_decimal byte) _ all))
+pieces_more : (piece rest : List ℕ) → list_all is_decimal piece ≡ true → pieces (piece ++ 44 ∷ rest) ≡ piece ∷ pieces rest
+pieces_more [] rest all = refl
+pieces_more (byte ∷ piece) rest all =
+    pieces_other byte (piece ++ 44 ∷ rest) (not_comma byte (and_left (is_decimal byte) _ all))
+    ∙ ap (onto_first_piece byte) (pieces_more piece rest (and_right (is_decimal byte) _ all))
 
-pieces-one : (piece : List ℕ) → list_all is_decimal piece ≡ true → pieces piece ≡ piece ∷ []
-pieces-one [] all = refl
-pieces-one (byte ∷ piece) all =
-    pieces-other byte piece (not-comma byte (and_left (is_decimal byte) _ all)) ∙ ap (onto_first_piece byte) (pieces-one piece (and_right (is_decimal byte) _ all))
+pieces_one : (piece : List ℕ) → list_all is_decimal piece ≡ true → pieces piece ≡ piece ∷ []
+pieces_one [] all = refl
+pieces_one (byte ∷ piece) all =
+    pieces_other byte piece (not_comma byte (and_left (is_decimal byte) _ all)) ∙ ap (onto_first_piece byte) (pieces_one piece (and_right (is_decimal byte) _ all))
 
-pieces-join : (first : List ℕ) (more : List (List ℕ)) → list_all (list_all is_decimal) (first ∷ more) ≡ true → pieces (join_with_byte 44 (first ∷ more)) ≡ first ∷ more
-pieces-join first [] all = pieces-one first (and_left (list_all is_decimal first) _ all)
-pieces-join first (next ∷ more) all =
-    pieces-more first (join_with_byte 44 (next ∷ more)) (and_left (list_all is_decimal first) _ all)
-    ∙ ap (λ them. first ∷ them) (pieces-join next more (and_right (list_all is_decimal first) _ all))
+pieces_join : (first : List ℕ) (more : List (List ℕ)) → list_all (list_all is_decimal) (first ∷ more) ≡ true → pieces (join_with_byte 44 (first ∷ more)) ≡ first ∷ more
+pieces_join first [] all = pieces_one first (and_left (list_all is_decimal first) _ all)
+pieces_join first (next ∷ more) all =
+    pieces_more first (join_with_byte 44 (next ∷ more)) (and_left (list_all is_decimal first) _ all)
+    ∙ ap (λ them. first ∷ them) (pieces_join next more (and_right (list_all is_decimal first) _ all))
 
 pub small : (n : ℕ) → n ≤ 63 → n < 2 ^ 64
 small n low = omega arith
 
 pub decimals : (low : ℕ) (ns : List ℕ) → Rises low ns → list_all (list_all is_decimal) (map decimal ns) ≡ true
 decimals low [] up = refl
-decimals low (n ∷ ns) up = rw (decimal-decimal n (small n up.1)) (decimals (n + 1) ns up.2)
+decimals low (n ∷ ns) up = rw (decimal_decimal n (small n up.1)) (decimals (n + 1) ns up.2)
 
-numbers-decimals : (low : ℕ) (ns : List ℕ) → Rises low ns → numbers (map decimal ns) ≡ Some (map pos ns)
-numbers-decimals low [] up = refl
-numbers-decimals low (n ∷ ns) up = rw (number-decimal n (small n up.1), numbers-decimals (n + 1) ns up.2) refl
+numbers_decimals : (low : ℕ) (ns : List ℕ) → Rises low ns → numbers (map decimal ns) ≡ Some (map pos ns)
+numbers_decimals low [] up = refl
+numbers_decimals low (n ∷ ns) up = rw (number_decimal n (small n up.1), numbers_decimals (n + 1) ns up.2) refl
 
-ranks-rising : (low : ℕ) (ns : List ℕ) → Rises low ns → list_all is_rank (map pos ns) ≡ true
-ranks-rising low [] up = refl
-ranks-rising low (n ∷ ns) up = rw (le-leb n 63 up.1) (ranks-rising (n + 1) ns up.2)
+ranks_rising : (low : ℕ) (ns : List ℕ) → Rises low ns → list_all is_rank (map pos ns) ≡ true
+ranks_rising low [] up = refl
+ranks_rising low (n ∷ ns) up = rw (le-leb n 63 up.1) (ranks_rising (n + 1) ns up.2)
 
 kept : (low : ℕ) (ns : List ℕ) → Rises low ns → map natural_of (filter is_rank (map pos ns)) ≡ ns
 kept low [] up = refl
@@ -65,50 +65,50 @@ abbrev begins_decimal : List ℕ → Bool
 begins_decimal [] = false
 begins_decimal (byte ∷ rest) = is_decimal byte
 
-begins-join : (first : List ℕ) (more : List (List ℕ)) → 0 < length first → list_all is_decimal first ≡ true → begins_decimal (join_with_byte 44 (first ∷ more)) ≡ true
-begins-join [] more some all = absurd (omega arith)
-begins-join (byte ∷ first) [] some all = and_left (is_decimal byte) _ all
-begins-join (byte ∷ first) (next ∷ more) some all = and_left (is_decimal byte) _ all
+begins_join : (first : List ℕ) (more : List (List ℕ)) → 0 < length first → list_all is_decimal first ≡ true → begins_decimal (join_with_byte 44 (first ∷ more)) ≡ true
+begins_join [] more some all = absurd (omega arith)
+begins_join (byte ∷ first) [] some all = and_left (is_decimal byte) _ all
+begins_join (byte ∷ first) (next ∷ more) some all = and_left (is_decimal byte) _ all
 
-not-none : (text : List ℕ) → begins_decimal text ≡ true → pointwise nat_eq text (codes "none") ≡ false
-not-none [] begins = refl
-not-none (byte ∷ rest) begins = rw (first-differs byte begins) refl
+not_none : (text : List ℕ) → begins_decimal text ≡ true → pointwise nat_eq text (codes "none") ≡ false
+not_none [] begins = refl
+not_none (byte ∷ rest) begins = rw (first_differs byte begins) refl
 
-pub rank_set-text : (ns : List ℕ) → Rises 0 ns → rank_set (ranks_text ns) ≡ Ok ns
-rank_set-text [] up = refl
-rank_set-text (n ∷ ns) up =
+pub rank_set_text : (ns : List ℕ) → Rises 0 ns → rank_set (ranks_text ns) ≡ Ok ns
+rank_set_text [] up = refl
+rank_set_text (n ∷ ns) up =
     let text = ranks_text (n ∷ ns) in
-    let other = not-none text (begins-join (decimal n) (map decimal ns) (some-decimal n (small n up.1)) (decimal-decimal n (small n up.1))) in
-    let read : numbers (pieces text) ≡ Some (map pos (n ∷ ns)) = ap numbers (pieces-join (decimal n) (map decimal ns) (decimals 0 (n ∷ ns) up)) ∙ numbers-decimals 0 (n ∷ ns) up in
-    let near : false ≡ not (list_all is_rank (map pos (n ∷ ns))) = sym (ap not (ranks-rising 0 (n ∷ ns) up)) in
-    rank_set-ranks text (map pos (n ∷ ns)) (n ∷ ns) false other read (sym (kept 0 (n ∷ ns) up)) near refl
-    ∙ ap (λ again. if again then Err BadNumber else Ok (ascending (n ∷ ns))) (has_repeat-rising 0 (n ∷ ns) up)
-    ∙ ap Ok (ascending-rising (n ∷ ns) up)
+    let other = not_none text (begins_join (decimal n) (map decimal ns) (some_decimal n (small n up.1)) (decimal_decimal n (small n up.1))) in
+    let read : numbers (pieces text) ≡ Some (map pos (n ∷ ns)) = ap numbers (pieces_join (decimal n) (map decimal ns) (decimals 0 (n ∷ ns) up)) ∙ numbers_decimals 0 (n ∷ ns) up in
+    let near : false ≡ not (list_all is_rank (map pos (n ∷ ns))) = sym (ap not (ranks_rising 0 (n ∷ ns) up)) in
+    rank_set_ranks text (map pos (n ∷ ns)) (n ∷ ns) false other read (sym (kept 0 (n ∷ ns) up)) near refl
+    ∙ ap (λ again. if again then Err BadNumber else Ok (ascending (n ∷ ns))) (has_repeat_rising 0 (n ∷ ns) up)
+    ∙ ap Ok (ascending_rising (n ∷ ns) up)
 
-ranks-naturals : (zs : List ℤ) → list_all is_rank zs ≡ true → list_all (λ n. leb n 63) (map natural_of zs) ≡ true
-ranks-naturals [] all = refl
-ranks-naturals (pos n ∷ zs) all = rw (and_left (leb n 63) _ all) (ranks-naturals zs (and_right (leb n 63) _ all))
-ranks-naturals (negsuc n ∷ zs) all = absurd (false≢true all)
+ranks_naturals : (zs : List ℤ) → list_all is_rank zs ≡ true → list_all (λ n. leb n 63) (map natural_of zs) ≡ true
+ranks_naturals [] all = refl
+ranks_naturals (pos n ∷ zs) all = rw (and_left (leb n 63) _ all) (ranks_naturals zs (and_right (leb n 63) _ all))
+ranks_naturals (negsuc n ∷ zs) all = absurd (false≢true all)
 
-set_of-rises : (read : Option (List ℤ)) (ns : List ℕ) → set_of read ≡ Ok ns → Rises 0 ns
-set_of-rises None ns is = absurd (cc is)
-set_of-rises (Some zs) ns is =
+set_of_rises : (read : Option (List ℤ)) (ns : List ℕ) → set_of read ≡ Ok ns → Rises 0 ns
+set_of_rises None ns is = absurd (cc is)
+set_of_rises (Some zs) ns is =
     ⊎_elim
     (λ (again : repeats zs ≡ true). absurd (let bad = rw again at is in cc bad))
     (λ (once : repeats zs ≡ false). ⊎_elim
     (λ (ranks : list_all is_rank zs ≡ true).
     let same : ascending (map natural_of zs) ≡ ns = let it = rw (once, ranks) at is in cc it in
-    subst (Rises 0) same (Rises-ascending (map natural_of zs) (ranks-naturals zs ranks) (sym (repeats-ranks zs ranks) ∙ once)))
+    subst (Rises 0) same (Rises_ascending (map natural_of zs) (ranks_naturals zs ranks) (sym (repeats_ranks zs ranks) ∙ once)))
     (λ (far : list_all is_rank zs ≡ false). absurd (let bad = rw (once, far) at is in cc bad))
     (cases_Bool (list_all is_rank zs)))
     (cases_Bool (repeats zs))
 
 -- the ranks of a set that is read rise
-pub rank_set-rises : (text ns : List ℕ) → rank_set text ≡ Ok ns → Rises 0 ns
-rank_set-rises text ns is =
+pub rank_set_rises : (text ns : List ℕ) → rank_set text ≡ Ok ns → Rises 0 ns
+rank_set_rises text ns is =
     ⊎_elim
     (λ (none : pointwise nat_eq text (codes "none") ≡ true).
     let same : [] ≡ ns = let it = rw none at is in cc it in
     subst (Rises 0) same tt)
-    (λ (other : pointwise nat_eq text (codes "none") ≡ false). set_of-rises (numbers (pieces text)) ns (rw other at is))
+    (λ (other : pointwise nat_eq text (codes "none") ≡ false). set_of_rises (numbers (pieces text)) ns (rw other at is))
     (cases_Bool (pointwise nat_eq text (codes "none")))

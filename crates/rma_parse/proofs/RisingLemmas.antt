@@ -5,128 +5,128 @@ use Rattle.std.proofs.lemmas.Bool.{cases_lt, cases_Bool, false≢true, lt-ltb, l
 use Rattle.std.proofs.lemmas.List.{append-nil}
 use Rattle.std.proofs.lemmas.Bool.Decides.{nat_tests}
 use Rattle.rma_base.proofs.NameLemmas.{and_left, and_right}
-use Rattle.rma_base.specs.RankSets.{has_repeat, has_number, placed, placed_all, ascending}
+use Rattle.rma_base.specs.RankSet.{has_repeat, has_number, placed, placed_all, ascending}
 
 -- ranks, each above those before it, and none below the first number
 abbrev pub Rises : ℕ → List ℕ → Type 0
 Rises low [] = Unit {0}
 Rises low (n ∷ more) = (low ≤ n) × (n ≤ 63) × Rises (n + 1) more
 
-or-left : (a b : Bool) → (a || b) ≡ false → a ≡ false
-or-left true b h = h
-or-left false b h = refl
+or_left_lem : (a b : Bool) → (a || b) ≡ false → a ≡ false
+or_left_lem true b h = h
+or_left_lem false b h = refl
 
-or-right : (a b : Bool) → (a || b) ≡ false → b ≡ false
-or-right true b h = absurd (false≢true (sym h))
-or-right false b h = h
+or_right_lem : (a b : Bool) → (a || b) ≡ false → b ≡ false
+or_right_lem true b h = absurd (false≢true (sym h))
+or_right_lem false b h = h
 
-or-swap : (a b c : Bool) → (a || (b || c)) ≡ (b || (a || c))
-or-swap true true c = refl
-or-swap true false c = refl
-or-swap false b c = refl
+or_swap : (a b c : Bool) → (a || (b || c)) ≡ (b || (a || c))
+or_swap true true c = refl
+or_swap true false c = refl
+or_swap false b c = refl
 
-pub not-true : (b : Bool) → not b ≡ true → b ≡ false
-not-true true h = absurd (false≢true h)
-not-true false h = refl
+pub not_true_lem : (b : Bool) → not b ≡ true → b ≡ false
+not_true_lem true h = absurd (false≢true h)
+not_true_lem false h = refl
 
-test-sym : (x y : ℕ) → eqb x y ≡ eqb y x
-test-sym x y = grind (arith, nat_tests)
+test_sym : (x y : ℕ) → eqb x y ≡ eqb y x
+test_sym x y = grind (arith, nat_tests)
 
-Rises-placed : (low n : ℕ) (xs : List ℕ) → Rises low xs → low ≤ n → n ≤ 63 → has_number n xs ≡ false → Rises low (placed n xs)
-Rises-placed low n [] up from to new = (from, to, tt)
-Rises-placed low n (x ∷ xs) up from to new =
+Rises_placed : (low n : ℕ) (xs : List ℕ) → Rises low xs → low ≤ n → n ≤ 63 → has_number n xs ≡ false → Rises low (placed n xs)
+Rises_placed low n [] up from to new = (from, to, tt)
+Rises_placed low n (x ∷ xs) up from to new =
     ⊎_elim
     (λ (below : n < x). let next : n + 1 ≤ x = omega arith in rw (lt-ltb n x below) (from, to, (next, up.1, up.2)))
     (λ (above : x ≤ n).
-    let other : x ≡ n → ⊥ = eqb-false x n (or-left (eqb x n) _ new) in
+    let other : x ≡ n → ⊥ = eqb-false x n (or_left_lem (eqb x n) _ new) in
     let next : x + 1 ≤ n = omega arith in
-    rw (le-ltb n x above) (up.0, up.1, Rises-placed (x + 1) n xs up.2 next to (or-right (eqb x n) _ new)))
+    rw (le-ltb n x above) (up.0, up.1, Rises_placed (x + 1) n xs up.2 next to (or_right_lem (eqb x n) _ new)))
     (cases_lt n x)
 
-has_number-placed : (m n : ℕ) (xs : List ℕ) → has_number m (placed n xs) ≡ (eqb n m || has_number m xs)
-has_number-placed m n [] = refl
-has_number-placed m n (x ∷ xs) =
+has_number_placed : (m n : ℕ) (xs : List ℕ) → has_number m (placed n xs) ≡ (eqb n m || has_number m xs)
+has_number_placed m n [] = refl
+has_number_placed m n (x ∷ xs) =
     ⊎_elim
     (λ (below : ltb n x ≡ true). rw below refl)
-    (λ (above : ltb n x ≡ false). rw above (ap (λ later. eqb x m || later) (has_number-placed m n xs) ∙ or-swap (eqb x m) (eqb n m) (has_number m xs)))
+    (λ (above : ltb n x ≡ false). rw above (ap (λ later. eqb x m || later) (has_number_placed m n xs) ∙ or_swap (eqb x m) (eqb n m) (has_number m xs)))
     (cases_Bool (ltb n x))
 
 -- none of the ranks is in the other list
 abbrev all_new : List ℕ → List ℕ → Bool
 all_new sorted ns = list_all (λ n. not (has_number n sorted)) ns
 
-all_new-placed : (n : ℕ) (sorted ns : List ℕ) → has_number n ns ≡ false → all_new sorted ns ≡ true → all_new (placed n sorted) ns ≡ true
-all_new-placed n sorted [] apart new = refl
-all_new-placed n sorted (m ∷ ns) apart new =
-    let first : eqb n m ≡ false = test-sym n m ∙ or-left (eqb m n) _ apart in
-    let here : has_number m sorted ≡ false = not-true _ (and_left (not (has_number m sorted)) _ new) in
-    rw (has_number-placed m n sorted, first, here) (all_new-placed n sorted ns (or-right (eqb m n) _ apart) (and_right (not (has_number m sorted)) _ new))
+all_new_placed : (n : ℕ) (sorted ns : List ℕ) → has_number n ns ≡ false → all_new sorted ns ≡ true → all_new (placed n sorted) ns ≡ true
+all_new_placed n sorted [] apart new = refl
+all_new_placed n sorted (m ∷ ns) apart new =
+    let first : eqb n m ≡ false = test_sym n m ∙ or_left_lem (eqb m n) _ apart in
+    let here : has_number m sorted ≡ false = not_true_lem _ (and_left (not (has_number m sorted)) _ new) in
+    rw (has_number_placed m n sorted, first, here) (all_new_placed n sorted ns (or_right_lem (eqb m n) _ apart) (and_right (not (has_number m sorted)) _ new))
 
-Rises-placed_all : (sorted ns : List ℕ) → Rises 0 sorted → list_all (λ n. leb n 63) ns ≡ true → has_repeat ns ≡ false → all_new sorted ns ≡ true → Rises 0 (placed_all sorted ns)
-Rises-placed_all sorted [] up ranks apart new = up
-Rises-placed_all sorted (n ∷ ns) up ranks apart new =
-    let other : has_number n ns ≡ false = or-left (has_number n ns) _ apart in
+Rises_placed_all : (sorted ns : List ℕ) → Rises 0 sorted → list_all (λ n. leb n 63) ns ≡ true → has_repeat ns ≡ false → all_new sorted ns ≡ true → Rises 0 (placed_all sorted ns)
+Rises_placed_all sorted [] up ranks apart new = up
+Rises_placed_all sorted (n ∷ ns) up ranks apart new =
+    let other : has_number n ns ≡ false = or_left_lem (has_number n ns) _ apart in
     let rank : n ≤ 63 = leb-true n 63 (and_left (leb n 63) _ ranks) in
-    let here : has_number n sorted ≡ false = not-true _ (and_left (not (has_number n sorted)) _ new) in
-    Rises-placed_all (placed n sorted) ns (Rises-placed 0 n sorted up (omega arith) rank here) (and_right (leb n 63) _ ranks) (or-right (has_number n ns) _ apart)
-    (all_new-placed n sorted ns other (and_right (not (has_number n sorted)) _ new))
+    let here : has_number n sorted ≡ false = not_true_lem _ (and_left (not (has_number n sorted)) _ new) in
+    Rises_placed_all (placed n sorted) ns (Rises_placed 0 n sorted up (omega arith) rank here) (and_right (leb n 63) _ ranks) (or_right_lem (has_number n ns) _ apart)
+    (all_new_placed n sorted ns other (and_right (not (has_number n sorted)) _ new))
 
-all_new-none : (ns : List ℕ) → all_new [] ns ≡ true
-all_new-none [] = refl
-all_new-none (n ∷ ns) = all_new-none ns
+all_new_none : (ns : List ℕ) → all_new [] ns ≡ true
+all_new_none [] = refl
+all_new_none (n ∷ ns) = all_new_none ns
 
 -- ranks of which none stands twice rise once they are in order
-pub Rises-ascending : (ns : List ℕ) → list_all (λ n. leb n 63) ns ≡ true → has_repeat ns ≡ false → Rises 0 (ascending ns)
-Rises-ascending ns ranks apart = Rises-placed_all [] ns tt ranks apart (all_new-none ns)
+pub Rises_ascending : (ns : List ℕ) → list_all (λ n. leb n 63) ns ≡ true → has_repeat ns ≡ false → Rises 0 (ascending ns)
+Rises_ascending ns ranks apart = Rises_placed_all [] ns tt ranks apart (all_new_none ns)
 
 -- each number is below
 abbrev all_below : ℕ → List ℕ → Bool
 all_below n xs = list_all (λ x. ltb x n) xs
 
-all_below-weaker : (low n : ℕ) (xs : List ℕ) → low ≤ n → all_below low xs ≡ true → all_below n xs ≡ true
-all_below-weaker low n [] le below = refl
-all_below-weaker low n (x ∷ xs) le below =
+all_below_weaker : (low n : ℕ) (xs : List ℕ) → low ≤ n → all_below low xs ≡ true → all_below n xs ≡ true
+all_below_weaker low n [] le below = refl
+all_below_weaker low n (x ∷ xs) le below =
     let first : x < low = ltb-true x low (and_left (ltb x low) _ below) in
     let less : x < n = omega arith in
-    rw (lt-ltb x n less) (all_below-weaker low n xs le (and_right (ltb x low) _ below))
+    rw (lt-ltb x n less) (all_below_weaker low n xs le (and_right (ltb x low) _ below))
 
-all_below-push : (n : ℕ) (xs : List ℕ) → all_below n xs ≡ true → all_below (n + 1) (xs ++ n ∷ []) ≡ true
-all_below-push n [] below = let less : n < n + 1 = omega arith in rw (lt-ltb n (n + 1) less) refl
-all_below-push n (x ∷ xs) below =
+all_below_push : (n : ℕ) (xs : List ℕ) → all_below n xs ≡ true → all_below (n + 1) (xs ++ n ∷ []) ≡ true
+all_below_push n [] below = let less : n < n + 1 = omega arith in rw (lt-ltb n (n + 1) less) refl
+all_below_push n (x ∷ xs) below =
     let first : x < n = ltb-true x n (and_left (ltb x n) _ below) in
     let less : x < n + 1 = omega arith in
-    rw (lt-ltb x (n + 1) less) (all_below-push n xs (and_right (ltb x n) _ below))
+    rw (lt-ltb x (n + 1) less) (all_below_push n xs (and_right (ltb x n) _ below))
 
-placed-last : (n : ℕ) (xs : List ℕ) → all_below n xs ≡ true → placed n xs ≡ xs ++ n ∷ []
-placed-last n [] below = refl
-placed-last n (x ∷ xs) below =
+placed_last : (n : ℕ) (xs : List ℕ) → all_below n xs ≡ true → placed n xs ≡ xs ++ n ∷ []
+placed_last n [] below = refl
+placed_last n (x ∷ xs) below =
     let first : x < n = ltb-true x n (and_left (ltb x n) _ below) in
     let above : x ≤ n = omega arith in
-    rw (le-ltb n x above) (ap (λ them. x ∷ them) (placed-last n xs (and_right (ltb x n) _ below)))
+    rw (le-ltb n x above) (ap (λ them. x ∷ them) (placed_last n xs (and_right (ltb x n) _ below)))
 
-placed_all-rising : (low : ℕ) (sorted ns : List ℕ) → all_below low sorted ≡ true → Rises low ns → placed_all sorted ns ≡ sorted ++ ns
-placed_all-rising low sorted [] below up = sym (append-nil sorted)
-placed_all-rising low sorted (n ∷ ns) below up =
-    let under : all_below n sorted ≡ true = all_below-weaker low n sorted up.0 below in
-    ap (λ them. placed_all them ns) (placed-last n sorted under)
-    ∙ placed_all-rising (n + 1) (sorted ++ n ∷ []) ns (all_below-push n sorted under) up.2
+placed_all_rising : (low : ℕ) (sorted ns : List ℕ) → all_below low sorted ≡ true → Rises low ns → placed_all sorted ns ≡ sorted ++ ns
+placed_all_rising low sorted [] below up = sym (append-nil sorted)
+placed_all_rising low sorted (n ∷ ns) below up =
+    let under : all_below n sorted ≡ true = all_below_weaker low n sorted up.0 below in
+    ap (λ them. placed_all them ns) (placed_last n sorted under)
+    ∙ placed_all_rising (n + 1) (sorted ++ n ∷ []) ns (all_below_push n sorted under) up.2
     ∙ append_assoc sorted (n ∷ []) ns
 
 -- ranks that rise are in order
-pub ascending-rising : (ns : List ℕ) → Rises 0 ns → ascending ns ≡ ns
-ascending-rising ns up = placed_all-rising 0 [] ns refl up
+pub ascending_rising : (ns : List ℕ) → Rises 0 ns → ascending ns ≡ ns
+ascending_rising ns up = placed_all_rising 0 [] ns refl up
 
-has_number-rising : (m low : ℕ) (ns : List ℕ) → m < low → Rises low ns → has_number m ns ≡ false
-has_number-rising m low [] less up = refl
-has_number-rising m low (n ∷ ns) less up =
+has_number_rising : (m low : ℕ) (ns : List ℕ) → m < low → Rises low ns → has_number m ns ≡ false
+has_number_rising m low [] less up = refl
+has_number_rising m low (n ∷ ns) less up =
     let from : low ≤ n = up.0 in
     let later : m < n + 1 = omega arith in
     let other : n ≡ m → ⊥ = λ same. omega arith in
-    rw (ne_eqb n m other) (has_number-rising m (n + 1) ns later up.2)
+    rw (ne_eqb n m other) (has_number_rising m (n + 1) ns later up.2)
 
 -- ranks that rise stand once
-pub has_repeat-rising : (low : ℕ) (ns : List ℕ) → Rises low ns → has_repeat ns ≡ false
-has_repeat-rising low [] up = refl
-has_repeat-rising low (n ∷ ns) up =
+pub has_repeat_rising : (low : ℕ) (ns : List ℕ) → Rises low ns → has_repeat ns ≡ false
+has_repeat_rising low [] up = refl
+has_repeat_rising low (n ∷ ns) up =
     let less : n < n + 1 = omega arith in
-    rw (has_number-rising n (n + 1) ns less up.2) (has_repeat-rising (n + 1) ns up.2)
+    rw (has_number_rising n (n + 1) ns less up.2) (has_repeat_rising (n + 1) ns up.2)

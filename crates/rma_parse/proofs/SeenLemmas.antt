@@ -7,21 +7,21 @@ use Rattle.std.proofs.lemmas.List.{drop-map, length-drop, length-map, length-tak
 use Rattle.std.proofs.Math.Seq.{take-length}
 use Rattle.std.proofs.Math.Nat.{min-le_right}
 use Rattle.std.proofs.lemmas.Option.{none-some}
-use Rattle.rma_parse.proofs.LineLemmas.{fields-front}
+use Rattle.rma_parse.proofs.LineLemmas.{fields_front}
 use Rattle.rma_parse.specs.Lines.{fields_of}
-use Rattle.rma_parse.specs.Words.{texts_at}
+use Rattle.rma_parse.specs.inside.Words.{texts_at}
 
 -- one more word is kept
-texts-more : (items : List (Bor (List ℕ))) (text : Bor (List ℕ)) (later : List (List ℕ)) → texts_at (items ++ text ∷ []) ++ later ≡ texts_at items ++ text.now ∷ later
-texts-more [] text later = refl
-texts-more (item ∷ items) text later = ap (λ them. item.now ∷ them) (texts-more items text later)
+texts_more : (items : List (Bor (List ℕ))) (text : Bor (List ℕ)) (later : List (List ℕ)) → texts_at (items ++ text ∷ []) ++ later ≡ texts_at items ++ text.now ∷ later
+texts_more [] text later = refl
+texts_more (item ∷ items) text later = ap (λ them. item.now ∷ them) (texts_more items text later)
 
-pub first-more : (items : List (Bor (List ℕ))) (text : Bor (List ℕ)) (later : List (List ℕ)) → take 16 (texts_at (items ++ text ∷ []) ++ later) ≡ take 16 (texts_at items ++ text.now ∷ later)
-first-more items text later = ap (take 16) (texts-more items text later)
+pub first_more : (items : List (Bor (List ℕ))) (text : Bor (List ℕ)) (later : List (List ℕ)) → take 16 (texts_at (items ++ text ∷ []) ++ later) ≡ take 16 (texts_at items ++ text.now ∷ later)
+first_more items text later = ap (take 16) (texts_more items text later)
 
 -- no more words are kept
-pub first-full : (items : List (Bor (List ℕ))) (text : List ℕ) (later : List (List ℕ)) → length items ≡ 16 → take 16 (texts_at items ++ later) ≡ take 16 (texts_at items ++ text ∷ later)
-first-full items text later full =
+pub first_full : (items : List (Bor (List ℕ))) (text : List ℕ) (later : List (List ℕ)) → length items ≡ 16 → take 16 (texts_at items ++ later) ≡ take 16 (texts_at items ++ text ∷ later)
+first_full items text later full =
     let long : length (texts_at items) ≡ 16 = length-map items (λ text. text.now) ∙ full in
     let enough : 16 ≤ length (texts_at items) = omega arith in
     take-append-le 16 (texts_at items) later enough ∙ sym (take-append-le 16 (texts_at items) (text ∷ later) enough)
@@ -33,17 +33,17 @@ take-take (suc n) (suc m) [] le = refl
 take-take (suc n) (suc m) (x ∷ xs) le = ap (λ them. x ∷ them) (take-take n m xs (omega arith))
 
 -- the words without the site stand among the first, where they are few
-pub first-fields : (items : List (Bor (List ℕ))) (words : List (List ℕ)) → take 16 (texts_at items) ≡ take 16 words → length (fields_of words) ≤ 16
+pub first_fields : (items : List (Bor (List ℕ))) (words : List (List ℕ)) → take 16 (texts_at items) ≡ take 16 words → length (fields_of words) ≤ 16
     → take (length (fields_of words)) (texts_at items) ≡ fields_of words
-first-fields items words same few =
+first_fields items words same few =
     let n = length (fields_of words) in
-    sym (take-take n 16 (texts_at items) few) ∙ ap (take n) same ∙ take-take n 16 words few ∙ sym (fields-front words n refl)
+    sym (take-take n 16 (texts_at items) few) ∙ ap (take n) same ∙ take-take n 16 words few ∙ sym (fields_front words n refl)
 
-pub first-enough : (items : List (Bor (List ℕ))) (words : List (List ℕ)) → take 16 (texts_at items) ≡ take 16 words → length (fields_of words) ≤ 16
+pub first_enough : (items : List (Bor (List ℕ))) (words : List (List ℕ)) → take 16 (texts_at items) ≡ take 16 words → length (fields_of words) ≤ 16
     → length (fields_of words) ≤ length items
-first-enough items words same few =
+first_enough items words same few =
     let n = length (fields_of words) in
-    let least : min n (length (texts_at items)) ≡ n = sym (length-take n (texts_at items)) ∙ ap length (first-fields items words same few) in
+    let least : min n (length (texts_at items)) ≡ n = sym (length-take n (texts_at items)) ∙ ap length (first_fields items words same few) in
     let long : n ≤ length (texts_at items) = subst (λ m. m ≤ length (texts_at items)) least (min-le_right n (length (texts_at items))) in
     subst (λ m. n ≤ m) (length-map items (λ text. text.now)) long
 
@@ -51,48 +51,48 @@ head_or : List ℕ → List (List ℕ) → List ℕ
 head_or other [] = other
 head_or other (x ∷ xs) = x
 
-head-is : (x y : List ℕ) (xs ys : List (List ℕ)) → x ∷ xs ≡ y ∷ ys → x ≡ y
+head_is : (x y : List ℕ) (xs ys : List (List ℕ)) → x ∷ xs ≡ y ∷ ys → x ≡ y
 unfolding head_or
-head-is x y xs ys same = ap (head_or x) same
+head_is x y xs ys same = ap (head_or x) same
 
-fields-head : (n : ℕ) (word : List ℕ) (words : List (List ℕ)) → 0 < n → (rest : List (List ℕ)) × (take n (word ∷ words) ≡ word ∷ rest)
-fields-head zero word words some = absurd (omega arith)
-fields-head (suc n) word words some = (take n words, refl)
+fields_head : (n : ℕ) (word : List ℕ) (words : List (List ℕ)) → 0 < n → (rest : List (List ℕ)) × (take n (word ∷ words) ≡ word ∷ rest)
+fields_head zero word words some = absurd (omega arith)
+fields_head (suc n) word words some = (take n words, refl)
 
-option-same : (kind item : Bor (List ℕ)) → Some kind ≡ Some item → kind ≡ item
-option-same kind item is = ap (λ found. unwrap_or found kind) is
+option_same : (kind item : Bor (List ℕ)) → Some kind ≡ Some item → kind ≡ item
+option_same kind item is = ap (λ found. unwrap_or found kind) is
 
 -- the first word is the first that is kept
-pub first-kind : (items : List (Bor (List ℕ))) (words : List (List ℕ)) (kind : Bor (List ℕ)) → take 16 (texts_at items) ≡ take 16 words → Some kind ≡ slice_get items 0
+pub first_kind : (items : List (Bor (List ℕ))) (words : List (List ℕ)) (kind : Bor (List ℕ)) → take 16 (texts_at items) ≡ take 16 words → Some kind ≡ slice_get items 0
     → 0 < length (fields_of words) → (rest : List (List ℕ)) × (fields_of words ≡ kind.now ∷ rest)
-first-kind [] words kind same is some = absurd (none-some kind (sym is))
-first-kind (item ∷ items) [] kind same is some = absurd (omega arith)
-first-kind (item ∷ items) (word ∷ words) kind same is some =
-    let front = fields-front (word ∷ words) (length (fields_of (word ∷ words))) refl in
-    let head = fields-head (length (fields_of (word ∷ words))) word words some in
-    let here : kind ≡ item = option-same kind item is in
-    let text : item.now ≡ word = head-is item.now word _ _ same in
+first_kind [] words kind same is some = absurd (none-some kind (sym is))
+first_kind (item ∷ items) [] kind same is some = absurd (omega arith)
+first_kind (item ∷ items) (word ∷ words) kind same is some =
+    let front = fields_front (word ∷ words) (length (fields_of (word ∷ words))) refl in
+    let head = fields_head (length (fields_of (word ∷ words))) word words some in
+    let here : kind ≡ item = option_same kind item is in
+    let text : item.now ≡ word = head_is item.now word _ _ same in
     (head.0, front ∙ head.1 ∙ ap (λ first. first ∷ head.0) (sym text ∙ sym (ap (λ (it : Bor (List ℕ)). it.now) here)))
 
-take-all : {A : Type 0} (from : ℕ) (xs : List A) → take (length xs - from) (drop from xs) ≡ drop from xs
-take-all from xs = ap (λ n. take n (drop from xs)) (sym (length-drop from xs)) ∙ take-length (drop from xs)
+take_all : {A : Type 0} (from : ℕ) (xs : List A) → take (length xs - from) (drop from xs) ≡ drop from xs
+take_all from xs = ap (λ n. take n (drop from xs)) (sym (length-drop from xs)) ∙ take-length (drop from xs)
 
-pub part-texts : (from to : ℕ) (items : List (Bor (List ℕ))) → texts_at (take (length (take to items) - from) (drop from (take to items))) ≡ drop from (take to (texts_at items))
-part-texts from to items =
-    ap texts_at (take-all from (take to items)) ∙ sym (drop-map (λ text. text.now) from (take to items)) ∙ ap (drop from) (sym (take-map (λ text. text.now) to items))
+pub part_texts : (from to : ℕ) (items : List (Bor (List ℕ))) → texts_at (take (length (take to items) - from) (drop from (take to items))) ≡ drop from (take to (texts_at items))
+part_texts from to items =
+    ap texts_at (take_all from (take to items)) ∙ sym (drop-map (λ text. text.now) from (take to items)) ∙ ap (drop from) (sym (take-map (λ text. text.now) to items))
 
 -- so many texts from a place on
 abbrev pub from_place : List (Bor (List ℕ)) → Bor (List ℕ) → ℕ → ℕ → List (List ℕ)
 from_place items other place zero = []
 from_place items other place (suc n) = (get_or items place other).now ∷ from_place items other (suc place) n
 
-from_place-behind : (item : Bor (List ℕ)) (items : List (Bor (List ℕ))) (other : Bor (List ℕ)) (place n : ℕ) → from_place (item ∷ items) other (suc place) n ≡ from_place items other place n
-from_place-behind item items other place zero = refl
-from_place-behind item items other place (suc n) = ap (λ them. (get_or items place other).now ∷ them) (from_place-behind item items other (suc place) n)
+from_place_behind : (item : Bor (List ℕ)) (items : List (Bor (List ℕ))) (other : Bor (List ℕ)) (place n : ℕ) → from_place (item ∷ items) other (suc place) n ≡ from_place items other place n
+from_place_behind item items other place zero = refl
+from_place_behind item items other place (suc n) = ap (λ them. (get_or items place other).now ∷ them) (from_place_behind item items other (suc place) n)
 
 -- texts are those at each of their places
-pub texts-each : (n : ℕ) (items : List (Bor (List ℕ))) (other : Bor (List ℕ)) → length items ≡ n → texts_at items ≡ from_place items other 0 n
-texts-each zero [] other is = refl
-texts-each zero (item ∷ items) other is = absurd (omega arith)
-texts-each (suc n) [] other is = absurd (omega arith)
-texts-each (suc n) (item ∷ items) other is = ap (λ them. item.now ∷ them) (texts-each n items other (omega arith) ∙ sym (from_place-behind item items other 0 n))
+pub texts_each : (n : ℕ) (items : List (Bor (List ℕ))) (other : Bor (List ℕ)) → length items ≡ n → texts_at items ≡ from_place items other 0 n
+texts_each zero [] other is = refl
+texts_each zero (item ∷ items) other is = absurd (omega arith)
+texts_each (suc n) [] other is = absurd (omega arith)
+texts_each (suc n) (item ∷ items) other is = ap (λ them. item.now ∷ them) (texts_each n items other (omega arith) ∙ sym (from_place_behind item items other 0 n))

@@ -1,27 +1,13 @@
--- How a line is written (the log format of this product).
-use Rattle.std.specs.Prelude.{ℕ, List, [], ◌∷◌, ◌++◌, map, Option, Some, None, codes, decimal}
+-- How a line is written (docs/FORMAT.md).
+use Rattle.std.specs.Prelude.{ℕ, List, [], ◌++◌, Option, Some, None, codes}
 use Rattle.std.specs.List.{join_with_byte}
-use Rattle.rma_base.specs.WindowWords.{model_word, ops_word}
-use Rattle.rma_parse.specs.declared.events.Event.{Event}
-use Rattle.rma_parse.specs.declared.events.Event.TheVariants.{Frame, Window}
-use Rattle.rma_parse.specs.declared.events.Frame.TheVariants.{Header, End, Comm, Barrier}
-use Rattle.rma_parse.specs.declared.events.Stated.{Stated}
-use Rattle.rma_parse.specs.declared.events.Window.TheVariants.{Create, Free}
+use Rattle.rma_parse.specs.declared.event.Event.{Event}
+use Rattle.rma_parse.specs.declared.event.Stated.{Stated}
+use Rattle.rma_parse.specs.Forms.{filled, words_of}
 
--- ranks joined by commas, or the word `none`
-abbrev pub ranks_text : List ℕ → List ℕ
-ranks_text [] = codes "none"
-ranks_text (rank ∷ more) = join_with_byte 44 (map decimal (rank ∷ more))
-
--- the words of an event, with each number in decimal digits
-abbrev pub spelled : Event → List (List ℕ)
-spelled (Frame (Header rank size)) = codes "rma" ∷ codes "1" ∷ decimal rank.0 ∷ decimal size ∷ []
-spelled (Frame End) = codes "end" ∷ []
-spelled (Frame (Comm comm group)) = codes "comm" ∷ comm ∷ ranks_text group ∷ []
-spelled (Frame (Barrier comm)) = codes "barrier" ∷ comm ∷ []
-spelled (Window (Create window comm base bytes displacement separation accumulates)) =
-    codes "win" ∷ codes "create" ∷ window ∷ comm ∷ decimal base ∷ decimal bytes ∷ decimal displacement ∷ model_word separation ∷ ops_word accumulates ∷ []
-spelled (Window (Free window)) = codes "win" ∷ codes "free" ∷ window ∷ []
+-- the words of an event: those of the row of its form, with its values
+unfoldable pub spelled : Event → List (List ℕ)
+spelled event = words_of (filled event)
 
 -- the site behind the words of a line
 abbrev pub site_suffix : Option (List ℕ) → List ℕ

@@ -1,9 +1,13 @@
+pub use Rattle.rma_base.specs.Name
+pub use Rattle.rma_base.specs.RankSet
+pub use Rattle.rma_base.specs.Site
+pub use Rattle.rma_base.specs.Window
+pub use Rattle.rma_lex.specs.Field
 pub mod Numbers
 pub mod Steps
 pub mod Ranks
 pub mod Kinds
 pub mod Forms
 pub mod Lines
-pub mod Words
-pub mod Listed
 pub mod Canonical
+pub mod inside

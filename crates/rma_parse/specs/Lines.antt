@@ -1,12 +1,12 @@
 -- What a line states (the log format of this product).
 use Rattle.std.specs.Prelude.{◌≡◌, ℕ, ◌+◌, ◌-◌, Bool, false, List, [], ◌∷◌, length, take, drop, Option, Some, None, is_some, Result, Ok, Err, ◌==◌, if◌then◌else◌}
-use Rattle.rma_base.specs.declared.reasons.FormReason.{FormReason}
-use Rattle.rma_base.specs.declared.reasons.FormReason.TheVariants.{BadName, WrongCount}
-use Rattle.rma_base.specs.Sites.{is_site}
-use Rattle.rma_lex.specs.Fields.{fields, texts}
-use Rattle.rma_parse.specs.declared.events.Stated.{Stated}
-use Rattle.rma_parse.specs.declared.forms.LineForm.{LineForm}
-use Rattle.rma_parse.specs.Forms.{form_at, form_of, event_of}
+use Rattle.rma_base.specs.declared.form_reason.FormReason.{FormReason}
+use Rattle.rma_base.specs.declared.form_reason.FormReason.TheVariants.{BadName, WrongCount}
+use Rattle.rma_base.specs.Site.{is_site}
+use Rattle.rma_lex.specs.Field.{fields, texts}
+use Rattle.rma_parse.specs.declared.event.Stated.{Stated}
+use Rattle.rma_parse.specs.declared.form.LineForm.{LineForm}
+use Rattle.rma_parse.specs.Forms.{form_at, form_of, event_of, kind_words}
 use Rattle.rma_parse.specs.Steps.{◌>>=◌}
 
 -- the text begins with that byte
@@ -34,7 +34,7 @@ fields_of rest = if is_some (site_text rest) then take (length rest - 1) rest el
 
 -- the number of fields fits the form
 abbrev pub counted : LineForm → List (List ℕ) → Result LineForm FormReason
-counted form texts = if length texts == (form_at form).kind_words + length (form_at form).kinds then Ok form else Err WrongCount
+counted form texts = if length texts == kind_words form + length (form_at form).kinds then Ok form else Err WrongCount
 
 -- a site, where there is one, has to be a good one
 abbrev pub site_of : Option (List ℕ) → Result (Option (List ℕ)) FormReason
@@ -48,7 +48,7 @@ stated_by verb rest =
     form_of verb (fields_of rest) >>= λ form.
     counted form (fields_of rest) >>= λ form.
     site_of (site_text rest) >>= λ site.
-    event_of form (drop (form_at form).kind_words (fields_of rest)) >>= λ event.
+    event_of form (drop (kind_words form) (fields_of rest)) >>= λ event.
     Ok (record { event = event; site = site })
 
 -- a line without a word is blank, and one whose first word begins with `#` is a comment: they state nothing

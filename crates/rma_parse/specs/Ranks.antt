@@ -3,9 +3,9 @@ use Rattle.std.specs.Prelude.{ℕ, ℤ, pos, negsuc, Bool, false, not, ◌||◌,
 use Rattle.std.specs.Borrow.{Bor}
 use Rattle.std.specs.List.{list_all, list_any}
 use Rattle.std.specs.Cmp.Lexicographic.{pointwise}
-use Rattle.rma_base.specs.declared.reasons.FormReason.{FormReason}
-use Rattle.rma_base.specs.declared.reasons.FormReason.TheVariants.{BadNumber, OutOfRange}
-use Rattle.rma_base.specs.RankSets.{ascending}
+use Rattle.rma_base.specs.declared.form_reason.FormReason.{FormReason}
+use Rattle.rma_base.specs.declared.form_reason.FormReason.TheVariants.{BadNumber, OutOfRange}
+use Rattle.rma_base.specs.RankSet.{ascending}
 use Rattle.rma_parse.specs.Numbers.{number}
 
 -- the pieces, where the first has one byte more in front

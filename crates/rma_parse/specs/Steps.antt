@@ -1,8 +1,8 @@
 -- Steps of reading, each of which may find the line bad.
 use Rattle.std.specs.Prelude.{◌≡◌, Result, Ok, Err}
-use Rattle.rma_base.specs.declared.reasons.FormReason.{FormReason}
-use Rattle.rma_parse.specs.declared.faults.ParseError.{ParseError}
-use Rattle.rma_parse.specs.declared.faults.ParseError.TheVariants.{Fault, Memory}
+use Rattle.rma_base.specs.declared.form_reason.FormReason.{FormReason}
+use Rattle.rma_parse.specs.declared.fault.ParseError.{ParseError}
+use Rattle.rma_parse.specs.declared.fault.ParseError.TheVariants.{Fault, Memory}
 
 -- one step and then the next: the first fault is that of both
 infixl 10 ◌>>=◌

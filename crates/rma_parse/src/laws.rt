@@ -2,7 +2,7 @@
 ghost use Rattle.std.specs.Prelude.{◌≡◌, ℕ, List};
 ghost use Rattle.rma_parse.specs.Canonical.{canonical};
 ghost use Rattle.rma_parse.specs.Lines.{states};
-ghost use Rattle.rma_parse.specs.declared.events.Stated.{Stated};
+ghost use Rattle.rma_parse.specs.declared.event.Stated.{Stated};
 
 /// What some line states, its canonical line states too; and no two such values have one canonical line.
 pub fn canonical_lines_are_read_back()

@@ -1,11 +1,11 @@
 //! The words of a line behind its verb, which are walked once.
 ghost use Rattle.std.specs.Prelude.{◌≡◌, ◌<◌, ◌≤◌, ◌^◌, ◌+◌, ◌++◌, ◌∷◌, [], List, ℕ, Some, length, drop, take, option_map, MatchOption};
-ghost use Rattle.rma_lex.specs.Fields.{fields, texts};
+ghost use Rattle.rma_lex.specs.Field.{fields, texts};
 ghost use Rattle.rma_parse.specs.Lines.{behind_at, begins_with, fields_of, site_text};
-ghost use Rattle.rma_parse.specs.Words.{HasSeen, texts_at};
+ghost use Rattle.rma_parse.specs.inside.Words.{HasSeen, texts_at};
 
 use arrayvec::ArrayVec;
-use rma_lex::tokens::TokenIter;
+use rma_lex::TokenIter;
 use std::marker::Model;
 
 // The words of a line behind its verb. The first of them are at hand; no form has more.
@@ -21,8 +21,8 @@ pub(crate) struct Words<'w, 'a> {
 
 impl<'w, 'a> Model for Words<'w, 'a> {
     ghost use Rattle.std.specs.Prelude.{ℕ, List, drop};
-    ghost use Rattle.rma_lex.specs.Fields.{fields, texts};
-    ghost use Rattle.rma_parse.specs.Words.{AreWords};
+    ghost use Rattle.rma_lex.specs.Field.{fields, texts};
+    ghost use Rattle.rma_parse.specs.inside.Words.{AreWords};
 
     ghost Value = { List (List ℕ) };
 

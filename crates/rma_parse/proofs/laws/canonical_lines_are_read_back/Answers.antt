@@ -1,8 +1,8 @@
-use Rattle.rma_parse.proofs.CanonicalLemmas.{canonical-states, canonical-apart}
+use Rattle.rma_parse.proofs.CanonicalLemmas.{canonical_states, canonical_apart}
 use Rattle.rma_parse.proofs.laws.canonical_lines_are_read_back.Goals as goal
 
 pub returns-clause-read_back : goal.returns-clause-read_back
-returns-clause-read_back c = canonical-states
+returns-clause-read_back c = canonical_states
 
 pub returns-clause-apart : goal.returns-clause-apart
-returns-clause-apart c = canonical-apart
+returns-clause-apart c = canonical_apart
