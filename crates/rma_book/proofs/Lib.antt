@@ -1,5 +1,4 @@
 pub mod JudgingLemmas
-pub mod StandingLemmas
-pub mod KnownLemmas
+pub mod StateLemmas
 pub mod ReadingLemmas
-pub mod OneEndLemmas
+pub mod OutcomeLemmas

@@ -1,8 +1,8 @@
--- What a whole log comes to.
+-- What the outcome of a whole log.
 use Rattle.std.specs.Prelude.{◌≡◌, ℕ, List, Some, None}
-use Rattle.rma_call.specs.declared.calls.RankCalls.{RankCalls}
-use Rattle.rma_book.specs.declared.faults.BookEnd.{BookEnd}
-use Rattle.rma_book.specs.declared.faults.BookEnd.TheVariants.{Calls, Fault}
+use Rattle.rma_call.specs.declared.call.RankCalls.{RankCalls}
+use Rattle.rma_book.specs.declared.fault.BookEnd.{BookEnd}
+use Rattle.rma_book.specs.declared.fault.BookEnd.TheVariants.{Calls, Fault}
 use Rattle.rma_book.specs.Calls.{calls_of, end_line}
 use Rattle.rma_book.specs.Logs.{Checked, entries, IsLogFault}
 
@@ -13,7 +13,7 @@ pub record AreCallsOf (rank logs : ℕ) (lines : List Checked) (calls : RankCall
   pub calls_are : calls.calls ≡ calls_of (entries lines)
   pub end_is : end_line (entries lines) ≡ Some calls.end
 
--- what the whole log of a rank, among so many logs, comes to, where its lines are these
+-- the outcome of the whole log of a rank, among so many logs, where its lines are these
 abbrev pub IsEnd : ℕ → ℕ → List Checked → BookEnd → Type 0
 IsEnd rank logs lines (Calls calls) = AreCallsOf rank logs lines calls
 IsEnd rank logs lines (Fault fault) = IsLogFault rank logs lines (Some fault)

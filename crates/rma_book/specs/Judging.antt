@@ -1,16 +1,14 @@
--- Why an event is bad among the events before it (the log format of this product).
+-- Why an event is bad among the events before it (docs/FORMAT.md).
 use Rattle.std.specs.Prelude.{ℕ, ◌+◌, ◌==◌, Bool, false, not, ◌||◌, nat_lt, List, [], ◌∷◌, Option, Some, None, if◌then◌else◌}
-use Rattle.std.specs.Option.{option_or}
+use Rattle.std.specs.Option.{option_or, option_map_or}
 use Rattle.std.specs.List.{list_any}
-use Rattle.rma_base.specs.declared.limits.TheConstants.{SPACE}
-use Rattle.rma_base.specs.declared.reasons.FormReason.{FormReason}
-use Rattle.rma_base.specs.declared.reasons.FormReason.TheVariants.{BadHeader, WrongHeader, AfterEnd, UnknownComm, UnknownWindow, NameInUse, RankTooLarge, NotInGroup, OutOfSpace}
-use Rattle.rma_base.specs.RankSets.{has_number}
-use Rattle.rma_parse.specs.declared.events.Event.{Event}
-use Rattle.rma_parse.specs.declared.events.Event.TheVariants.{Frame, Window}
-use Rattle.rma_parse.specs.declared.events.Frame.TheVariants.{Header, Comm, Barrier}
-use Rattle.rma_parse.specs.declared.events.Window.TheVariants.{Create, Free}
-use Rattle.rma_book.specs.Events.{is_header, is_end, has_comm, had_window, has_window}
+use Rattle.rma_base.specs.Limits.{address_limit}
+use Rattle.rma_base.specs.declared.form_reason.FormReason.{FormReason}
+use Rattle.rma_base.specs.declared.form_reason.FormReason.TheVariants.{BadHeader, WrongHeader, AfterEnd, UnknownComm, UnknownWindow, NameInUse, RankTooLarge, NotInGroup, OutOfSpace}
+use Rattle.rma_base.specs.RankSet.{has_number}
+use Rattle.rma_parse.specs.declared.event.Event.{Event}
+use Rattle.rma_parse.specs.declared.event.Event.TheVariants.{Header}
+use Rattle.rma_book.specs.Naming.{is_header, is_end, needed_comm, declared_comm, declared_members, peer, created_window, freed_window, claimed_memory, has_comm, had_window, has_window}
 
 -- the first event is no header, or a later one is
 abbrev pub misplaces_header : List Event → Event → Bool
@@ -19,47 +17,44 @@ misplaces_header (first ∷ before) event = is_header event
 
 -- a header with another rank, or with another number of logs
 abbrev pub is_of_another_log : ℕ → ℕ → Event → Bool
-is_of_another_log rank logs (Frame (Header r n)) = not (r.0 == rank) || not (n == logs)
+is_of_another_log rank logs (Header r n) = not (r.0 == rank) || not (n == logs)
 is_of_another_log rank logs _ = false
 
--- the event names a communicator that is not there
+-- the event needs a communicator that is not there
 abbrev pub lacks_comm : List Event → Event → Bool
-lacks_comm before (Frame (Barrier comm)) = not (has_comm before comm)
-lacks_comm before (Window (Create window comm base bytes unit model operations)) = not (has_comm before comm)
-lacks_comm before _ = false
+lacks_comm before event = option_map_or (λ comm. not (has_comm before comm)) (needed_comm event) false
 
--- the event names a window that is not there
+-- the event frees a window that is not there
 abbrev pub lacks_window : List Event → Event → Bool
-lacks_window before (Window (Free window)) = not (has_window before window)
-lacks_window before _ = false
+lacks_window before event = option_map_or (λ window. not (has_window before window)) (freed_window event) false
 
 -- the event gives a name that is in use: a communicator's, or a window's, which stays in use for ever
 abbrev pub takes_used_name : List Event → Event → Bool
-takes_used_name before (Frame (Comm comm ranks)) = has_comm before comm
-takes_used_name before (Window (Create window comm base bytes unit model operations)) = had_window before window
-takes_used_name before _ = false
+takes_used_name before event =
+    option_map_or (has_comm before) (declared_comm event) false || option_map_or (had_window before) (created_window event) false
+
+-- no log is that of this rank
+abbrev pub is_far : ℕ → ℕ → Bool
+is_far logs rank = not (nat_lt rank logs)
 
 -- the event names a rank that no log has
 abbrev pub has_far_rank : ℕ → Event → Bool
-has_far_rank logs (Frame (Comm comm ranks)) = list_any (λ rank. not (nat_lt rank logs)) ranks
-has_far_rank logs _ = false
+has_far_rank logs event = option_map_or (list_any (is_far logs)) (declared_members event) false || option_map_or (is_far logs) (peer event) false
 
 -- a communicator without the rank that declares it
 abbrev pub leaves_out : ℕ → Event → Bool
-leaves_out rank (Frame (Comm comm ranks)) = not (has_number rank ranks)
-leaves_out rank _ = false
+leaves_out rank event = option_map_or (λ ranks. not (has_number rank ranks)) (declared_members event) false
 
 -- a window that does not end in the space of addresses
 abbrev pub leaves_space : Event → Bool
-leaves_space (Window (Create window comm base bytes unit model operations)) = nat_lt SPACE (base + bytes)
-leaves_space _ = false
+leaves_space event = option_map_or (λ memory. nat_lt address_limit (memory.0 + memory.1)) (claimed_memory event) false
 
 -- the first of the reasons that holds
 abbrev pub first_that_holds : List (FormReason × Bool) → Option FormReason
 first_that_holds [] = None
 first_that_holds ((reason, holds) ∷ later) = if holds then Some reason else first_that_holds later
 
--- whether the event stands where it may: behind the header of this log, and before the end
+-- whether the event stands where it may: after the header of this log, and before the end
 abbrev pub place_reason : ℕ → ℕ → List Event → Event → Option FormReason
 place_reason rank logs before event = first_that_holds (
     (BadHeader, misplaces_header before event)
@@ -78,6 +73,6 @@ name_reason rank logs before event = first_that_holds (
     ∷ (OutOfSpace, leaves_space event)
     ∷ [])
 
--- why an event is bad in the log of a rank among so many logs, behind these events, if it is
+-- why an event is bad in the log of a rank among so many logs, after these events, if it is
 abbrev pub reason_of : ℕ → ℕ → List Event → Event → Option FormReason
 reason_of rank logs before event = option_or (place_reason rank logs before event) (name_reason rank logs before event)

@@ -1,11 +1,8 @@
-pub mod Events
+pub use Rattle.rma_lex.specs.Checked
+pub use Rattle.rma_lex.specs.Line
+pub mod Naming
 pub mod Judging
 pub mod Calls
-pub mod Standing
-pub mod Lasting
-pub mod Places
-pub mod Known
 pub mod Logs
-pub mod Reading
 pub mod Ends
-pub mod RankReading
+pub mod inside

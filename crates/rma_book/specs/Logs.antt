@@ -1,12 +1,12 @@
 -- The first bad line of a log, and what its good lines state (the log format of this product).
 use Rattle.std.specs.Prelude.{◌≡◌, ℕ, ◌+◌, List, [], ◌∷◌, ◌++◌, length, take, slice_get, Option, Some, None, IsSome, Result, Ok, Err, ◌⊎◌}
-use Rattle.rma_base.specs.declared.reasons.FormReason.{FormReason}
-use Rattle.rma_base.specs.declared.reasons.FormReason.TheVariants.{MissingEnd}
-use Rattle.rma_parse.specs.declared.events.Stated.{Stated}
+use Rattle.rma_base.specs.declared.form_reason.FormReason.{FormReason}
+use Rattle.rma_base.specs.declared.form_reason.FormReason.TheVariants.{MissingEnd}
+use Rattle.rma_parse.specs.declared.event.Stated.{Stated}
 use Rattle.rma_parse.specs.Lines.{reading}
 use Rattle.rma_book.specs.Calls.{Entry, events_of, end_line}
 use Rattle.rma_book.specs.Judging.{reason_of}
-use Rattle.rma_book.specs.declared.faults.FormFault.{FormFault}
+use Rattle.rma_book.specs.declared.fault.FormFault.{FormFault}
 
 -- what is known of a line by itself: its text, or why it has none
 abbrev pub Checked : Type 0
@@ -32,17 +32,17 @@ entries_from number (line ∷ lines) = entry_of number (says line) ++ entries_fr
 abbrev pub entries : List Checked → List Entry
 entries lines = entries_from 1 lines
 
--- why a line that says this is bad behind these entries, if it is
+-- why a line that says this is bad after these entries, if it is
 abbrev pub judged : ℕ → ℕ → List Entry → Result (Option Stated) FormReason → Option FormReason
 judged rank logs before (Ok None) = None
 judged rank logs before (Ok (Some stated)) = reason_of rank logs (events_of before) stated.event
 judged rank logs before (Err reason) = Some reason
 
--- why a line is bad behind the lines before it, if it is
+-- why a line is bad after the lines before it, if it is
 abbrev pub line_reason : ℕ → ℕ → List Checked → Checked → Option FormReason
 line_reason rank logs before line = judged rank logs (entries before) (says line)
 
--- each line is good behind those before it
+-- each line is good after those before it
 abbrev pub AreGood : ℕ → ℕ → List Checked → Type 0
 AreGood rank logs lines = (k : ℕ) (line : Checked) → slice_get lines k ≡ Some line → line_reason rank logs (take k lines) line ≡ None
 
@@ -55,7 +55,7 @@ pub record IsFirstBad (rank logs : ℕ) (lines : List Checked) (fault : FormFaul
   pub bad : line_reason rank logs (take place lines) line ≡ Some fault.reason
   pub good : AreGood rank logs (take place lines)
 
--- All lines are good, but none is the end, which is missed behind the last.
+-- All lines are good, but none is the end, which is missed after the last.
 pub record LacksEnd (rank logs : ℕ) (lines : List Checked) (fault : FormFault) : Type 0 where
   pub good : AreGood rank logs lines
   pub none : end_line (entries lines) ≡ None

@@ -1,14 +1,20 @@
-//! The log of one rank: which of its events are good, and the calls that they record.
+//! The log of one rank: which of its lines are good, and the calls that they record.
+//!
+//! A [`RankBook`] is fed the log of its rank in pieces of any size, and its outcome is a [`BookEnd`]: the calls of the rank,
+//! or the first bad line, a [`FormFault`]. Inside it a cutter gives the lines, a reader what they state, and a [`Book`] judges
+//! each event with those before it, by what the event says of names and ranks ([`naming`] takes that from the event, and is the
+//! one place where the forms of lines are told apart).
+//!
+//! [`naming`]: naming.rt
 #![tactic(auto)]
 
-pub mod books;
-pub mod faults;
-mod lasting_line;
-mod lasting_lines;
+mod book;
+mod fault;
 pub mod laws;
-pub mod rank_books;
-mod readers;
-mod recalls;
-pub mod statements;
-#[cfg(test)]
-mod tests;
+mod naming;
+mod rank_book;
+mod reader;
+
+pub use book::Book;
+pub use fault::{BookEnd, FormFault};
+pub use rank_book::RankBook;

@@ -1,0 +1,4 @@
+pub mod Names
+pub mod BookState
+pub mod Reading
+pub mod RankState

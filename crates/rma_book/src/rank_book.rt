@@ -1,0 +1,90 @@
+//! The log of one rank, as its bytes come.
+ghost use Rattle.std.specs.Prelude.{◌≡◌, ℕ, ◌+◌, ◌≤◌, List, [], ◌++◌, length, IfOk, OnOk, false};
+ghost use Rattle.rma_lex.specs.Checked.{checked_lines};
+ghost use Rattle.rma_lex.specs.Line.{lines};
+ghost use Rattle.rma_book.specs.Ends.{IsEnd};
+ghost use Rattle.rma_book.specs.inside.RankState.{Represents};
+
+use crate::fault::BookEnd;
+use crate::reader::{Reader, read_lines};
+use rma_base::limits::{FED, LINE};
+use rma_base::{LineNo, Memory, Rank};
+use rma_lex::LineCutter;
+use std::alloc::Global;
+use std::marker::Model;
+
+/// The log of one rank: the book of its good lines, its first bad line, and the rest that is no whole line yet.
+#[derive(Drop)]
+pub struct RankBook {
+    cutter: LineCutter,
+    reader: Reader,
+}
+
+impl Model for RankBook {
+    ghost use Rattle.rma_book.specs.inside.RankState.{RankState};
+
+    ghost Value = { RankState };
+
+    ghost view = { λ log. record { text = log.cutter; book = log.reader.book; fault = log.reader.fault } };
+}
+
+impl RankBook {
+    /// The book of a rank among so many logs, which was fed nothing.
+    pub fn new(alloc: Global, rank: Rank, logs: u32) -> Result<RankBook, Memory>
+        ensures { IfOk result (λ log. Represents rank.0 logs log []) }
+    {
+        Ok(RankBook {
+            cutter: LineCutter::new(alloc),
+            reader: Reader::new(alloc, rank, logs)?,
+        })
+    }
+
+    /// How many bytes it was fed.
+    pub fn fed(&self) -> u64
+        ensures fed { result ≡ self.now.text.fed }
+        ensures limit { result ≤ FED }
+    {
+        self.cutter.fed()
+    }
+
+    /// Reads the next piece of the log.
+    ///
+    /// # Errors
+    ///
+    /// `Memory` where memory ran out: the book no longer represents what it was fed.
+    pub fn feed(&mut self, piece: &[u8]) -> Result<(), Memory>
+        requires goes_on { self.old.text.closed ≡ false }
+        requires fits { self.old.text.fed + length piece.now ≤ FED }
+        ensures text { OnOk result ((rank logs : ℕ) (bytes : List ℕ) → Represents rank logs self.old bytes → Represents rank logs self.new (bytes ++ piece.now)) }
+        ensures fed { OnOk result (self.new.text.fed ≡ self.old.text.fed + length piece.now) }
+        ensures kept { OnOk result (length self.new.text.rest ≤ LINE + 1) }
+        ensures open { self.new.text.closed ≡ false }
+    {
+        self.cutter.feed(piece)?;
+        read_lines(&mut self.cutter, &mut self.reader)?;
+        self.cutter.shorten();
+        Ok(())
+    }
+
+    /// How many lines the log has so far, a last one without a line feed too.
+    pub fn lines(&self) -> u32
+        ensures text { (rank logs : ℕ) (bytes : List ℕ) → Represents rank logs self.now bytes → result ≡ length (lines bytes) }
+        ensures bound { result ≤ FED }
+    {
+        self.cutter.lines()
+    }
+
+    /// The log has ended: its calls, or its first bad line.
+    ///
+    /// # Errors
+    ///
+    /// `Memory` where memory ran out.
+    pub fn end(mut self) -> Result<BookEnd, Memory>
+        ensures { IfOk result (λ end. (rank logs : ℕ) (bytes : List ℕ) → Represents rank logs self bytes → IsEnd rank logs (checked_lines bytes) end) }
+    {
+        self.cutter.close();
+        read_lines(&mut self.cutter, &mut self.reader)?;
+        let after = LineNo(self.cutter.lines() + 1);
+        Ok(self.reader.end(after))
+    }
+}
