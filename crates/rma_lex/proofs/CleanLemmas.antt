@@ -12,11 +12,11 @@ use Rattle.std.proofs.lemmas.List.Folds.{list_all_at}
 use Rattle.std.proofs.lemmas.Nat.Bits.{bit_at_or, bit_at_and, bit_at_ones, same_from_bits_below}
 use Rattle.std.proofs.lemmas.Simd.{length-chunk, length-zip2, length-replicate, get_or-chunk, bit_mask_l, mask_l-mod, tops_compared, zip2_splat_left}
 use Rattle.std.proofs.Math.ListN.{get_or-map}
-use Rattle.rma_lex.specs.Clean.{is_clean_byte, IsClean, MarksClean}
-use Rattle.rma_lex.specs.Feeds.{IsLineAt}
-use Rattle.rma_lex.specs.Found.{Knows}
-use Rattle.rma_lex.specs.Texts.{is_text_byte}
-use Rattle.rma_lex.specs.declared.line_feeds.LineFeeds.{LineFeeds}
+use Rattle.rma_lex.specs.inside.Clean.{is_clean_byte, IsClean, MarksClean}
+use Rattle.rma_lex.specs.inside.LineFeed.{IsLineAt}
+use Rattle.rma_lex.specs.inside.Found.{Knows}
+use Rattle.rma_lex.specs.Text.{is_text_byte}
+use Rattle.rma_lex.specs.declared.line_feed.LineFeeds.{LineFeeds}
 use Rattle.rma_lex.proofs.FeedLemmas.{cond_one}
 
 -- `to_bitmask` of the comparison of a splat with bytes
@@ -50,11 +50,11 @@ min_and false true = refl
 min_and false false = refl
 
 -- the masks of the four tests make that of the clean bytes
-pub MarksClean-masks : (text : List ℕ) (from tabs from_space to_tilde feeds : ℕ) → from + 64 ≤ length text
+pub MarksClean_masks : (text : List ℕ) (from tabs from_space to_tilde feeds : ℕ) → from + 64 ≤ length text
     → tabs ≡ mask_l (map (λ x. eqb x 9) (chunk from 64 text)) → from_space ≡ mask_l (map (λ x. leb 32 x) (chunk from 64 text))
     → to_tilde ≡ mask_l (map (λ x. leb x 126) (chunk from 64 text)) → feeds ≡ mask_l (map (λ x. eqb x 10) (chunk from 64 text))
     → MarksClean text from (bit_or (bit_or tabs (bit_and from_space to_tilde)) feeds)
-MarksClean-masks text from tabs from_space to_tilde feeds within tab space tilde feed k below =
+MarksClean_masks text from tabs from_space to_tilde feeds within tab space tilde feed k below =
     let x = get_or text (from + k) 0 in
     let bit = λ (p : ℕ → Bool) (mask : ℕ) (is : mask ≡ mask_l (map p (chunk from 64 text))). ap (λ m. bit_at m k) is ∙ bit_of p text from k within below in
     let printable : bit_at (bit_and from_space to_tilde) k ≡ cond (leb 32 x && leb x 126) 1 0 =
@@ -73,44 +73,44 @@ MarksClean-masks text from tabs from_space to_tilde feeds within tab space tilde
 
 module _ (text : List ℕ) (from mask : ℕ) (marks : MarksClean text from mask) where
   -- all bits are set where all bytes are clean
-  pub IsClean-full : mask ≡ 2 ^ 64 - 1 → IsClean text from (from + 64)
-  IsClean-full full place low high =
+  pub IsClean_full : mask ≡ 2 ^ 64 - 1 → IsClean text from (from + 64)
+  IsClean_full full place low high =
       let below : place - from < 64 = omega arith in
       let there : from + (place - from) ≡ place = omega arith in
       ap (λ i. is_clean_byte (get_or text i 0)) (sym there) ∙ (marks (place - from) below).0 (ap (λ m. bit_at m (place - from)) full ∙ bit_at_ones 64 (place - from) below)
 
-  pub full-IsClean : mask < 2 ^ 64 → IsClean text from (from + 64) → mask ≡ 2 ^ 64 - 1
-  full-IsClean small clean =
+  pub full_IsClean : mask < 2 ^ 64 → IsClean text from (from + 64) → mask ≡ 2 ^ 64 - 1
+  full_IsClean small clean =
       same_from_bits_below 64 mask (2 ^ 64 - 1) small (omega arith) (λ k below.
       (marks k below).1 (clean (from + k) (omega arith) (omega arith)) ∙ sym (bit_at_ones 64 k below))
 
-list_all-get_or : (p : ℕ → Bool) (xs : List ℕ) (i : ℕ) → list_all p xs ≡ true → i < length xs → p (get_or xs i 0) ≡ true
-list_all-get_or p xs i all within =
+list_all_get_or : (p : ℕ → Bool) (xs : List ℕ) (i : ℕ) → list_all p xs ≡ true → i < length xs → p (get_or xs i 0) ≡ true
+list_all_get_or p xs i all within =
     ⊎_elim (λ (yes : p (get_or xs i 0) ≡ true). yes) (λ (no : p (get_or xs i 0) ≡ false). absurd (false≢true (sym (list_all_at p xs i 0 within no) ∙ all))) (cases_Bool (p (get_or xs i 0)))
 
 -- the rest of a text, byte by byte
-pub IsClean-rest : (text : List ℕ) (from : ℕ) → list_all is_clean_byte (take (length text - from) (drop from text)) ≡ true → IsClean text from (length text)
-IsClean-rest text from all place low high =
+pub IsClean_rest : (text : List ℕ) (from : ℕ) → list_all is_clean_byte (take (length text - from) (drop from text)) ≡ true → IsClean text from (length text)
+IsClean_rest text from all place low high =
     let rest = ap (list_all is_clean_byte) (sym (take_rest text from)) ∙ all in
     let there : from + (place - from) ≡ place = omega arith in
     ap (λ i. is_clean_byte (get_or text i 0)) (sym there) ∙ sym (ap is_clean_byte (get_or-drop from text (place - from) 0))
-    ∙ list_all-get_or is_clean_byte (drop from text) (place - from) rest (omega (arith, length-drop from text))
+    ∙ list_all_get_or is_clean_byte (drop from text) (place - from) rest (omega (arith, length-drop from text))
 
 text_byte : (byte : ℕ) → is_clean_byte byte ≡ true → byte ≢ 10 → is_text_byte byte ≡ true
 text_byte byte clean other = ⊎_elim (λ (yes : is_text_byte byte ≡ true). yes)
     (λ (no : is_text_byte byte ≡ false). absurd (other (eqb-true byte 10 (rw no at clean)))) (cases_Bool (is_text_byte byte))
 
--- a line behind the doubtful place has the bytes of a text alone
+-- a line after the doubtful place has the bytes of a text alone
 pub clean_line : (feeds : LineFeeds) (items shown : List ℕ) (start end : ℕ) (closed : Bool) → Knows feeds items → shown ≡ items → IsLineAt items closed start end feeds.start
     → leb feeds.doubtful start ≡ true → list_all is_text_byte (take (end - start) (drop start shown)) ≡ true
-clean_line feeds items shown start end closed knows reads is behind =
+clean_line feeds items shown start end closed knows reads is after =
     let line = take (end - start) (drop start shown) in
     list_all-from_AllPass is_text_byte line (All-from_get_or (λ x. is_text_byte x ≡ true) line 0 (λ i within.
     let below : i < end - start = omega (arith, length-take (end - start) (drop start shown)) in
     let at : get_or line i 0 ≡ get_or items (start + i) 0 =
     get_or-take (end - start) (drop start shown) i 0 below ∙ get_or-drop start shown i 0 ∙ ap (λ t. get_or t (start + i) 0) reads in
     ap is_text_byte at
-    ∙ text_byte (get_or items (start + i) 0) (knows.clean (start + i) (omega (arith, leb-true feeds.doubtful start behind)) (omega (arith, searched)))
+    ∙ text_byte (get_or items (start + i) 0) (knows.clean (start + i) (omega (arith, leb-true feeds.doubtful start after)) (omega (arith, searched)))
     (is.no_line_feed (start + i) (omega arith) (omega arith))))
   where
     searched : end ≤ feeds.seen

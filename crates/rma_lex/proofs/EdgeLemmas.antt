@@ -5,12 +5,12 @@ use Rattle.std.specs.Int.{bit_at}
 use Rattle.std.proofs.lemmas.Bool.{cases_lt, cases_eq}
 use Rattle.std.proofs.lemmas.List.{get_or_past}
 use Rattle.std.proofs.lemmas.Nat.Bits.{bit_at_or, bit_at_and, bit_at_xor, bit_at_lowest, bit_at-zero, bit_at_above, ones_shl, bit_at_mask_inside, bit_at_mask_below, bit_at-lt, shr_and_one}
-use Rattle.rma_lex.specs.Blanks.{blank_bit, MarksBlanks}
-use Rattle.rma_lex.specs.declared.edges.Edges.{Edges}
-use Rattle.rma_lex.specs.Edges.{IsEdge, IsNextEdge, MarksEdges}
-use Rattle.rma_lex.specs.Fields.{is_blank}
-use Rattle.rma_lex.specs.Masks.{IsLowestBit, DropsBit}
-use Rattle.rma_lex.specs.Reached.{Reaches}
+use Rattle.rma_lex.specs.inside.Blank.{blank_bit, MarksBlanks}
+use Rattle.rma_lex.specs.declared.edge.Edges.{Edges}
+use Rattle.rma_lex.specs.inside.Edge.{IsEdge, IsNextEdge, MarksEdges}
+use Rattle.rma_lex.specs.Field.{is_blank}
+use Rattle.rma_lex.specs.inside.Mask.{IsLowestBit, DropsBit}
+use Rattle.rma_lex.specs.inside.Reached.{Reaches}
 use Rattle.rma_lex.proofs.BlankLemmas.{bit_at_shl_high, bit_at_shl_low}
 
 pub one_where_true : (b : Bool) → bool_byte b ≡ cond b 1 0
@@ -44,10 +44,10 @@ differ true false = (λ e same. omega arith, λ ne. refl)
 differ false true = (λ e same. omega arith, λ ne. refl)
 differ false false = (λ e. absurd (omega arith), λ ne. absurd (ne refl))
 
--- no edge is behind the end of the line
+-- no edge is after the end of the line
 pub edge_within : (line : List ℕ) (at : ℕ) → IsEdge line at → at ≤ length line
 edge_within line at edge =
-    ⊎_elim (λ (behind : length line < at).
+    ⊎_elim (λ (after : length line < at).
     absurd (edge (ap (λ byte. cond (is_blank byte) 1 0) (get_or_past line (at - 1) 32 (omega arith) ∙ sym (get_or_past line at 32 (omega arith))))))
     (λ (within : at ≤ length line). within) (cases_lt (length line) at)
 
@@ -72,14 +72,14 @@ module _ (line : List ℕ) (from blanks before edges : ℕ) (marks : MarksBlanks
         λ edge. edge_bit k below ∙ tells.1 edge,
       )
 
-  pub MarksEdges-all : MarksEdges line from 0 edges
-  MarksEdges-all k below = (
+  pub MarksEdges_all : MarksEdges line from 0 edges
+  MarksEdges_all k below = (
     λ set. (omega arith, (edge_at k below).0 set),
     λ there. (edge_at k below).1 there.1,
   )
 
-  pub MarksEdges-skipped : (skipped : ℕ) → skipped < 64 → MarksEdges line from skipped (bit_and edges ((2 ^ 64 - 1) * 2 ^ skipped % 2 ^ 64))
-  MarksEdges-skipped skipped some k below =
+  pub MarksEdges_skipped : (skipped : ℕ) → skipped < 64 → MarksEdges line from skipped (bit_and edges ((2 ^ 64 - 1) * 2 ^ skipped % 2 ^ 64))
+  MarksEdges_skipped skipped some k below =
       let kept = bit_at_and edges ((2 ^ 64 - 1) * 2 ^ skipped % 2 ^ 64) k in
       let high = ap (λ m. bit_at m k) (ones_shl 64 skipped (omega arith)) in (
         λ set.
@@ -91,8 +91,8 @@ module _ (line : List ℕ) (from blanks before edges : ℕ) (marks : MarksBlanks
 
 -- ---- what was found
 -- at the front of the line, once its first bytes are searched
-pub Reaches-front : (line : List ℕ) (edges : Edges) → edges.line.now ≡ line → edges.place ≡ 0 → edges.base ≡ 0 → MarksEdges line 0 0 edges.mask → Reaches edges
-Reaches-front line edges is place base marks =
+pub Reaches_front : (line : List ℕ) (edges : Edges) → edges.line.now ≡ line → edges.place ≡ 0 → edges.base ≡ 0 → MarksEdges line 0 0 edges.mask → Reaches edges
+Reaches_front line edges is place base marks =
     record {
       placed = omega arith;
       within = omega arith;
@@ -108,9 +108,9 @@ Reaches-front line edges is place base marks =
 
 module _ (edges : Edges) (reaches : Reaches edges) where
   -- with nothing marked, the edges of the next bytes are all
-  pub Reaches-search : (next : Edges) → next.line.now ≡ edges.line.now → next.place ≡ edges.place → edges.mask ≡ 0 → edges.base + 64 < length edges.line.now
+  pub Reaches_search : (next : Edges) → next.line.now ≡ edges.line.now → next.place ≡ edges.place → edges.mask ≡ 0 → edges.base + 64 < length edges.line.now
       → edges.base < next.base → next.base ≤ edges.base + 64 → next.base ≤ length edges.line.now → MarksEdges edges.line.now next.base (edges.base + 64 - next.base) next.mask → Reaches next
-  Reaches-search next is place empty more low high within marks =
+  Reaches_search next is place empty more low high within marks =
       let near : edges.place < edges.base + 64 =
       ⊎_elim (λ (before : edges.place < edges.base + 64). before) (λ (ended : length edges.line.now ≤ edges.base + 64). absurd (omega arith)) reaches.near in record {
         placed = omega (arith, ap length is, reaches.placed);
@@ -121,17 +121,17 @@ module _ (edges : Edges) (reaches : Reaches edges) where
             let seen : edges.base + 64 ≤ at =
             ⊎_elim (λ (before : at < edges.base + 64). absurd (
             let mark = reaches.all at (omega arith) before there in
-            omega (arith, mark.1, bit_at-zero (at - edges.base), ap (λ m. bit_at m (at - edges.base)) empty))) (λ (behind : edges.base + 64 ≤ at). behind) (cases_lt at (edges.base + 64)) in
+            omega (arith, mark.1, bit_at-zero (at - edges.base), ap (λ m. bit_at m (at - edges.base)) empty))) (λ (after : edges.base + 64 ≤ at). after) (cases_lt at (edges.base + 64)) in
             (omega arith, (marks (at - next.base) (omega arith)).1 (omega arith, subst (λ i. IsEdge edges.line.now i) (omega arith) there));
         only = λ k below set.
             let there = (marks k below).0 set in
             (omega (arith, there.0), subst (λ l. IsEdge l (next.base + k)) (sym is) there.1);
       }
 
-  -- the lowest mark is the next edge, and the other marks are those behind it
+  -- the lowest mark is the next edge, and the other marks are those after it
   module _ (low left : ℕ) (bound : low < 64) (lowest : IsLowestBit edges.mask low) (drops : DropsBit edges.mask low left) where
-    pub IsNextEdge-lowest : IsNextEdge edges.line.now edges.place (edges.base + low)
-    IsNextEdge-lowest =
+    pub IsNextEdge_lowest : IsNextEdge edges.line.now edges.place (edges.base + low)
+    IsNextEdge_lowest =
         let here = reaches.only low bound lowest.set in
         record {
           low = omega (arith, here.0);
@@ -142,8 +142,8 @@ module _ (edges : Edges) (reaches : Reaches edges) where
           edge = λ _. here;
         }
 
-    pub Reaches-next : (next : Edges) → next.line.now ≡ edges.line.now → next.place ≡ edges.base + low → next.base ≡ edges.base → next.mask ≡ left → Reaches next
-    Reaches-next next is place base mask =
+    pub Reaches_next : (next : Edges) → next.line.now ≡ edges.line.now → next.place ≡ edges.base + low → next.base ≡ edges.base → next.mask ≡ left → Reaches next
+    Reaches_next next is place base mask =
         let here = reaches.only low bound lowest.set in
         record {
           placed = omega (arith, place, ap length is, edge_within edges.line.now (edges.base + low) here.1);

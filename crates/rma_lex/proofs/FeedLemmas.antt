@@ -7,11 +7,11 @@ use Rattle.std.proofs.lemmas.List.{length-append, length-drop, get_or-drop, get_
 use Rattle.std.proofs.lemmas.Nat.Bits.{bit_at-trailing_zeros, bit_at-zero, bit_at_set_same, bit_at_set_other}
 use Rattle.std.proofs.lemmas.Simd.{length-chunk, get_or-chunk, bit_mask_l}
 use Rattle.std.proofs.Math.ListN.{get_or-map}
-use Rattle.rma_lex.specs.declared.line_feeds.LineFeeds.{LineFeeds}
-use Rattle.rma_lex.specs.Feeds.{NoFeed, IsFirstFeed, MarksFeeds}
-use Rattle.rma_lex.specs.Clean.{is_clean_byte, IsClean}
-use Rattle.rma_lex.specs.Found.{Knows}
-use Rattle.rma_lex.specs.Masks.{IsLowestBit, DropsBit}
+use Rattle.rma_lex.specs.declared.line_feed.LineFeeds.{LineFeeds}
+use Rattle.rma_lex.specs.inside.LineFeed.{NoFeed, IsFirstFeed, MarksFeeds}
+use Rattle.rma_lex.specs.inside.Clean.{is_clean_byte, IsClean}
+use Rattle.rma_lex.specs.inside.Found.{Knows}
+use Rattle.rma_lex.specs.inside.Mask.{IsLowestBit, DropsBit}
 
 -- no bit of an empty mask is set
 unset : (mask k : ℕ) → mask ≡ 0 → bit_at mask k ≡ 1 → ⊥
@@ -19,34 +19,34 @@ unset mask k empty set = omega (arith, bit_at-zero k, ap (λ m. bit_at m k) empt
 
 module _ (feeds : LineFeeds) (text : List ℕ) (knows : Knows feeds text) where
   -- with nothing marked there is no line feed in what was searched
-  pub NoFeed-unmarked : feeds.mask ≡ 0 → NoFeed text feeds.start feeds.seen
-  NoFeed-unmarked empty place low high feed = unset feeds.mask _ empty (knows.all place low high feed).1
+  pub NoFeed_unmarked : feeds.mask ≡ 0 → NoFeed text feeds.start feeds.seen
+  NoFeed_unmarked empty place low high feed = unset feeds.mask _ empty (knows.all place low high feed).1
 
   -- with nothing marked, the line feeds of what comes next are all
-  pub Knows-block : (to mask doubtful : ℕ) → feeds.mask ≡ 0 → feeds.seen ≤ to → to ≤ length text → MarksFeeds text feeds.seen to mask → IsClean text doubtful to
-      → Knows (record { start = feeds.start; doubtful = doubtful; checks = feeds.checks; seen = to; base = feeds.seen; mask = mask }) text
-  Knows-block to mask doubtful empty ordered within marks clean = record {
+  pub Knows_block : (to mask doubtful : ℕ) → feeds.mask ≡ 0 → feeds.seen ≤ to → to ≤ length text → MarksFeeds text feeds.seen to mask → IsClean text doubtful to
+      → Knows (record { start = feeds.start; doubtful = doubtful; seen = to; base = feeds.seen; mask = mask }) text
+  Knows_block to mask doubtful empty ordered within marks clean = record {
     started = omega (arith, knows.started);
     within = within;
     all = λ place low high feed.
-        ⊎_elim (λ before. absurd (NoFeed-unmarked empty place low before feed)) (λ from.
+        ⊎_elim (λ before. absurd (NoFeed_unmarked empty place low before feed)) (λ from.
         let e : feeds.seen + (place - feeds.seen) ≡ place = omega arith in
         (from, (marks (place - feeds.seen)).1 (omega arith, ap (λ k. get_or text k 0) e ∙ feed))) (cases_lt place feeds.seen);
     only = λ k set. let there = (marks k).0 set in (omega (arith, knows.started), there.0, there.1);
     clean = clean;
   }
 
-  -- what was searched is clean from the doubtful place on, and so is what comes next, or the doubtful place is behind it
-  pub IsClean-searched : (to doubtful : ℕ) → ((doubtful ≡ feeds.doubtful) × IsClean text feeds.seen to) ⊎ (doubtful ≡ to) → IsClean text doubtful to
-  IsClean-searched to doubtful cases place low high = ⊎_elim
+  -- what was searched is clean from the doubtful place on, and so is what comes next, or the doubtful place is after it
+  pub IsClean_searched : (to doubtful : ℕ) → ((doubtful ≡ feeds.doubtful) × IsClean text feeds.seen to) ⊎ (doubtful ≡ to) → IsClean text doubtful to
+  IsClean_searched to doubtful cases place low high = ⊎_elim
       (λ (same : (doubtful ≡ feeds.doubtful) × IsClean text feeds.seen to).
       ⊎_elim (λ before. knows.clean place (omega (arith, same.0)) before) (λ from. same.1 place from high) (cases_lt place feeds.seen))
-      (λ (behind : doubtful ≡ to). absurd (omega arith)) cases
+      (λ (after : doubtful ≡ to). absurd (omega arith)) cases
 
   module _ (low left : ℕ) (lowest : IsLowestBit feeds.mask low) (drops : DropsBit feeds.mask low left) where
     -- the lowest mark is the first line feed
-    pub IsFirstFeed-lowest : IsFirstFeed text feeds.start (feeds.base + low)
-    IsFirstFeed-lowest =
+    pub IsFirstFeed_lowest : IsFirstFeed text feeds.start (feeds.base + low)
+    IsFirstFeed_lowest =
         let here = knows.only low lowest.set in
         record {
           low = here.0;
@@ -57,9 +57,9 @@ module _ (feeds : LineFeeds) (text : List ℕ) (knows : Knows feeds text) where
               omega (arith, mark.1, mark.0, lowest.below (place - feeds.base) (omega (arith, mark.0)));
         }
 
-    -- behind it the other marks are those of what is left
-    pub Knows-next : Knows (record { start = feeds.base + low + 1; doubtful = feeds.doubtful; checks = feeds.checks; seen = feeds.seen; base = feeds.base; mask = left }) text
-    Knows-next =
+    -- after it the other marks are those of what is left
+    pub Knows_next : Knows (record { start = feeds.base + low + 1; doubtful = feeds.doubtful; seen = feeds.seen; base = feeds.base; mask = left }) text
+    Knows_next =
         let here = knows.only low lowest.set in
         record {
           started = omega (arith, here.1);
@@ -84,8 +84,8 @@ module _ (feeds : LineFeeds) (text : List ℕ) (knows : Knows feeds text) where
       none (feeds.base + trailing_zeros w64 feeds.mask) here.0 (omega (arith, here.1, knows.within)) here.2
 
   -- at the end nothing is left
-  pub Knows-end : feeds.mask ≡ 0 → feeds.seen ≡ length text → Knows (record feeds { start = length text }) text
-  Knows-end empty ended = record {
+  pub Knows_end : feeds.mask ≡ 0 → feeds.seen ≡ length text → Knows (record feeds { start = length text }) text
+  Knows_end empty ended = record {
     started = omega (arith, ended);
     within = knows.within;
     all = λ place low high feed. absurd (omega (arith, ended));
@@ -94,8 +94,8 @@ module _ (feeds : LineFeeds) (text : List ℕ) (knows : Knows feeds text) where
   }
 
   -- a longer text has them where they are
-  pub Knows-append : (more : List ℕ) → Knows feeds (text ++ more)
-  Knows-append more = record {
+  pub Knows_append : (more : List ℕ) → Knows feeds (text ++ more)
+  Knows_append more = record {
     started = knows.started;
     within = omega (arith, knows.within, length-append text more);
     all = λ place low high feed. knows.all place low high (sym (get_or_append_left text more 0 place (omega (arith, knows.within))) ∙ feed);
@@ -107,14 +107,14 @@ module _ (feeds : LineFeeds) (text : List ℕ) (knows : Knows feeds text) where
   }
 
   -- what was searched with nothing marked, once the text before the start is dropped
-  pub Knows-drop : (seen base : ℕ) → (seen ≡ 0) ⊎ ((feeds.mask ≡ 0) × (seen ≡ feeds.seen - feeds.start))
-      → Knows (record { start = 0; doubtful = feeds.doubtful - feeds.start; checks = feeds.checks; seen = seen; base = base; mask = 0 }) (drop feeds.start text)
-  Knows-drop seen base cases = record {
+  pub Knows_drop : (seen base : ℕ) → (seen ≡ 0) ⊎ ((feeds.mask ≡ 0) × (seen ≡ feeds.seen - feeds.start))
+      → Knows (record { start = 0; doubtful = feeds.doubtful - feeds.start; seen = seen; base = base; mask = 0 }) (drop feeds.start text)
+  Knows_drop seen base cases = record {
     started = omega arith;
     within = ⊎_elim (λ e. omega arith) (λ e. omega (arith, e.1, knows.within, length-drop feeds.start text)) cases;
     all = λ place low high feed.
         absurd (⊎_elim (λ e. omega (arith, e)) (λ e.
-        NoFeed-unmarked e.0 (feeds.start + place) (omega arith) (omega (arith, e.1, knows.started)) (sym (get_or-drop feeds.start text place 0) ∙ feed)) cases);
+        NoFeed_unmarked e.0 (feeds.start + place) (omega arith) (omega (arith, e.1, knows.started)) (sym (get_or-drop feeds.start text place 0) ∙ feed)) cases);
     only = λ k set. absurd (unset 0 k (omega arith) set);
     clean = λ place low high.
         ap is_clean_byte (get_or-drop feeds.start text place 0)
@@ -126,8 +126,8 @@ cond_one true e = refl
 cond_one false e = absurd (omega arith)
 
 -- the mask of a comparison of 64 bytes with the line feed
-pub MarksFeeds-mask : (text : List ℕ) (from : ℕ) → from + 64 ≤ length text → MarksFeeds text from (from + 64) (mask_l (map (λ x. eqb x 10) (chunk from 64 text)))
-MarksFeeds-mask text from within k =
+pub MarksFeeds_mask : (text : List ℕ) (from : ℕ) → from + 64 ≤ length text → MarksFeeds text from (from + 64) (mask_l (map (λ x. eqb x 10) (chunk from 64 text)))
+MarksFeeds_mask text from within k =
     let lanes = chunk from 64 text in
     let long = length-chunk from 64 text within in
     let reads : bit_at (mask_l (map (λ x. eqb x 10) lanes)) k ≡ cond (eqb (get_or lanes k 0) 10) 1 0 =
@@ -142,8 +142,8 @@ MarksFeeds-mask text from within k =
 
 module _ (text : List ℕ) (from k mask : ℕ) (marks : MarksFeeds text from (from + k) mask) where
   -- one byte more, which is a line feed
-  pub MarksFeeds-more : (to : ℕ) → to ≡ from + (k + 1) → k < 64 → get_or text (from + k) 0 ≡ 10 → MarksFeeds text from to (bit_or mask (1 * 2 ^ k % 2 ^ 64))
-  MarksFeeds-more to at short feed j = (
+  pub MarksFeeds_more : (to : ℕ) → to ≡ from + (k + 1) → k < 64 → get_or text (from + k) 0 ≡ 10 → MarksFeeds text from to (bit_or mask (1 * 2 ^ k % 2 ^ 64))
+  MarksFeeds_more to at short feed j = (
     λ set.
         ⊎_elim (λ e. (omega arith, ap (λ i. get_or text (from + i) 0) e ∙ feed)) (λ ne.
         let there = (marks j).0 (sym (bit_at_set_other w64 mask k short j ne) ∙ set) in
@@ -154,8 +154,8 @@ module _ (text : List ℕ) (from k mask : ℕ) (marks : MarksFeeds text from (fr
   )
 
   -- one byte more, which is none
-  pub MarksFeeds-skip : (to : ℕ) → to ≡ from + (k + 1) → get_or text (from + k) 0 ≢ 10 → MarksFeeds text from to mask
-  MarksFeeds-skip to at none j = (
+  pub MarksFeeds_skip : (to : ℕ) → to ≡ from + (k + 1) → get_or text (from + k) 0 ≢ 10 → MarksFeeds text from to mask
+  MarksFeeds_skip to at none j = (
     λ set. let there = (marks j).0 set in (omega (arith, there.0), there.1),
     λ there. ⊎_elim (λ e. absurd (none (ap (λ i. get_or text (from + i) 0) (sym e) ∙ there.1))) (λ ne. (marks j).1 (omega (arith, there.0), there.1)) (cases_eq j k),
   )

@@ -1,4 +1,4 @@
--- The first field of a text, and the fields behind it.
+-- The first field of a text, and the fields after it.
 use Rattle.std.proofs.Common.{◌≡◌, ◌≢◌, ℕ, zero, suc, ◌+◌, ◌-◌, ◌<◌, ◌≤◌, Bool, true, false, not, cond, List, [], ◌∷◌, length, take, drop, get_or, refl, sym, ap, ◌∙◌, ◌⊎◌, ⊎_elim, arith, add-zero}
 use Rattle.std.proofs.Math.Numerals.{one-add}
 use Rattle.std.specs.List.{prefix_len}
@@ -6,67 +6,67 @@ use Rattle.std.proofs.lemmas.Bool.{cases_Bool, cases_eq, cases_lt, false≢true}
 use Rattle.std.proofs.lemmas.List.{length-drop, get_or-drop, get_or_past, drop-drop, drop_more}
 use Rattle.std.proofs.lemmas.List.Sums.{prefix_len_is}
 use Rattle.rma_lex.proofs.FeedLemmas.{cond_one}
-use Rattle.rma_lex.specs.Blanks.{blank_bit}
-use Rattle.rma_lex.specs.Edges.{IsNextEdge}
-use Rattle.rma_lex.specs.Fields.{Field, is_blank, is_field, begins_field, onto_first_field, fields_from, fields}
+use Rattle.rma_lex.specs.inside.Blank.{blank_bit}
+use Rattle.rma_lex.specs.inside.Edge.{IsNextEdge}
+use Rattle.rma_lex.specs.Field.{Field, is_blank, is_field, begins_field, onto_first_field, fields_from, fields}
 
-fields_from-blank : (place b : ℕ) (bs : List ℕ) → is_blank b ≡ true → fields_from place (b ∷ bs) ≡ fields_from (place + 1) bs
-fields_from-blank place b bs blank = rw blank
+fields_from_blank : (place b : ℕ) (bs : List ℕ) → is_blank b ≡ true → fields_from place (b ∷ bs) ≡ fields_from (place + 1) bs
+fields_from_blank place b bs blank = rw blank
 
-fields_from-alone : (place b : ℕ) (bs : List ℕ) → is_blank b ≡ false → begins_field bs ≡ false
+fields_from_alone : (place b : ℕ) (bs : List ℕ) → is_blank b ≡ false → begins_field bs ≡ false
     → fields_from place (b ∷ bs) ≡ record { start = place; text = b ∷ [] } ∷ fields_from (place + 1) bs
-fields_from-alone place b bs here next = rw (here, next)
+fields_from_alone place b bs here next = rw (here, next)
 
-fields_from-joined : (place b : ℕ) (bs : List ℕ) → is_blank b ≡ false → begins_field bs ≡ true
+fields_from_joined : (place b : ℕ) (bs : List ℕ) → is_blank b ≡ false → begins_field bs ≡ true
     → fields_from place (b ∷ bs) ≡ onto_first_field place b (fields_from (place + 1) bs)
-fields_from-joined place b bs here next = rw (here, next)
+fields_from_joined place b bs here next = rw (here, next)
 
-prefix_len-passes : (p : ℕ → Bool) (b : ℕ) (bs : List ℕ) → p b ≡ true → prefix_len p (b ∷ bs) ≡ suc (prefix_len p bs)
-prefix_len-passes p b bs h = rw h (one-add (prefix_len p bs))
+prefix_len_passes : (p : ℕ → Bool) (b : ℕ) (bs : List ℕ) → p b ≡ true → prefix_len p (b ∷ bs) ≡ suc (prefix_len p bs)
+prefix_len_passes p b bs h = rw h (one-add (prefix_len p bs))
 
-prefix_len-fails : (p : ℕ → Bool) (b : ℕ) (bs : List ℕ) → p b ≡ false → prefix_len p (b ∷ bs) ≡ 0
-prefix_len-fails p b bs h = rw h
+prefix_len_fails : (p : ℕ → Bool) (b : ℕ) (bs : List ℕ) → p b ≡ false → prefix_len p (b ∷ bs) ≡ 0
+prefix_len_fails p b bs h = rw h
 
 next_place : (place k : ℕ) → place + 1 + k ≡ place + suc k
 next_place place k = omega arith
 
--- blanks in front are passed over
-pub fields_from-blanks : (place : ℕ) (bs : List ℕ) → fields_from place bs ≡ fields_from (place + prefix_len is_blank bs) (drop (prefix_len is_blank bs) bs)
-fields_from-blanks place [] = refl
-fields_from-blanks place (b ∷ bs) =
+-- blanks at the beginning are passed over
+pub fields_from_blanks : (place : ℕ) (bs : List ℕ) → fields_from place bs ≡ fields_from (place + prefix_len is_blank bs) (drop (prefix_len is_blank bs) bs)
+fields_from_blanks place [] = refl
+fields_from_blanks place (b ∷ bs) =
     ⊎_elim
     (λ (blank : is_blank b ≡ true).
-    rw (prefix_len-passes is_blank b bs blank)
-    (fields_from-blank place b bs blank ∙ fields_from-blanks (place + 1) bs ∙ ap (λ at. fields_from at (drop (prefix_len is_blank bs) bs)) (next_place place (prefix_len is_blank bs))))
-    (λ (field : is_blank b ≡ false). rw (prefix_len-fails is_blank b bs field, add-zero))
+    rw (prefix_len_passes is_blank b bs blank)
+    (fields_from_blank place b bs blank ∙ fields_from_blanks (place + 1) bs ∙ ap (λ at. fields_from at (drop (prefix_len is_blank bs) bs)) (next_place place (prefix_len is_blank bs))))
+    (λ (field : is_blank b ≡ false). rw (prefix_len_fails is_blank b bs field, add-zero))
     (cases_Bool (is_blank b))
 
-field_byte-not : (b : ℕ) → is_field b ≡ true → is_blank b ≡ false
-field_byte-not b h = ⊎_elim (λ (blank : is_blank b ≡ true). absurd (false≢true (rw blank at h))) (λ (field : is_blank b ≡ false). field) (cases_Bool (is_blank b))
+field_byte_not : (b : ℕ) → is_field b ≡ true → is_blank b ≡ false
+field_byte_not b h = ⊎_elim (λ (blank : is_blank b ≡ true). absurd (false≢true (rw blank at h))) (λ (field : is_blank b ≡ false). field) (cases_Bool (is_blank b))
 
--- no byte of a field in front
-prefix_len-no_field : (bs : List ℕ) → begins_field bs ≡ false → prefix_len is_field bs ≡ 0
-prefix_len-no_field [] h = refl
-prefix_len-no_field (b ∷ bs) h = prefix_len-fails is_field b bs h
+-- no byte of a field at the beginning
+prefix_len_no_field : (bs : List ℕ) → begins_field bs ≡ false → prefix_len is_field bs ≡ 0
+prefix_len_no_field [] h = refl
+prefix_len_no_field (b ∷ bs) h = prefix_len_fails is_field b bs h
 
-pub prefix_len-field : (bs : List ℕ) → begins_field bs ≡ true → 0 < prefix_len is_field bs
-prefix_len-field [] h = absurd (false≢true h)
-prefix_len-field (b ∷ bs) h = rw (prefix_len-passes is_field b bs h) (omega arith)
+pub prefix_len_field : (bs : List ℕ) → begins_field bs ≡ true → 0 < prefix_len is_field bs
+prefix_len_field [] h = absurd (false≢true h)
+prefix_len_field (b ∷ bs) h = rw (prefix_len_passes is_field b bs h) (omega arith)
 
--- a field in front, and the fields behind it
-pub fields_from-field : (place : ℕ) (bs : List ℕ) → begins_field bs ≡ true
+-- a field at the beginning, and the fields after it
+pub fields_from_field : (place : ℕ) (bs : List ℕ) → begins_field bs ≡ true
     → fields_from place bs ≡ record { start = place; text = take (prefix_len is_field bs) bs } ∷ fields_from (place + prefix_len is_field bs) (drop (prefix_len is_field bs) bs)
-fields_from-field place [] h = absurd (false≢true h)
-fields_from-field place (b ∷ bs) h =
-    let here = field_byte-not b h in
+fields_from_field place [] h = absurd (false≢true h)
+fields_from_field place (b ∷ bs) h =
+    let here = field_byte_not b h in
     let more = prefix_len is_field bs in
     ⊎_elim
     (λ (next : begins_field bs ≡ true).
-    rw (prefix_len-passes is_field b bs h)
-    (fields_from-joined place b bs here next ∙ ap (onto_first_field place b) (fields_from-field (place + 1) bs next)
+    rw (prefix_len_passes is_field b bs h)
+    (fields_from_joined place b bs here next ∙ ap (onto_first_field place b) (fields_from_field (place + 1) bs next)
     ∙ ap (λ at. record { start = place; text = b ∷ take more bs } ∷ fields_from at (drop more bs)) (next_place place more)))
     (λ (next : begins_field bs ≡ false).
-    rw (prefix_len-passes is_field b bs h, prefix_len-no_field bs next) (fields_from-alone place b bs here next))
+    rw (prefix_len_passes is_field b bs h, prefix_len_no_field bs next) (fields_from_alone place b bs here next))
     (cases_Bool (begins_field bs))
 
 cond_zero : (b : Bool) → cond {A = ℕ} b 1 0 ≡ 0 → b ≡ false
@@ -83,22 +83,22 @@ one_of false ne = absurd (ne refl)
 
 -- from one place of a line up to the next edge
 module _ (line : List ℕ) (from to : ℕ) (next : IsNextEdge line from to) where
-  same_behind : (d : ℕ) → from + d < to → blank_bit line (from + d) ≡ blank_bit line from
-  same_behind zero below = ap (blank_bit line) (omega arith)
-  same_behind (suc d) below =
+  same_after : (d : ℕ) → from + d < to → blank_bit line (from + d) ≡ blank_bit line from
+  same_after zero below = ap (blank_bit line) (omega arith)
+  same_after (suc d) below =
       let no_edge = next.none (from + suc d) (omega arith) below in
       ⊎_elim (λ e. sym e) (λ ne. absurd (no_edge ne)) (cases_eq (blank_bit line (from + suc d - 1)) (blank_bit line (from + suc d)))
-      ∙ ap (blank_bit line) (omega arith) ∙ same_behind d (omega arith)
+      ∙ ap (blank_bit line) (omega arith) ∙ same_after d (omega arith)
 
   -- all bytes are as the first one
   same : (k : ℕ) → k < to - from → blank_bit line (from + k) ≡ blank_bit line from
-  same k below = same_behind k (omega arith)
+  same k below = same_after k (omega arith)
 
   -- and the next one is not
   other : to < length line → blank_bit line to ≢ blank_bit line from
   other more e =
       let edge = next.edge more in
-      edge.1 (ap (blank_bit line) (omega arith) ∙ same_behind (to - 1 - from) (omega (arith, edge.0)) ∙ sym e)
+      edge.1 (ap (blank_bit line) (omega arith) ∙ same_after (to - 1 - from) (omega (arith, edge.0)) ∙ sym e)
 
   at_front : (k : ℕ) → get_or (drop from line) k 32 ≡ get_or line (from + k) 32
   at_front k = get_or-drop from line k 32
@@ -106,31 +106,31 @@ module _ (line : List ℕ) (from to : ℕ) (next : IsNextEdge line from to) wher
   rest_long : length (drop from line) ≡ length line - from
   rest_long = length-drop from line
 
-  behind_run : drop (to - from) (drop from line) ≡ drop to line
-  behind_run = drop-drop (to - from) from line ∙ ap (λ n. drop n line) (omega (arith, next.low))
+  after_run : drop (to - from) (drop from line) ≡ drop to line
+  after_run = drop-drop (to - from) from line ∙ ap (λ n. drop n line) (omega (arith, next.low))
 
   -- a run of blanks is passed over
   module _ (blank : blank_bit line from ≡ 1) where
-    -- behind the blanks a field begins, or the line ends
-    pub field_behind : to < length line → blank_bit line to ≡ 0
-    field_behind more = zero_of (is_blank (get_or line to 32)) (λ one. other more (one ∙ sym blank))
+    -- after the blanks a field begins, or the line ends
+    pub field_after : to < length line → blank_bit line to ≡ 0
+    field_after more = zero_of (is_blank (get_or line to 32)) (λ one. other more (one ∙ sym blank))
 
     blanks_are : prefix_len is_blank (drop from line) ≡ to - from
     blanks_are =
         prefix_len_is is_blank (drop from line) (to - from) 32 (omega (arith, rest_long, next.high))
         (λ k below. cond_one _ (ap (λ byte. cond (is_blank byte) 1 0) (at_front k) ∙ same k below ∙ blank))
-        (λ more. cond_zero _ (ap (λ byte. cond (is_blank byte) 1 0) (at_front (to - from)) ∙ ap (blank_bit line) (omega (arith, next.low)) ∙ field_behind (omega (arith, more, rest_long, next.low))))
+        (λ more. cond_zero _ (ap (λ byte. cond (is_blank byte) 1 0) (at_front (to - from)) ∙ ap (blank_bit line) (omega (arith, next.low)) ∙ field_after (omega (arith, more, rest_long, next.low))))
 
-    pub fields_from-passed : fields_from from (drop from line) ≡ fields_from to (drop to line)
-    fields_from-passed =
-        fields_from-blanks from (drop from line) ∙ ap (λ n. fields_from (from + n) (drop n (drop from line))) blanks_are
-        ∙ ap (λ n. fields_from n (drop (to - from) (drop from line))) (omega (arith, next.low)) ∙ ap (fields_from to) behind_run
+    pub fields_from_passed : fields_from from (drop from line) ≡ fields_from to (drop to line)
+    fields_from_passed =
+        fields_from_blanks from (drop from line) ∙ ap (λ n. fields_from (from + n) (drop n (drop from line))) blanks_are
+        ∙ ap (λ n. fields_from n (drop (to - from) (drop from line))) (omega (arith, next.low)) ∙ ap (fields_from to) after_run
 
   -- a run of other bytes is a field
   module _ (within : from < length line) (field : blank_bit line from ≡ 0) where
-    -- behind the field a blank stands, or the line ends
-    pub blank_behind : blank_bit line to ≡ 1
-    blank_behind =
+    -- after the field a blank stands, or the line ends
+    pub blank_after : blank_bit line to ≡ 1
+    blank_after =
         ⊎_elim (λ (more : to < length line). one_of (is_blank (get_or line to 32)) (λ none. other more (none ∙ sym field)))
         (λ (ended : length line ≤ to). ap (λ byte. cond (is_blank byte) 1 0) (get_or_past line to 32 ended)) (cases_lt to (length line))
 
@@ -138,41 +138,41 @@ module _ (line : List ℕ) (from to : ℕ) (next : IsNextEdge line from to) wher
     field_is =
         prefix_len_is is_field (drop from line) (to - from) 32 (omega (arith, rest_long, next.high))
         (λ k below. ap not (cond_zero _ (ap (λ byte. cond (is_blank byte) 1 0) (at_front k) ∙ same k below ∙ field)))
-        (λ more. ap not (cond_one _ (ap (λ byte. cond (is_blank byte) 1 0) (at_front (to - from)) ∙ ap (blank_bit line) (omega (arith, next.low)) ∙ blank_behind)))
+        (λ more. ap not (cond_one _ (ap (λ byte. cond (is_blank byte) 1 0) (at_front (to - from)) ∙ ap (blank_bit line) (omega (arith, next.low)) ∙ blank_after)))
 
     begins : begins_field (drop from line) ≡ true
     begins = ap begins_field (drop_more line from 32 within) ∙ ap not (cond_zero _ field)
 
-    pub fields_from-taken : fields_from from (drop from line) ≡ record { start = from; text = take (to - from) (drop from line) } ∷ fields_from to (drop to line)
-    fields_from-taken =
-        fields_from-field from (drop from line) begins
+    pub fields_from_taken : fields_from from (drop from line) ≡ record { start = from; text = take (to - from) (drop from line) } ∷ fields_from to (drop to line)
+    fields_from_taken =
+        fields_from_field from (drop from line) begins
         ∙ ap (λ n. record { start = from; text = take n (drop from line) } ∷ fields_from (from + n) (drop n (drop from line))) field_is
         ∙ ap (λ n. record { start = from; text = take (to - from) (drop from line) } ∷ fields_from n (drop (to - from) (drop from line))) (omega (arith, next.low))
-        ∙ ap (λ rest. record { start = from; text = take (to - from) (drop from line) } ∷ fields_from to rest) behind_run
+        ∙ ap (λ rest. record { start = from; text = take (to - from) (drop from line) } ∷ fields_from to rest) after_run
 
--- the first field is taken, and the blanks behind it are passed over
-pub fields_from-next : (line : List ℕ) (start end place : ℕ) → IsNextEdge line start end → IsNextEdge line end place → start < length line → blank_bit line start ≡ 0
+-- the first field is taken, and the blanks after it are passed over
+pub fields_from_next : (line : List ℕ) (start end place : ℕ) → IsNextEdge line start end → IsNextEdge line end place → start < length line → blank_bit line start ≡ 0
     → (place < length line → blank_bit line place ≡ 0)
     × (fields_from start (drop start line) ≡ record { start = start; text = take (end - start) (drop start line) } ∷ fields_from place (drop place line))
-fields_from-next line start end place field blanks within begins =
-    let blank = blank_behind line start end field within begins in (
-      field_behind line end place blanks blank,
-      fields_from-taken line start end field within begins
-          ∙ ap (λ later. record { start = start; text = take (end - start) (drop start line) } ∷ later) (fields_from-passed line end place blanks blank),
+fields_from_next line start end place field blanks within begins =
+    let blank = blank_after line start end field within begins in (
+      field_after line end place blanks blank,
+      fields_from_taken line start end field within begins
+          ∙ ap (λ later. record { start = start; text = take (end - start) (drop start line) } ∷ later) (fields_from_passed line end place blanks blank),
     )
 
 -- the line begins with blanks, which are passed over, or with a field
-pub fields-begun : (line : List ℕ) (place : ℕ) → ((blank_bit line 0 ≡ 1) × IsNextEdge line 0 place) ⊎ ((blank_bit line 0 ≡ 0) × (place ≡ 0))
+pub fields_begun : (line : List ℕ) (place : ℕ) → ((blank_bit line 0 ≡ 1) × IsNextEdge line 0 place) ⊎ ((blank_bit line 0 ≡ 0) × (place ≡ 0))
     → (place < length line → blank_bit line place ≡ 0) × (fields_from place (drop place line) ≡ fields line)
-fields-begun line place cases =
+fields_begun line place cases =
     ⊎_elim
-    (λ (blank : (blank_bit line 0 ≡ 1) × IsNextEdge line 0 place). (field_behind line 0 place blank.1 blank.0, sym (fields_from-passed line 0 place blank.1 blank.0)))
+    (λ (blank : (blank_bit line 0 ≡ 1) × IsNextEdge line 0 place). (field_after line 0 place blank.1 blank.0, sym (fields_from_passed line 0 place blank.1 blank.0)))
     (λ (field : (blank_bit line 0 ≡ 0) × (place ≡ 0)). (λ _. ap (blank_bit line) field.1 ∙ field.0, ap (λ n. fields_from n (drop n line)) field.1))
     cases
 
-length-onto_first_field : (place b : ℕ) (them : List Field) (n : ℕ) → length them ≤ n → length (onto_first_field place b them) ≤ suc n
-length-onto_first_field place b [] n h = omega arith
-length-onto_first_field place b (first ∷ rest) n h = omega arith
+length_onto_first_field : (place b : ℕ) (them : List Field) (n : ℕ) → length them ≤ n → length (onto_first_field place b them) ≤ suc n
+length_onto_first_field place b [] n h = omega arith
+length_onto_first_field place b (first ∷ rest) n h = omega arith
 
 -- no more fields than bytes
 pub length_fields_from : (place : ℕ) (bs : List ℕ) → length (fields_from place bs) ≤ length bs
@@ -180,9 +180,9 @@ length_fields_from place [] = omega arith
 length_fields_from place (b ∷ bs) =
     let later : length (fields_from (place + 1) bs) ≤ length bs = length_fields_from (place + 1) bs in
     ⊎_elim
-    (λ (blank : is_blank b ≡ true). rw (fields_from-blank place b bs blank) (omega arith))
+    (λ (blank : is_blank b ≡ true). rw (fields_from_blank place b bs blank) (omega arith))
     (λ (field : is_blank b ≡ false). ⊎_elim
-    (λ (next : begins_field bs ≡ true). rw (fields_from-joined place b bs field next) (length-onto_first_field place b (fields_from (place + 1) bs) (length bs) later))
-    (λ (next : begins_field bs ≡ false). rw (fields_from-alone place b bs field next) (omega arith))
+    (λ (next : begins_field bs ≡ true). rw (fields_from_joined place b bs field next) (length_onto_first_field place b (fields_from (place + 1) bs) (length bs) later))
+    (λ (next : begins_field bs ≡ false). rw (fields_from_alone place b bs field next) (omega arith))
     (cases_Bool (begins_field bs)))
     (cases_Bool (is_blank b))

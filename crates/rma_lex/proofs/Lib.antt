@@ -1,11 +1,10 @@
 pub mod LineLemmas
-pub mod CutLemmas
+pub mod CheckLemmas
+pub mod CutterLemmas
+pub mod TextLemmas
 pub mod MaskLemmas
-pub mod BlankLemmas
-pub mod EdgeLemmas
 pub mod FeedLemmas
 pub mod CleanLemmas
+pub mod BlankLemmas
+pub mod EdgeLemmas
 pub mod FieldLemmas
-pub mod TextLemmas
-pub mod CheckLemmas
-pub mod AlikeLemmas

@@ -4,7 +4,7 @@ use Rattle.std.specs.Int.{bit_at}
 use Rattle.std.proofs.Math.Nat.{two-pow-succ, div-add-mod, mod-lt}
 use Rattle.std.proofs.lemmas.Bool.{cases_lt, cases_eq}
 use Rattle.std.proofs.lemmas.Nat.Bits.{bit_at_and, bit_at-pow_same, bit_at-pow_other, bit_at_cat_low, bit_at_cat_high, bit_at_ones_above, same_from_bits_below}
-use Rattle.rma_lex.specs.Masks.{IsLowestBit, DropsBit}
+use Rattle.rma_lex.specs.inside.Mask.{IsLowestBit, DropsBit}
 
 module _ (mask low : ℕ) (lowest : IsLowestBit mask low) where
   -- what stands above the lowest bit
@@ -42,8 +42,8 @@ module _ (mask low : ℕ) (lowest : IsLowestBit mask low) where
   clear = ap (λ m. bit_at m low) (sym one_less) ∙ bit_at_cat_low high (suc low) (2 ^ low - 1) low (omega arith) ∙ bit_at_ones_above low low (omega arith)
 
   -- the mask without its lowest bit
-  pub DropsBit-lowest : DropsBit mask low (bit_and mask (mask - 1))
-  DropsBit-lowest = record {
+  pub DropsBit_lowest : DropsBit mask low (bit_and mask (mask - 1))
+  DropsBit_lowest = record {
     dropped = omega (arith, bit_at_and mask (mask - 1) low, clear);
     kept = λ k ne.
         ⊎_elim (λ below. omega (arith, bit_at_and mask (mask - 1) k, lowest.below k below))

@@ -1,6 +1,6 @@
 //! What the lines of a text are, in other words.
 ghost use Rattle.std.specs.Prelude.{◌≡◌, ℕ, List, [], ◌∷◌, ◌++◌, ◌≤◌, ◌==◌, length, take, count_by, All, Contains, if◌then◌else◌};
-ghost use Rattle.rma_lex.specs.Lines.{lines, joined, has_open_end};
+ghost use Rattle.rma_lex.specs.Line.{lines, joined, has_open_end};
 ghost use Rattle.rma_lex.specs.Checked.{checked_lines};
 
 /// The lines of a text are the one list of lines without line feeds that makes the text, once each has its line
@@ -11,7 +11,7 @@ pub fn lines_make_the_text()
     ensures only { (them : List (List ℕ)) → All (λ line. ¬ Contains line 10) them → lines (joined them) ≡ them }
 {}
 
-/// What each line is, good or bad, is one for each line of the text, and stays as it is when the text goes on behind
+/// What each line is, good or bad, is one for each line of the text, and stays as it is when the text goes on after
 /// the line feed that ends it.
 pub fn checked_lines_stay()
     ensures as_many { (text : List ℕ) → length (checked_lines text) ≡ length (lines text) }

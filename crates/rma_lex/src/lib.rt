@@ -1,11 +1,22 @@
-//! Cutting a log into its lines, in whatever pieces it comes.
+//! Cutting a log into its lines, in whatever pieces it comes, and a line into its fields.
+//!
+//! A [`LineCutter`] is fed the bytes of a log and hands out its lines one by one: each is a [`Line`] with the text and the
+//! number of the line, or a [`LexFault`] that says why it is bad. [`tokens`] are the fields of a line, each a [`Token`] with
+//! its text and its position in the line.
+//!
+//! Line feeds, bytes that no line may have, and blanks are all found 64 bytes at a time, as the bits of a mask. What is kept
+//! of a search that goes on later (`line_feed`, `edge`) is the delicate part: `specs/inside/Found.antt` and
+//! `specs/inside/Reached.antt` say what it has to keep true.
 #![tactic(auto)]
 
-mod blanks;
-pub mod cutter;
-mod edges;
+mod blank;
+mod cutter;
+mod edge;
 pub mod laws;
-mod line_feeds;
-mod masks;
-pub mod texts;
-pub mod tokens;
+mod line_feed;
+mod mask;
+mod text;
+mod token;
+
+pub use cutter::{LexFault, Line, LineCutter};
+pub use token::{Token, TokenIter, tokens};

@@ -1,5 +1,0 @@
-use Rattle.rma_lex.specs.Blanks.{MarksBetween}
-use Rattle.rma_lex.proofs.blanks.blanks_one_by_one.Given as goal
-
-abbrev pub invariant-loop-k : goal.invariant-loop-k
-invariant-loop-k l = MarksBetween l.line 0 l.k l.mask

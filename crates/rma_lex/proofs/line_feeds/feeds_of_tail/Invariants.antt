@@ -1,6 +1,0 @@
-use Rattle.rma_lex.specs.Feeds.{MarksFeeds}
-use Rattle.std.proofs.Common.{◌+◌}
-use Rattle.rma_lex.proofs.line_feeds.feeds_of_tail.Given as goal
-
-abbrev pub invariant-loop-k : goal.invariant-loop-k
-invariant-loop-k l = MarksFeeds l.text l.from (l.from + l.k) l.mask

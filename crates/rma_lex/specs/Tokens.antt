@@ -1,7 +1,0 @@
--- What a token is of its line.
-use Rattle.rma_lex.specs.Fields.{Field}
-use Rattle.rma_lex.specs.declared.tokens.Token.{Token}
-
--- the field that a token is
-abbrev pub field_of : Token → Field
-field_of token = record { start = token.start; text = token.text.now }
