@@ -3,7 +3,7 @@ ghost use Rattle.std.specs.Prelude.{◌≡◌, true};
 ghost use Rattle.rma_bytes.specs.Runs.{IsInBounds};
 
 use anyhow::{Result, anyhow};
-use rma_bytes::runs::{Run, Runs};
+use rma_bytes::{Run, Runs};
 use std::alloc::Global;
 use std::rt::Clock;
 use std::time::Instant;
@@ -15,9 +15,9 @@ const BLOCKS: u32 = 65_536;
 fn scattered_blocks(alloc: Global) -> Result<Vec<Run>> {
     let mut blocks = Vec::new(alloc);
     for i in 0..BLOCKS {
-        let place = i.wrapping_mul(40_503) % BLOCKS;
+        let index = i.wrapping_mul(40_503) % BLOCKS;
         blocks.push(Run {
-            start: 8 * i64::from(place),
+            start: 8 * i64::from(index),
             len: 4,
         })?;
     }

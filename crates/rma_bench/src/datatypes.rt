@@ -1,8 +1,8 @@
 //! Datatypes by arithmetic: in the same time, however many elements they have.
 use anyhow::{Result, anyhow};
-use rma_base::makes::Make;
-use rma_base::names::Name;
-use rma_type::table::TypeTable;
+use rma_base::Name;
+use rma_datatype::Make;
+use rma_type::TypeTable;
 use std::alloc::Global;
 use std::rt::Clock;
 use std::time::Instant;

@@ -1,4 +1,4 @@
 pub mod RunLemmas
 pub mod OrderLemmas
-pub mod PlaceLemmas
+pub mod IndexLemmas
 pub mod WalkLemmas

@@ -8,10 +8,10 @@ use Rattle.std.proofs.lemmas.Int.{ints}
 use Rattle.std.proofs.lemmas.List.{get_or_default}
 use Rattle.std.proofs.lemmas.List.Elements.{All-head}
 use Rattle.std.proofs.lemmas.List.Sorted.{Contains-permutation, IsPermutation-sym}
-use Rattle.rma_bytes.specs.declared.runs.Run.{Run}
+use Rattle.rma_bytes.specs.declared.run.Run.{Run}
 use Rattle.rma_bytes.specs.Runs.{IsByteOf, HasByte, SameBytes, IsInBounds}
-use Rattle.rma_bytes.specs.Walks.{AscendFrom, Ascend}
-use Rattle.rma_bytes.proofs.RunLemmas.{no_run, has_at, place_of}
+use Rattle.rma_bytes.specs.inside.Walks.{AscendFrom, Ascend}
+use Rattle.rma_bytes.proofs.RunLemmas.{no_run, has_at, index_of}
 
 -- what the test of a sort means
 not_before : (a b : ℤ) → is_lt (int_cmp b a) ≡ false → a ≤ℤ b
@@ -37,7 +37,7 @@ ascend_from_sort (x ∷ xs) bounds up =
 -- a byte of a list is a byte of a run that it contains, and the other way round
 container : (xs : List Run) (b : ℤ) → HasByte xs b → (run : Run) × Contains xs run × IsByteOf run b
 container xs b has =
-    let at = place_of xs b has in
+    let at = index_of xs b has in
     let d : Run = get_or xs at.0 no_run in
     (d, (at.0, at.1, get_or_default xs at.0 d no_run at.1), at.2)
 

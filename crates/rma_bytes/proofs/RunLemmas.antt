@@ -3,7 +3,7 @@ use Rattle.std.proofs.Common.{◌≡◌, ℕ, ◌<◌, ◌≤◌, List, [], ◌�
 use Rattle.std.specs.Prelude.{ℤ, pos, ◌≤ℤ◌, ◌<ℤ◌}
 use Rattle.std.proofs.lemmas.Int.{ints, by_lt_z}
 use Rattle.std.proofs.lemmas.List.{get_or_default}
-use Rattle.rma_bytes.specs.declared.runs.Run.{Run}
+use Rattle.rma_bytes.specs.declared.run.Run.{Run}
 use Rattle.rma_bytes.specs.Runs.{end_of, IsByteOf, HasByte, SameBytes, IsInBounds, BeginsAfter, IsCanonical, CanonicalRunsAreUnique}
 
 -- a byte of what comes after e is greater than e
@@ -92,11 +92,11 @@ has_at [] k d b lt is = absurd (omega arith)
 has_at (x ∷ xs) zero d b lt is = inl is
 has_at (x ∷ xs) (suc k) d b lt is = inr (has_at xs k d b (omega arith) is)
 
-pub place_of : (xs : List Run) (b : ℤ) → HasByte xs b → (k : ℕ) × (k < length xs) × IsByteOf (get_or xs k no_run) b
-place_of [] b has = absurd has
-place_of (x ∷ xs) b (inl here) = (zero, omega arith, here)
-place_of (x ∷ xs) b (inr there) =
-    let at = place_of xs b there in
+pub index_of : (xs : List Run) (b : ℤ) → HasByte xs b → (k : ℕ) × (k < length xs) × IsByteOf (get_or xs k no_run) b
+index_of [] b has = absurd has
+index_of (x ∷ xs) b (inl here) = (zero, omega arith, here)
+index_of (x ∷ xs) b (inr there) =
+    let at = index_of xs b there in
     let lt : at.0 < length xs = at.1 in
     (suc at.0, omega arith, at.2)
 

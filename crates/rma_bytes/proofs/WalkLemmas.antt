@@ -1,43 +1,42 @@
 -- The walks: what it means for a list to have one more run, and the step of each loop.
-use Rattle.std.proofs.Common.{◌≡◌, ℕ, ◌+◌, ◌<◌, ◌≤◌, min, List, [], ◌∷◌, ◌++◌, length, get_or, drop, sym, subst, inl, inr, ◌⊎◌, ◌↔◌, arith, length-append}
+use Rattle.std.proofs.Common.{◌≡◌, ◌+◌, ◌<◌, ◌≤◌, min, List, [], ◌∷◌, ◌++◌, length, sym, subst, inl, inr, ◌⊎◌, ◌↔◌, arith, length-append}
 use Rattle.std.specs.Prelude.{ℤ, pos, neg_ℤ, ◌^◌, ◌-ℤ◌, ◌≤ℤ◌, ◌<ℤ◌}
 use Rattle.std.proofs.lemmas.Int.{ints}
-use Rattle.std.proofs.lemmas.List.{drop_more, drop_all}
 use Rattle.std.proofs.lemmas.Bool.Decides.{nat_tests}
 use Rattle.std.proofs.lemmas.Bool.{cases_lt}
-use Rattle.rma_bytes.specs.declared.runs.Run.{Run}
+use Rattle.rma_bytes.specs.declared.run.Run.{Run}
 use Rattle.rma_bytes.specs.Runs.{end_of, IsByteOf, HasByte, SameBytes, IsInBounds, BeginsAfter, IsCanonical}
-use Rattle.rma_bytes.specs.Walks.{AscendFrom, Ascend, EndBefore, kept}
-use Rattle.rma_bytes.proofs.RunLemmas.{byte_after, start_is_byte, no_run}
+use Rattle.rma_bytes.specs.inside.Walks.{AscendFrom, Ascend, EndBefore, kept}
+use Rattle.rma_bytes.proofs.RunLemmas.{byte_after, start_is_byte}
 
--- one more run behind a list
-has_byte-push_to : (runs : List Run) (run : Run) (b : ℤ) → HasByte (runs ++ run ∷ []) b → HasByte runs b ⊎ IsByteOf run b
-has_byte-push_to [] run b (inl here) = inr here
-has_byte-push_to [] run b (inr there) = absurd there
-has_byte-push_to (x ∷ xs) run b (inl here) = inl (inl here)
-has_byte-push_to (x ∷ xs) run b (inr there) =
-    elim (has_byte-push_to xs run b there) [ inl has ↦ inl (inr has) | inr last ↦ inr last ]
+-- one more run after a list
+has_byte_push_to : (runs : List Run) (run : Run) (b : ℤ) → HasByte (runs ++ run ∷ []) b → HasByte runs b ⊎ IsByteOf run b
+has_byte_push_to [] run b (inl here) = inr here
+has_byte_push_to [] run b (inr there) = absurd there
+has_byte_push_to (x ∷ xs) run b (inl here) = inl (inl here)
+has_byte_push_to (x ∷ xs) run b (inr there) =
+    elim (has_byte_push_to xs run b there) [ inl has ↦ inl (inr has) | inr last ↦ inr last ]
 
-has_byte-push_from : (runs : List Run) (run : Run) (b : ℤ) → HasByte runs b ⊎ IsByteOf run b → HasByte (runs ++ run ∷ []) b
-has_byte-push_from [] run b (inl has) = absurd has
-has_byte-push_from [] run b (inr last) = inl last
-has_byte-push_from (x ∷ xs) run b (inl (inl here)) = inl here
-has_byte-push_from (x ∷ xs) run b (inl (inr has)) = inr (has_byte-push_from xs run b (inl has))
-has_byte-push_from (x ∷ xs) run b (inr last) = inr (has_byte-push_from xs run b (inr last))
+has_byte_push_from : (runs : List Run) (run : Run) (b : ℤ) → HasByte runs b ⊎ IsByteOf run b → HasByte (runs ++ run ∷ []) b
+has_byte_push_from [] run b (inl has) = absurd has
+has_byte_push_from [] run b (inr last) = inl last
+has_byte_push_from (x ∷ xs) run b (inl (inl here)) = inl here
+has_byte_push_from (x ∷ xs) run b (inl (inr has)) = inr (has_byte_push_from xs run b (inl has))
+has_byte_push_from (x ∷ xs) run b (inr last) = inr (has_byte_push_from xs run b (inr last))
 
-begins_after-push : (e : ℤ) (runs : List Run) (run : Run) → BeginsAfter e runs → e <ℤ run.start → BeginsAfter e (runs ++ run ∷ [])
-begins_after-push e [] run after beyond = beyond
-begins_after-push e (x ∷ xs) run after beyond = after
+begins_after_push : (e : ℤ) (runs : List Run) (run : Run) → BeginsAfter e runs → e <ℤ run.start → BeginsAfter e (runs ++ run ∷ [])
+begins_after_push e [] run after beyond = beyond
+begins_after_push e (x ∷ xs) run after beyond = after
 
-canonical-push : (runs : List Run) (run : Run) → IsCanonical runs → IsInBounds run → 0 < run.len → EndBefore runs run.start
+canonical_push : (runs : List Run) (run : Run) → IsCanonical runs → IsInBounds run → 0 < run.len → EndBefore runs run.start
     → IsCanonical (runs ++ run ∷ [])
-canonical-push [] run good bounds some apart = (bounds, some, tt, tt)
-canonical-push (x ∷ xs) run good bounds some apart =
-    (good.0, good.1, begins_after-push (end_of x) xs run good.2 apart.0, canonical-push xs run good.3 bounds some apart.1)
+canonical_push [] run good bounds some apart = (bounds, some, tt, tt)
+canonical_push (x ∷ xs) run good bounds some apart =
+    (good.0, good.1, begins_after_push (end_of x) xs run good.2 apart.0, canonical_push xs run good.3 bounds some apart.1)
 
-end_before-push : (runs : List Run) (run : Run) (s : ℤ) → EndBefore runs s → end_of run <ℤ s → EndBefore (runs ++ run ∷ []) s
-end_before-push [] run s apart beyond = (beyond, tt)
-end_before-push (x ∷ xs) run s apart beyond = (apart.0, end_before-push xs run s apart.1 beyond)
+end_before_push : (runs : List Run) (run : Run) (s : ℤ) → EndBefore runs s → end_of run <ℤ s → EndBefore (runs ++ run ∷ []) s
+end_before_push [] run s apart beyond = (beyond, tt)
+end_before_push (x ∷ xs) run s apart beyond = (apart.0, end_before_push xs run s apart.1 beyond)
 
 pub end_before_later : (runs : List Run) (s t : ℤ) → EndBefore runs s → s ≤ℤ t → EndBefore runs t
 end_before_later [] s t apart later = tt
@@ -47,14 +46,14 @@ end_before_later (x ∷ xs) s t apart later = (omega (arith, ints), end_before_l
 kept_some : (runs : List Run) (run : Run) → 0 < run.len → kept runs run ≡ runs ++ run ∷ []
 kept_some runs run some = grind (arith, nat_tests)
 
-pub kept_none : (runs : List Run) (run : Run) → run.len ≤ 0 → kept runs run ≡ runs
+kept_none : (runs : List Run) (run : Run) → run.len ≤ 0 → kept runs run ≡ runs
 kept_none runs run none = grind (arith, nat_tests)
 
 pub kept_bytes : (runs : List Run) (run : Run) (b : ℤ) → HasByte (kept runs run) b ↔ (HasByte runs b ⊎ IsByteOf run b)
 kept_bytes runs run b =
     let says : List Run → Type 0 = λ l. HasByte l b ↔ (HasByte runs b ⊎ IsByteOf run b) in
     elim (cases_lt 0 run.len) [
-      | inl some ↦ subst says (sym (kept_some runs run some)) (has_byte-push_to runs run b, has_byte-push_from runs run b)
+      | inl some ↦ subst says (sym (kept_some runs run some)) (has_byte_push_to runs run b, has_byte_push_from runs run b)
       | inr none ↦ subst says (sym (kept_none runs run none))
           (λ has. inl has, λ one. elim one [ inl has ↦ has | inr last ↦ absurd (omega (arith, ints)) ])
     ]
@@ -63,7 +62,7 @@ pub kept_canonical : (runs : List Run) (run : Run) → IsCanonical runs → IsIn
     → IsCanonical (kept runs run)
 kept_canonical runs run good bounds apart =
     elim (cases_lt 0 run.len) [
-      | inl some ↦ subst IsCanonical (sym (kept_some runs run some)) (canonical-push runs run good bounds some (apart some))
+      | inl some ↦ subst IsCanonical (sym (kept_some runs run some)) (canonical_push runs run good bounds some (apart some))
       | inr none ↦ subst IsCanonical (sym (kept_none runs run none)) good
     ]
 
@@ -71,7 +70,7 @@ pub kept_ends : (runs : List Run) (run : Run) (s : ℤ) → EndBefore runs s →
 kept_ends runs run s apart beyond =
     let says : List Run → Type 0 = λ l. EndBefore l s in
     elim (cases_lt 0 run.len) [
-      | inl some ↦ subst says (sym (kept_some runs run some)) (end_before-push runs run s apart (beyond some))
+      | inl some ↦ subst says (sym (kept_some runs run some)) (end_before_push runs run s apart (beyond some))
       | inr none ↦ subst says (sym (kept_none runs run none)) apart
     ]
 
@@ -268,52 +267,3 @@ sharing_end mine theirs runs more others m over b = (
     ]
   ],
 )
-
--- the same steps where the lists are read by an index
-pub merging_on_join : (blocks runs : List Run) (last : Run) (i : ℕ) (whole : Run) → IsMerging blocks runs last (drop i blocks)
-    → i < length blocks → whole.start ≡ last.start → IsInBounds whole
-    → ((b : ℤ) → IsByteOf whole b ↔ (IsByteOf last b ⊎ IsByteOf (get_or blocks i no_run) b))
-    → IsMerging blocks runs whole (drop (i + 1) blocks)
-merging_on_join blocks runs last i whole m lt starts bounds bytes =
-    merging_join blocks runs last (get_or blocks i no_run) (drop (i + 1) blocks) whole
-    (subst (IsMerging blocks runs last) (drop_more blocks i no_run lt) m) starts bounds bytes
-
-pub merging_on_next : (blocks runs : List Run) (last : Run) (i : ℕ) → IsMerging blocks runs last (drop i blocks)
-    → i < length blocks → IsInBounds (get_or blocks i no_run) → end_of last <ℤ (get_or blocks i no_run).start
-    → IsMerging blocks (kept runs last) (get_or blocks i no_run) (drop (i + 1) blocks)
-merging_on_next blocks runs last i m lt bounds beyond =
-    merging_next blocks runs last (get_or blocks i no_run) (drop (i + 1) blocks)
-    (subst (IsMerging blocks runs last) (drop_more blocks i no_run lt) m) bounds beyond
-
-pub merging_at_end : (blocks runs : List Run) (last : Run) (i : ℕ) → IsMerging blocks runs last (drop i blocks) → length blocks ≤ i
-    → IsCanonical (kept runs last) × SameBytes (kept runs last) blocks
-merging_at_end blocks runs last i m over =
-    merging_end blocks runs last (subst (IsMerging blocks runs last) (drop_all i blocks over) m)
-
-sharing_at : (mine theirs runs : List Run) (i j : ℕ) → IsSharing mine theirs runs (drop i mine) (drop j theirs)
-    → i < length mine → j < length theirs
-    → IsSharing mine theirs runs (get_or mine i no_run ∷ drop (i + 1) mine) (get_or theirs j no_run ∷ drop (j + 1) theirs)
-sharing_at mine theirs runs i j m in_mine in_theirs =
-    subst (λ (others : List Run). IsSharing mine theirs runs (get_or mine i no_run ∷ drop (i + 1) mine) others)
-    (drop_more theirs j no_run in_theirs)
-    (subst (λ (more : List Run). IsSharing mine theirs runs more (drop j theirs)) (drop_more mine i no_run in_mine) m)
-
-pub sharing_on_left : (mine theirs runs : List Run) (i j : ℕ) (both : Run) → IsSharing mine theirs runs (drop i mine) (drop j theirs)
-    → i < length mine → j < length theirs → IsInBounds both
-    → ((b : ℤ) → IsByteOf both b ↔ (IsByteOf (get_or mine i no_run) b × IsByteOf (get_or theirs j no_run) b))
-    → end_of (get_or mine i no_run) ≤ℤ end_of (get_or theirs j no_run)
-    → IsSharing mine theirs (kept runs both) (drop (i + 1) mine) (drop j theirs)
-sharing_on_left mine theirs runs i j both m in_mine in_theirs bounds bytes ends =
-    subst (IsSharing mine theirs (kept runs both) (drop (i + 1) mine)) (sym (drop_more theirs j no_run in_theirs))
-    (sharing_left mine theirs runs (get_or mine i no_run) (drop (i + 1) mine) (get_or theirs j no_run) (drop (j + 1) theirs) both
-    (sharing_at mine theirs runs i j m in_mine in_theirs) bounds bytes ends)
-
-pub sharing_on_right : (mine theirs runs : List Run) (i j : ℕ) (both : Run) → IsSharing mine theirs runs (drop i mine) (drop j theirs)
-    → i < length mine → j < length theirs → IsInBounds both
-    → ((b : ℤ) → IsByteOf both b ↔ (IsByteOf (get_or mine i no_run) b × IsByteOf (get_or theirs j no_run) b))
-    → end_of (get_or theirs j no_run) ≤ℤ end_of (get_or mine i no_run)
-    → IsSharing mine theirs (kept runs both) (drop i mine) (drop (j + 1) theirs)
-sharing_on_right mine theirs runs i j both m in_mine in_theirs bounds bytes ends =
-    subst (λ (more : List Run). IsSharing mine theirs (kept runs both) more (drop (j + 1) theirs)) (sym (drop_more mine i no_run in_mine))
-    (sharing_right mine theirs runs (get_or mine i no_run) (drop (i + 1) mine) (get_or theirs j no_run) (drop (j + 1) theirs) both
-    (sharing_at mine theirs runs i j m in_mine in_theirs) bounds bytes ends)

@@ -1,7 +1,7 @@
 -- Sets of bytes as runs. A buffer of MPI is a set of bytes, most of which lie side by side (MPI 4.0, "Datatypes",
 -- the typemap and its addresses).
 use Rattle.std.specs.Prelude.{◌≡◌, ◌<◌, ◌^◌, ℤ, pos, neg_ℤ, ◌+ℤ◌, ◌≤ℤ◌, ◌<ℤ◌, List, [], ◌∷◌, ◌⊎◌, ◌↔◌, ⊤}
-use Rattle.rma_bytes.specs.declared.runs.Run.{Run}
+use Rattle.rma_bytes.specs.declared.run.Run.{Run}
 
 -- the first number after the bytes of a run
 abbrev pub end_of : Run → ℤ

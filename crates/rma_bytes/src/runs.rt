@@ -1,34 +1,29 @@
 //! Sets of bytes, each as the one ascending list of runs that has them.
 ghost use Rattle.std.specs.Prelude.{◌≡◌, ◌+◌, ◌<◌, ◌≤◌, length, map, [], ℤ, ◌+ℤ◌, ◌-ℤ◌, IfOk, IsOk, IsTrue, ◌↔◌, slice_get};
 ghost use Rattle.std.specs.List.{All};
-ghost use Rattle.rma_bytes.specs.Runs.{IsByteOf, HasByte, SameBytes, IsInBounds, IsWithinBounds, IsCanonical, moved, CanonicalRunsAreUnique};
+ghost use Rattle.rma_bytes.specs.Runs.{IsByteOf, HasByte, SameBytes, IsInBounds, IsWithinBounds, IsCanonical, moved};
 
-use crate::merges::union;
-use crate::moves::shift;
-use crate::overlaps::{intersect, intersection};
-use crate::searches::{lies_within, reaches};
-use rma_base::allocation::Memory;
+use crate::merge::union;
+use crate::movement::shift;
+use crate::overlap::shared;
+use crate::run::Run;
+use crate::search::{lies_within, touches};
+use rma_base::Memory;
 use smallvec::SmallVec;
 use std::alloc::Global;
 use std::marker::Model;
-
-/// Bytes side by side: `len` of them from `start` on.
-#[derive(Clone, Copy, Debug, Default, PartialEq, Eq)]
-pub struct Run {
-    pub start: i64,
-    pub len: u64,
-}
 
 /// A set of bytes. Contracts see it as the one list of runs that has these bytes, ascends, and has no run that is
 /// empty or that overlaps or touches the next. Up to four runs lie inside the value itself.
 #[derive(Debug, Drop)]
 pub struct Runs {
+    /// The runs, ascending and apart.
     runs: SmallVec<Run, 4>,
 }
 
 impl Model for Runs {
     ghost use Rattle.std.specs.Prelude.{List};
-    ghost use Rattle.rma_bytes.specs.declared.runs.Run.{Run};
+    ghost use Rattle.rma_bytes.specs.declared.run.Run.{Run};
     ghost use Rattle.rma_bytes.specs.Runs.{IsCanonical};
 
     ghost Value = { List Run };
@@ -63,15 +58,16 @@ impl Runs {
         ensures short { length self.now + length other.now ≤ 5 → IsOk result }
     {
         Ok(Runs {
-            runs: intersection(
+            runs: shared(
                 *self.runs.allocator(),
                 self.runs.as_slice(),
                 other.runs.as_slice(),
+                false,
             )?,
         })
     }
 
-    /// The same set once more.
+    /// The same set again.
     pub fn copy(&self) -> Result<Runs, Memory>
         ensures same { IfOk result (λ runs. runs ≡ self.now) }
         ensures short { length self.now ≤ 4 → IsOk result }
@@ -85,14 +81,18 @@ impl Runs {
     pub fn meets(&self, other: &Runs) -> bool
         ensures { IsTrue result ↔ ((b : ℤ) × HasByte self.now b × HasByte other.now b) }
     {
-        intersect(self.runs.as_slice(), other.runs.as_slice())
+        let alloc = *self.runs.allocator();
+        match shared(alloc, self.runs.as_slice(), other.runs.as_slice(), true) {
+            Ok(runs) => !runs.is_empty(),
+            Err(_) => unreachable!(),
+        }
     }
 
     /// Whether a byte of the set lies in the run, by a binary search.
     pub fn meets_run(&self, run: Run) -> bool
         ensures { IsTrue result ↔ ((b : ℤ) × HasByte self.now b × IsByteOf run b) }
     {
-        reaches(self.runs.as_slice(), run)
+        touches(self.runs.as_slice(), run)
     }
 
     /// Whether each byte of the set lies in the run. Only the first and the last run are looked at.
@@ -118,7 +118,7 @@ impl Runs {
         self.runs.is_empty()
     }
 
-    /// The run at a place, from 0, in ascending order.
+    /// The run at an index, from 0, in ascending order.
     pub fn get(&self, i: usize) -> Run
         requires { i < length self.now }
         ensures value { slice_get self.now i ≡ Some result }
@@ -136,9 +136,3 @@ impl Runs {
         shift(self.runs.as_mut_slice(), by);
     }
 }
-
-/// A law, for proofs alone: of all lists in canonical form one alone has given bytes, so that sets are equal
-/// exactly where their lists are.
-pub fn canonical_runs_are_unique()
-    ensures { CanonicalRunsAreUnique }
-{}

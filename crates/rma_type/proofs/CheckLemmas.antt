@@ -4,14 +4,14 @@ use Rattle.std.specs.List.{list_any, list_all}
 use Rattle.std.proofs.lemmas.Int.{ints}
 use Rattle.std.proofs.lemmas.Bool.{false≢true}
 use Rattle.std.proofs.lemmas.Bool.Decides.{nat_tests}
-use Rattle.rma_base.specs.declared.makes.Block.{Block}
-use Rattle.rma_base.specs.declared.makes.ByteBlock.{ByteBlock}
-use Rattle.rma_base.specs.declared.makes.Make.{Make}
-use Rattle.rma_base.specs.declared.makes.Make.TheVariants.{Contiguous, Vector, Hvector, Indexed, Hindexed, IndexedBlock, Struct, Resized, Subarray}
-use Rattle.rma_typemap.specs.Arrays.{is_part, cuts_of, whole_of_cuts}
-use Rattle.rma_typemap.specs.Space.{space}
-use Rattle.rma_type.specs.Tables.{is_negative, has_negative, breaks_array, has_large_array}
-use Rattle.rma_typemap.specs.Counts.{IsCounted, IsSingle}
+use Rattle.rma_base.specs.Limits.{address_limit}
+use Rattle.rma_datatype.specs.declared.make.Block.{Block}
+use Rattle.rma_datatype.specs.declared.make.ByteBlock.{ByteBlock}
+use Rattle.rma_datatype.specs.declared.make.Make.{Make}
+use Rattle.rma_datatype.specs.declared.make.Make.TheVariants.{Contiguous, Vector, Hvector, Indexed, Hindexed, IndexedBlock, Struct, Resized, Subarray}
+use Rattle.rma_typemap.specs.Array.{is_part, cuts_of, whole_of_cuts}
+use Rattle.rma_type.specs.Refusal.{is_negative, has_negative, breaks_array, has_large_array}
+use Rattle.rma_typemap.specs.inside.Counts.{IsCounted, IsSingle}
 
 -- a constructor with one old datatype
 abbrev pub HasOneOld : Make → Type 0
@@ -48,27 +48,27 @@ not_true : (a : Bool) → not a ≡ false → a ≡ true
 not_true true h = refl
 not_true false h = absurd (false≢true (sym h))
 
-pub IsCounted-checked : (how : Make) → HasOneOld how → has_negative how ≡ false → breaks_array how ≡ false → IsCounted how
-IsCounted-checked (Contiguous count old) one n b = not_negative count n
-IsCounted-checked (Vector count len stride old) one n b = (not_negative count (or_left (is_negative count) _ n), not_negative len (or_right (is_negative count) _ n))
-IsCounted-checked (Hvector count len stride old) one n b = (not_negative count (or_left (is_negative count) _ n), not_negative len (or_right (is_negative count) _ n))
-IsCounted-checked (Indexed old blocks) one n b = none_negative (λ (x : Block). x.length) blocks n
-IsCounted-checked (Hindexed old blocks) one n b = none_negative (λ (x : ByteBlock). x.length) blocks n
-IsCounted-checked (IndexedBlock len old displacements) one n b = not_negative len n
-IsCounted-checked (Struct members) one n b = one
-IsCounted-checked (Resized old low extent) one n b = tt
-IsCounted-checked (Subarray order old dimensions) one n b = not_true (list_all is_part dimensions) b
+pub IsCounted_checked : (constructor : Make) → HasOneOld constructor → has_negative constructor ≡ false → breaks_array constructor ≡ false → IsCounted constructor
+IsCounted_checked (Contiguous count old) one n b = not_negative count n
+IsCounted_checked (Vector count len stride old) one n b = (not_negative count (or_left (is_negative count) _ n), not_negative len (or_right (is_negative count) _ n))
+IsCounted_checked (Hvector count len stride old) one n b = (not_negative count (or_left (is_negative count) _ n), not_negative len (or_right (is_negative count) _ n))
+IsCounted_checked (Indexed old blocks) one n b = none_negative (λ (x : Block). x.length) blocks n
+IsCounted_checked (Hindexed old blocks) one n b = none_negative (λ (x : ByteBlock). x.length) blocks n
+IsCounted_checked (IndexedBlock len old displacements) one n b = not_negative len n
+IsCounted_checked (Struct members) one n b = one
+IsCounted_checked (Resized old low extent) one n b = tt
+IsCounted_checked (Subarray order old dimensions) one n b = not_true (list_all is_part dimensions) b
 
 pub not_above : (m n : ℕ) → nat_lt m n ≡ false → n ≤ m
 not_above m n h = grind (arith, nat_tests)
 
-pub IsSingle-checked : (how : Make) → IsCounted how → has_large_array how ≡ false → IsSingle how
-IsSingle-checked (Contiguous count old) c l = c
-IsSingle-checked (Vector count len stride old) c l = c
-IsSingle-checked (Hvector count len stride old) c l = c
-IsSingle-checked (Indexed old blocks) c l = c
-IsSingle-checked (Hindexed old blocks) c l = c
-IsSingle-checked (IndexedBlock len old displacements) c l = c
-IsSingle-checked (Struct members) c l = c
-IsSingle-checked (Resized old low extent) c l = c
-IsSingle-checked (Subarray order old dimensions) c l = (c, not_above space (whole_of_cuts (cuts_of order dimensions)) l)
+pub IsSingle_checked : (constructor : Make) → IsCounted constructor → has_large_array constructor ≡ false → IsSingle constructor
+IsSingle_checked (Contiguous count old) c l = c
+IsSingle_checked (Vector count len stride old) c l = c
+IsSingle_checked (Hvector count len stride old) c l = c
+IsSingle_checked (Indexed old blocks) c l = c
+IsSingle_checked (Hindexed old blocks) c l = c
+IsSingle_checked (IndexedBlock len old displacements) c l = c
+IsSingle_checked (Struct members) c l = c
+IsSingle_checked (Resized old low extent) c l = c
+IsSingle_checked (Subarray order old dimensions) c l = (c, not_above address_limit (whole_of_cuts (cuts_of order dimensions)) l)

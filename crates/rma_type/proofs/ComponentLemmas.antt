@@ -1,11 +1,11 @@
--- What runs say of the basic datatypes that they stand for.
+-- What runs say of the basic datatypes that they represent.
 use Rattle.std.proofs.Common.{◌≡◌, ◌≢◌, ℕ, zero, suc, ◌+◌, ◌-◌, ◌*◌, ◌<◌, ◌≤◌, List, [], ◌∷◌, ◌++◌, All, length, get_or, replicate, refl, sym, ap, subst, ◌∙◌, arith}
 use Rattle.std.proofs.lemmas.List.{append-nil, length-append}
-use Rattle.rma_base.specs.declared.basics.Basic.{Basic}
-use Rattle.rma_typemap.specs.Signatures.{copies}
-use Rattle.rma_typemap.proofs.SignatureLemmas.{copies-nil, copies-add, length-copies}
-use Rattle.rma_type.specs.declared.types.SigRun.{SigRun}
-use Rattle.rma_type.specs.Signatures.{basics_of, spread, IsRunsOf, BeginsWith}
+use Rattle.rma_datatype.specs.declared.basic.Basic.{Basic}
+use Rattle.rma_typemap.specs.Signature.{copies}
+use Rattle.rma_typemap.proofs.SignatureLemmas.{copies_nil, copies_add, length_copies}
+use Rattle.rma_type.specs.declared.sig_run.SigRun.{SigRun}
+use Rattle.rma_type.specs.Signature.{basics_of, spread, IsRunsOf, BeginsWith}
 use Rattle.rma_type.proofs.RunLemmas.{no_run, one_copy_more}
 
 -- ---- one basic datatype
@@ -59,10 +59,10 @@ mixed_component basics (run ∷ other ∷ runs) h e basic all =
 pub fewer_begin : (na nb : ℕ) (a b : List Basic) → a ≡ b → na ≤ nb → BeginsWith (copies nb b) (copies na a)
 fewer_begin na nb a b same h =
     let all : nb ≡ na + (nb - na) = omega arith in
-    (copies (nb - na) a, ap (copies nb) (sym same) ∙ ap (λ n. copies n a) all ∙ copies-add na (nb - na) a)
+    (copies (nb - na) a, ap (copies nb) (sym same) ∙ ap (λ n. copies n a) all ∙ copies_add na (nb - na) a)
 
 pub nothing_begins_all : (na nb : ℕ) (a b : List Basic) → a ≡ [] → BeginsWith (copies nb b) (copies na a)
-nothing_begins_all na nb a b none = (copies nb b, ap (λ xs. xs ++ copies nb b) (sym (copies-nil na)) ∙ ap (λ xs. copies na xs ++ copies nb b) (sym none))
+nothing_begins_all na nb a b none = (copies nb b, ap (λ xs. xs ++ copies nb b) (sym (copies_nil na)) ∙ ap (λ xs. copies na xs ++ copies nb b) (sym none))
 
 pub more_begin_only_where_empty : (na nb : ℕ) (a b : List Basic) → a ≡ b → nb < na → BeginsWith (copies nb b) (copies na a) → a ≡ []
 more_begin_only_where_empty na nb a b same lt h = none a short
@@ -72,7 +72,7 @@ more_begin_only_where_empty na nb a b same lt h = none a short
         let long = ap length h.1 ∙ length-append (copies na a) h.0 in
         let lengths = ap length same in
         let more = one_copy_more nb na (length b) lt in
-        omega (arith, long, length-copies na a, length-copies nb b, more, ap (λ n. na * n) lengths, lengths)
+        omega (arith, long, length_copies na a, length_copies nb b, more, ap (λ n. na * n) lengths, lengths)
 
     none : (bs : List Basic) → length bs ≡ 0 → bs ≡ []
     none [] e = refl

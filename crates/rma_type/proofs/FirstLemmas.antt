@@ -1,28 +1,30 @@
 -- Tables of basic datatypes.
-use Rattle.std.proofs.Common.{◌≡◌, ℕ, zero, suc, ◌+◌, ◌<◌, ◌≤◌, ◌^◌, pos, Bool, true, false, not, List, [], ◌∷◌, ◌++◌, map, length, take, get_or, nat_eq, Option, Some, None, if◌then◌else◌, refl, sym, ap, ◌∙◌, arith}
+use Rattle.std.proofs.Common.{◌≡◌, ℕ, zero, suc, ◌+◌, ◌<◌, ◌≤◌, pos, Bool, true, false, not, List, [], ◌∷◌, ◌++◌, map, length, take, get_or, nat_eq, Option, Some, None, if◌then◌else◌, refl, sym, ap, ◌∙◌, arith}
 use Rattle.std.specs.List.{list_all}
 use Rattle.std.specs.Cmp.Lexicographic.{pointwise}
 use Rattle.std.proofs.lemmas.List.{map-append, length-map, length-take-le, take_more}
+use Rattle.rma_base.specs.Limits.{element_limit}
 use Rattle.indexmap.specs.IndexMap.{insert_entry}
-use Rattle.rma_base.specs.declared.basics.Basic.{Basic}
-use Rattle.rma_base.specs.Basics.{basic_word}
-use Rattle.rma_base.specs.declared.basics.Basic.TheVariants.{SignedChar}
-use Rattle.rma_type.specs.declared.types.TypeId.{TypeId}
-use Rattle.rma_typemap.specs.declared.outlines.Outline.{Outline}
+use Rattle.rma_datatype.specs.declared.basic.Basic.{Basic}
+use Rattle.rma_datatype.specs.Basic.{basic_word}
+use Rattle.rma_datatype.specs.declared.basic.Basic.TheVariants.{SignedChar}
+use Rattle.rma_type.specs.declared.id.TypeId.{TypeId}
+use Rattle.rma_typemap.specs.declared.summary.Summary.{Summary}
 use Rattle.rma_type.specs.declared.table.TypeTable.TheInside.{Inside}
 use Rattle.rma_type.specs.declared.table.Kept.{Kept}
-use Rattle.rma_type.specs.declared.origins.Origin.{Origin}
-use Rattle.rma_type.specs.declared.origins.Origin.TheVariants as origin
+use Rattle.rma_type.specs.declared.origin.Origin.{Origin}
+use Rattle.rma_type.specs.declared.origin.Origin.TheVariants as origin
 use Rattle.rma_typemap.specs.Typemap.{element}
 use Rattle.rma_typemap.specs.Bounds.{entry_count}
 use Rattle.rma_typemap.specs.Space.{is_all_in_space}
-use Rattle.rma_typemap.specs.Outline.{outline}
-use Rattle.rma_type.specs.Tables.{Table, id_of}
-use Rattle.rma_type.specs.TableInside.{IsKept, origins_of, table_of}
-use Rattle.rma_type.specs.Puts.{IsWithBasic}
+use Rattle.rma_typemap.specs.inside.Summary.{summary}
+use Rattle.rma_type.specs.Table.{Table}
+use Rattle.rma_type.specs.Names.{id_of}
+use Rattle.rma_type.specs.inside.Kept.{IsKept, origins_of, table_of}
+use Rattle.rma_type.specs.inside.Put.{IsWithBasic}
 use Rattle.rma_type.specs.FirstTable.{words_from, table_of_basics}
-use Rattle.rma_type.specs.Words.{words_differ}
-use Rattle.rma_typemap.proofs.SpaceLemmas.{and_left, and_right}
+use Rattle.rma_type.specs.inside.Words.{words_differ}
+use Rattle.rma_base.proofs.NameLemmas.{and_left, and_right}
 
 -- ---- one element
 
@@ -31,12 +33,12 @@ unfolding is_all_in_space
 single_in_space SignedChar = refl
 single_in_space _ = refl
 
-single_is_few : (b : Basic) → entry_count (element b (pos 0) ∷ []) ≤ 2 ^ 26
+single_is_few : (b : Basic) → entry_count (element b (pos 0) ∷ []) ≤ element_limit
 unfolding entry_count
 single_is_few b = omega arith
 
-pub IsKept-single : (b : Basic) (n : ℕ) (o : Outline) → o ≡ outline (element b (pos 0) ∷ []) → IsKept (element b (pos 0) ∷ []) n (origin.Basic b) o
-IsKept-single b n o e = record { outline_is = e; in_space = single_in_space b; few = single_is_few b; after = tt }
+pub IsKept_single : (b : Basic) (n : ℕ) (o : Summary) → o ≡ summary (element b (pos 0) ∷ []) → IsKept (element b (pos 0) ∷ []) n (origin.Basic b) o
+IsKept_single b n o e = record { summary_is = e; in_space = single_in_space b; few = single_is_few b; after = tt }
 
 -- ---- an empty table
 
@@ -46,9 +48,9 @@ table origins committed live = record { origins = origins; committed = committed
 abbrev numbered : ℕ → TypeId
 numbered n = record { 0 = n }
 
-pub table_of-empty : (t : Inside) → t.types.items ≡ [] → t.live.entries ≡ [] → table_of t ≡ table_of_basics []
+pub table_of_empty : (t : Inside) → t.types.items ≡ [] → t.live.entries ≡ [] → table_of t ≡ table_of_basics []
 unfolding table_of_basics
-table_of-empty t e f =
+table_of_empty t e f =
     ap (λ (ks : List Kept). table (origins_of ks) (map (λ (k : Kept). k.committed) ks) t.live.entries) e
     ∙ ap (λ live. table [] [] live) f
 
@@ -59,19 +61,19 @@ insert_past : (t : Bool) (e : List ℕ × TypeId) (es rest grown : List (List �
 insert_past true e es rest grown id later h k = absurd (cc)
 insert_past false e es rest grown id later h k = ap (λ xs. e ∷ xs) (k h)
 
-insert-fresh : (live : List (List ℕ × TypeId)) (name : List ℕ) (id : TypeId) → id_of live name ≡ None → insert_entry (pointwise nat_eq) live name id ≡ live ++ (name, id) ∷ []
-insert-fresh [] name id h = refl
-insert-fresh (e ∷ es) name id h =
+insert_fresh : (live : List (List ℕ × TypeId)) (name : List ℕ) (id : TypeId) → id_of live name ≡ None → insert_entry (pointwise nat_eq) live name id ≡ live ++ (name, id) ∷ []
+insert_fresh [] name id h = refl
+insert_fresh (e ∷ es) name id h =
     insert_past (pointwise nat_eq name e.0) e es (insert_entry (pointwise nat_eq) es name id) (es ++ (name, id) ∷ []) id (id_of es name) h
-    (λ k. insert-fresh es name id k)
+    (λ k. insert_fresh es name id k)
 
-words_from-push : (n : ℕ) (bs : List Basic) (b : Basic) (id : TypeId) → id.0 ≡ n + length bs → words_from n (bs ++ b ∷ []) ≡ words_from n bs ++ (basic_word b, id) ∷ []
-words_from-push n [] b id e = ap (λ m. (basic_word b, record { 0 = m }) ∷ []) (omega arith)
-words_from-push n (x ∷ xs) b id e = ap (λ es. (basic_word x, record { 0 = n }) ∷ es) (words_from-push (n + 1) xs b id (omega arith))
+words_from_push : (n : ℕ) (bs : List Basic) (b : Basic) (id : TypeId) → id.0 ≡ n + length bs → words_from n (bs ++ b ∷ []) ≡ words_from n bs ++ (basic_word b, id) ∷ []
+words_from_push n [] b id e = ap (λ m. (basic_word b, record { 0 = m }) ∷ []) (omega arith)
+words_from_push n (x ∷ xs) b id e = ap (λ es. (basic_word x, record { 0 = n }) ∷ es) (words_from_push (n + 1) xs b id (omega arith))
 
-pub table_of_basics-push : (old new : Table) (bs : List Basic) (b : Basic) → old ≡ table_of_basics bs → id_of (words_from 0 bs) (basic_word b) ≡ None → IsWithBasic old new b → new ≡ table_of_basics (bs ++ b ∷ [])
+pub table_of_basics_push : (old new : Table) (bs : List Basic) (b : Basic) → old ≡ table_of_basics bs → id_of (words_from 0 bs) (basic_word b) ≡ None → IsWithBasic old new b → new ≡ table_of_basics (bs ++ b ∷ [])
 unfolding table_of_basics
-table_of_basics-push old new bs b e fresh h =
+table_of_basics_push old new bs b e fresh h =
     let origins : new.origins ≡ map origin.Basic (bs ++ b ∷ []) =
     h.origins ∙ ap (λ (t : Table). t.origins ++ origin.Basic b ∷ []) e ∙ sym (map-append origin.Basic bs (b ∷ [])) in
     let committed : new.committed ≡ map (λ (x : Basic). true) (bs ++ b ∷ []) =
@@ -80,8 +82,8 @@ table_of_basics-push old new bs b e fresh h =
     let number : id.0 ≡ 0 + length bs = ap (λ (t : Table). length t.origins) e ∙ length-map bs origin.Basic ∙ omega arith in
     let live : new.live ≡ words_from 0 (bs ++ b ∷ []) =
     h.entries ∙ ap (λ (t : Table). insert_entry (pointwise nat_eq) t.live (basic_word b) id) e
-    ∙ insert-fresh (words_from 0 bs) (basic_word b) id fresh
-    ∙ sym (words_from-push 0 bs b id number) in
+    ∙ insert_fresh (words_from 0 bs) (basic_word b) id fresh
+    ∙ sym (words_from_push 0 bs b id number) in
     ap (λ os. table os new.committed new.live) origins
     ∙ ap (λ cs. table (map origin.Basic (bs ++ b ∷ [])) cs new.live) committed
     ∙ ap (λ es. table (map origin.Basic (bs ++ b ∷ [])) (map (λ (x : Basic). true) (bs ++ b ∷ [])) es) live
@@ -108,12 +110,12 @@ word_is_fresh n (b ∷ bs) (suc i) d h lt =
     ap (λ (t : Bool). if t then Some (numbered n) else id_of (words_from (n + 1) (take i bs)) (basic_word at)) other
     ∙ word_is_fresh (n + 1) bs i d (and_right (list_all differ bs) (words_differ bs) h) (omega arith)
 
-pub length-basics : (bs : List Basic) (i : ℕ) → i ≤ length bs → length (table_of_basics (take i bs)).origins ≡ i
+pub length_basics : (bs : List Basic) (i : ℕ) → i ≤ length bs → length (table_of_basics (take i bs)).origins ≡ i
 unfolding table_of_basics
-length-basics bs i h = length-map (take i bs) origin.Basic ∙ length-take-le i bs h
+length_basics bs i h = length-map (take i bs) origin.Basic ∙ length-take-le i bs h
 
-pub table_of_basics-more : (old new : Table) (bs : List Basic) (i : ℕ) (d : Basic) → words_differ bs ≡ true → i < length bs → old ≡ table_of_basics (take i bs) →
+pub table_of_basics_more : (old new : Table) (bs : List Basic) (i : ℕ) (d : Basic) → words_differ bs ≡ true → i < length bs → old ≡ table_of_basics (take i bs) →
     IsWithBasic old new (get_or bs i d) → new ≡ table_of_basics (take (i + 1) bs)
-table_of_basics-more old new bs i d differ lt e h =
-    table_of_basics-push old new (take i bs) (get_or bs i d) e (word_is_fresh 0 bs i d differ lt) h
+table_of_basics_more old new bs i d differ lt e h =
+    table_of_basics_push old new (take i bs) (get_or bs i d) e (word_is_fresh 0 bs i d differ lt) h
     ∙ sym (ap table_of_basics (take_more bs i d lt))

@@ -1,5 +1,5 @@
 pub mod RunLemmas
-pub mod PlaceLemmas
+pub mod CursorLemmas
 pub mod TableLemmas
 pub mod AddLemmas
 pub mod FirstLemmas
@@ -8,6 +8,6 @@ pub mod MemberLemmas
 pub mod StructLemmas
 pub mod OldLemmas
 pub mod MakeLemmas
-pub mod SigningLemmas
+pub mod SourceLemmas
 pub mod ComponentLemmas
 pub mod UniqueLemmas

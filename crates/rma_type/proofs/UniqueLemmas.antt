@@ -1,8 +1,8 @@
--- Runs that stand for the same basic datatypes are the same.
+-- Runs that represent the same basic datatypes are the same.
 use Rattle.std.proofs.Common.{◌≡◌, ◌≢◌, ℕ, zero, suc, ◌<◌, List, [], ◌∷◌, ◌++◌, replicate, refl, sym, ap, ◌∙◌, arith}
-use Rattle.rma_base.specs.declared.basics.Basic.{Basic}
-use Rattle.rma_type.specs.declared.types.SigRun.{SigRun}
-use Rattle.rma_type.specs.Signatures.{spread, BeginsOther, AreRuns, IsRunsOf}
+use Rattle.rma_datatype.specs.declared.basic.Basic.{Basic}
+use Rattle.rma_type.specs.declared.sig_run.SigRun.{SigRun}
+use Rattle.rma_type.specs.Signature.{spread, BeginsOther, AreRuns, IsRunsOf}
 
 -- runs of which the first has another basic datatype do not begin with it
 begins_not : (basic : Basic) (runs : List SigRun) (rest : List Basic) → BeginsOther basic runs → AreRuns runs → spread runs ≡ basic ∷ rest → ⊥
@@ -61,5 +61,5 @@ same_runs (x ∷ xs) (y ∷ ys) h k e = both x.count y.count h.0 k.0 e refl refl
         ap (λ r. r ∷ xs) first ∙ ap (λ rs. y ∷ rs) rest
 
 -- the runs of a signature are the only ones
-pub IsRunsOf-unique : (basics : List Basic) (xs ys : List SigRun) → IsRunsOf basics xs → IsRunsOf basics ys → xs ≡ ys
-IsRunsOf-unique basics xs ys h k = same_runs xs ys h.apart k.apart (h.same ∙ sym k.same)
+pub IsRunsOf_unique : (basics : List Basic) (xs ys : List SigRun) → IsRunsOf basics xs → IsRunsOf basics ys → xs ≡ ys
+IsRunsOf_unique basics xs ys h k = same_runs xs ys h.apart k.apart (h.same ∙ sym k.same)

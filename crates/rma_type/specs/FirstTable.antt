@@ -1,11 +1,11 @@
--- The table of a rank that made no datatype yet: the basic ones stand in it (MPI 4.0, "Datatypes").
+-- The table of a rank that made no datatype yet: it has the basic ones (MPI 4.0, "Datatypes").
 use Rattle.std.specs.Prelude.{ℕ, ◌+◌, List, [], ◌∷◌, map, true}
-use Rattle.rma_base.specs.declared.basics.Basic.{Basic}
-use Rattle.rma_base.specs.declared.basics.Basic.TheVariants.{SignedChar, UnsignedChar, Short, UnsignedShort, Int, Unsigned, Long, UnsignedLong, LongLong, UnsignedLongLong, Int8, Int16, Int32, Int64, Uint8, Uint16, Uint32, Uint64, Aint, Offset, Count, Float, Double, CBool, Byte, Char}
-use Rattle.rma_base.specs.Basics.{basic_word}
-use Rattle.rma_type.specs.declared.types.TypeId.{TypeId}
-use Rattle.rma_type.specs.declared.origins.Origin.TheVariants as origin
-use Rattle.rma_type.specs.Tables.{Table}
+use Rattle.rma_datatype.specs.declared.basic.Basic.{Basic}
+use Rattle.rma_datatype.specs.declared.basic.Basic.TheVariants.{SignedChar, UnsignedChar, Short, UnsignedShort, Int, Unsigned, Long, UnsignedLong, LongLong, UnsignedLongLong, Int8, Int16, Int32, Int64, Uint8, Uint16, Uint32, Uint64, Aint, Offset, Count, Float, Double, CBool, Byte, Char}
+use Rattle.rma_datatype.specs.Basic.{basic_word}
+use Rattle.rma_type.specs.declared.id.TypeId.{TypeId}
+use Rattle.rma_type.specs.declared.origin.Origin.TheVariants as origin
+use Rattle.rma_type.specs.Table.{Table}
 
 -- the basic datatypes, in the order of their numbers
 unfoldable pub basics : List Basic

@@ -1,64 +1,78 @@
 //! Tables of datatypes under names.
 ghost use Rattle.std.specs.Prelude.{◌≡◌, ◌≢◌, ◌+◌, ◌-◌, ◌^◌, ◌<◌, ◌≤◌, ◌↔◌, length, Some, None, IfOk, OnOk, OnErr, IfErr, IsErrOf, IsTrue, slice_get, slice_index_or, slice_set, option_copied, true, false, is_some, nat_eq, option_map, IfSome, ◌++◌, ◌∷◌, [], ◌⊎◌};
 ghost use Rattle.std.specs.Cmp.Lexicographic.{pointwise};
-ghost use Rattle.rma_type.specs.Tables.{id_of, typemaps, typemap_in, how_of, olds_in, HasOld, IsCommitted, IsFreed, stands_for_derived, typemap_of, IsAdded, all_live, olds_of, member_names, old_names};
-ghost use Rattle.rma_type.specs.declared.origins.Origin.TheVariants.{Derived};
+ghost use Rattle.rma_base.specs.Limits.{element_limit, address_limit};
+ghost use Rattle.rma_type.specs.Names.{id_of, all_live, old_types_of, member_names, old_names};
+ghost use Rattle.rma_type.specs.Table.{typemaps, typemap_in, constructor_of, old_types_in, HasOld, names_derived, typemap_of};
+ghost use Rattle.rma_type.specs.Change.{IsCommitted, IsFreed};
+ghost use Rattle.rma_type.specs.inside.Added.{IsAdded};
+ghost use Rattle.rma_type.specs.declared.origin.Origin.TheVariants.{Derived};
 ghost use Rattle.rma_typemap.specs.Bounds.{entry_count, signature};
-ghost use Rattle.rma_type.specs.Signatures.{spread, IsRunsOf, IsComponentOf};
-ghost use Rattle.rma_type.specs.Signings.{IsSigning};
-ghost use Rattle.rma_typemap.specs.Outline.{outline};
-ghost use Rattle.rma_typemap.specs.Space.{space, is_all_in_space};
-ghost use Rattle.rma_typemap.specs.Near.{IsNearby, IsSound};
-ghost use Rattle.rma_typemap.specs.Told.{told_of};
+ghost use Rattle.rma_type.specs.Signature.{spread, IsRunsOf, IsComponentOf};
+ghost use Rattle.rma_type.specs.inside.SignatureSource.{IsSourceOf};
+ghost use Rattle.rma_typemap.specs.inside.Summary.{summary};
+ghost use Rattle.rma_typemap.specs.Space.{is_all_in_space};
+ghost use Rattle.rma_typemap.specs.inside.Near.{IsNearby, IsSound};
+ghost use Rattle.rma_typemap.specs.Made.{made_of};
 
-use crate::basics::{self, BASICS};
-use crate::origins::Origin;
-use crate::signatures;
-use crate::signings::Signing;
-use crate::types::{Component, Made, SigRun, TypeError, TypeFault, TypeId};
+use crate::basic::{self, BASICS};
+use crate::component::Component;
+use crate::fault::{TypeError, TypeFault};
+use crate::id::TypeId;
+use crate::origin::Origin;
+use crate::sig_run::SigRun;
+use crate::signature;
+use crate::signature_source::SignatureSource;
 use indexmap::IndexMap;
-use rma_base::allocation::Memory;
-use rma_base::basics::Basic;
-use rma_base::lists::Sequence;
-use rma_base::makes::{Make, Member};
-use rma_base::names::Name;
-use rma_typemap::bounds;
-use rma_typemap::outlines::{self, Outline};
+use rma_base::{Memory, Name, Sequence};
+use rma_datatype::{Basic, Make, Member};
+use rma_typemap::{Made, Summary};
 use std::alloc::Global;
 use std::marker::Model;
 
-/// What is kept of a datatype; its signature by the number of that.
+/// What is kept of a datatype.
 #[derive(Drop)]
 pub(crate) struct Kept {
+    /// Where the datatype comes from.
     pub(crate) origin: Origin,
+    /// Whether it is committed.
     pub(crate) committed: bool,
-    pub(crate) outline: Outline,
+    /// The summary of its typemap.
+    pub(crate) summary: Summary,
+    /// The number of its signature.
     pub(crate) signature: usize,
 }
 
 /// What is to be kept of a new datatype.
 #[derive(Drop)]
 pub(crate) struct Draft {
+    /// Where the datatype comes from.
     pub(crate) origin: Origin,
+    /// Whether it is committed.
     pub(crate) committed: bool,
-    pub(crate) outline: Outline,
-    pub(crate) signing: Signing,
+    /// The summary of its typemap.
+    pub(crate) summary: Summary,
+    /// Where it takes its signature.
+    pub(crate) source: SignatureSource,
 }
 
 /// The datatypes of one rank, by the names that it gave them.
 #[derive(Drop)]
 pub struct TypeTable {
+    /// The datatypes by their numbers, the basic ones first.
     types: Vec<Kept>,
+    /// The signatures by their numbers, each as its runs. Datatypes of one signature may share it.
     signatures: Vec<Vec<SigRun>>,
+    /// The live names, and what they represent.
     live: IndexMap<Name, TypeId>,
 }
 
 impl Model for TypeTable {
-    ghost use Rattle.rma_type.specs.Tables.{Table};
+    ghost use Rattle.rma_type.specs.Table.{Table};
 
     ghost Value = { Table };
 
-    ghost use Rattle.rma_type.specs.TableInside.{table_of, IsTable};
+    ghost use Rattle.rma_type.specs.inside.Kept.{table_of, IsTable};
 
     ghost view = { table_of };
 
@@ -66,13 +80,14 @@ impl Model for TypeTable {
 }
 
 impl TypeTable {
-    ghost use Rattle.rma_type.specs.Adds.{ComesAfter, outline_of_new};
-    ghost use Rattle.rma_type.specs.TableInside.{IsKept};
-    ghost use Rattle.rma_type.specs.Puts.{IsPut, IsWithBasic};
+    ghost use Rattle.rma_type.specs.Table.{ComesAfter};
+    ghost use Rattle.rma_type.specs.inside.Added.{summary_of_new};
+    ghost use Rattle.rma_type.specs.inside.Kept.{IsKept};
+    ghost use Rattle.rma_type.specs.inside.Put.{IsPut, IsWithBasic};
     ghost use Rattle.rma_type.specs.FirstTable.{basics, table_of_basics};
-    ghost use Rattle.rma_type.specs.Words.{words_differ};
+    ghost use Rattle.rma_type.specs.inside.Words.{words_differ};
 
-    /// The table of a rank that made no datatype yet: each basic one stands under its word, and is committed.
+    /// The table of a rank that made no datatype yet: each basic one is live under its word, and committed.
     pub fn new(alloc: Global) -> Result<TypeTable, Memory>
         ensures { IfOk result (λ table. table ≡ table_of_basics basics) }
     {
@@ -117,10 +132,10 @@ impl TypeTable {
         let draft = Draft {
             origin: Origin::Basic(basic),
             committed: true,
-            outline: outlines::single(basic),
-            signing: Signing::Own(signatures::single(alloc, basic)?),
+            summary: Summary::single(basic),
+            source: SignatureSource::Own(signature::single(alloc, basic)?),
         };
-        let name = basics::name_of(alloc, basic)?;
+        let name = basic::name_of(alloc, basic)?;
         match self.put(name, draft) {
             Ok(_) => Ok(()),
             Err(error) => Err(error),
@@ -150,28 +165,28 @@ impl TypeTable {
     /// Whether the datatype is committed.
     pub fn committed(&self, id: TypeId) -> bool
         requires { id.0 < length self.now.origins }
-        ensures { result ≡ slice_index_or self.now.committed id.0 result }
+        ensures { slice_get self.now.committed id.0 ≡ Some result }
     {
         self.types[id.0 as usize].committed
     }
 
-    /// The outline of the datatype.
-    pub(crate) fn outline(&self, id: TypeId) -> &Outline
+    /// The summary of the datatype.
+    pub(crate) fn summary(&self, id: TypeId) -> &Summary
         requires { id.0 < length self.now.origins }
-        ensures value { result.now ≡ outline (typemap_in (typemaps self.now.origins) id) }
-        ensures near { IsNearby space result.now }
+        ensures value { result.now ≡ summary (typemap_in (typemaps self.now.origins) id) }
+        ensures near { IsNearby address_limit result.now }
         ensures sound { IsSound result.now }
-        ensures few { result.now.entries ≤ 2 ^ 26 }
+        ensures few { result.now.entries ≤ element_limit }
     {
-        &self.types[id.0 as usize].outline
+        &self.types[id.0 as usize].summary
     }
 
     /// The size, the bounds and the blocks of the datatype.
     pub fn made(&self, id: TypeId) -> Made
         requires { id.0 < length self.now.origins }
-        ensures { result ≡ told_of (typemap_in (typemaps self.now.origins) id) }
+        ensures { result ≡ made_of (typemap_in (typemaps self.now.origins) id) }
     {
-        bounds::made(self.outline(id))
+        self.summary(id).made()
     }
 
     /// The signature of the datatype: the basic datatypes of its elements in order, as runs of equal ones of which
@@ -179,7 +194,7 @@ impl TypeTable {
     pub fn signature(&self, id: TypeId) -> &[SigRun]
         requires { id.0 < length self.now.origins }
         ensures runs { IsRunsOf (signature (typemap_in (typemaps self.now.origins) id)) result.now }
-        ensures few { length (spread result.now) ≤ 2 ^ 26 }
+        ensures few { length (spread result.now) ≤ element_limit }
     {
         self.signatures[self.types[id.0 as usize].signature].as_slice()
     }
@@ -208,28 +223,34 @@ impl TypeTable {
     /// The constructor that made the datatype, and nothing for a basic one.
     pub fn made_by(&self, id: TypeId) -> Option<&Make>
         requires { id.0 < length self.now.origins }
-        ensures { Some (option_copied result) ≡ option_map how_of (slice_get self.now.origins id.0) }
+        ensures value { Some (option_copied result) ≡ option_map constructor_of (slice_get self.now.origins id.0) }
+
+        // Its old datatypes are as many as its old names, and each has a lesser number.
+        ensures after { IfSome (slice_get self.now.origins id.0) (ComesAfter id.0) }
     {
         match &self.types[id.0 as usize].origin {
             Origin::Basic(_) => None,
-            Origin::Derived { how, .. } => Some(how),
+            Origin::Derived { constructor, .. } => Some(constructor),
         }
     }
 
-    /// What the i-th old name of the constructor that made the datatype stood for then.
+    /// What the i-th old name of the constructor that made the datatype represented then.
     pub fn old(&self, id: TypeId, i: usize) -> TypeId
         requires within { id.0 < length self.now.origins }
         requires old_within { IfSome (slice_get self.now.origins id.0) (HasOld i) }
-        ensures value { IfSome (slice_get self.now.origins id.0) (λ origin. slice_get (olds_in origin) i ≡ Some result) }
+        ensures value { IfSome (slice_get self.now.origins id.0) (λ origin. slice_get (old_types_in origin) i ≡ Some result) }
         ensures before { result.0 < id.0 }
     {
         match &self.types[id.0 as usize].origin {
             Origin::Basic(_) => unreachable!(),
-            Origin::Derived { olds, .. } => *olds.get(i),
+            Origin::Derived { old_types, .. } => *old_types.get(i),
         }
     }
 
     /// Commits the datatype of a live name.
+    ///
+    /// # Errors
+    /// [`TypeFault::UnknownType`] where the name is not live.
     pub fn commit(&mut self, name: &Name) -> Result<(), TypeFault>
         ensures fault { IfErr result (λ e. e ≡ TypeFault.UnknownType) }
         ensures unknown { IsErrOf result TypeFault.UnknownType ↔ (id_of self.old.live name.now ≡ None) }
@@ -244,9 +265,12 @@ impl TypeTable {
     }
 
     /// Takes the name of a derived datatype away. Datatypes that were built of it stay.
+    ///
+    /// # Errors
+    /// [`TypeFault::UnknownType`] where the name is not live, or that of a basic datatype.
     pub fn free(&mut self, name: &Name) -> Result<(), TypeFault>
         ensures fault { IfErr result (λ e. e ≡ TypeFault.UnknownType) }
-        ensures unknown { IsErrOf result TypeFault.UnknownType ↔ (stands_for_derived self.old name.now ≡ false) }
+        ensures unknown { IsErrOf result TypeFault.UnknownType ↔ (names_derived self.old name.now ≡ false) }
         ensures ok { OnOk result (IsFreed self.old self.new name.now) }
         ensures err { OnErr result (self.new ≡ self.old) }
     {
@@ -263,8 +287,8 @@ impl TypeTable {
     /// Puts a new datatype under a name. Where memory runs out, a signature of its own may stay that no datatype has.
     fn put(&mut self, name: Name, draft: Draft) -> Result<TypeId, Memory>
         requires room { length self.old.origins + 1 < 2 ^ 32 }
-        requires kept { IsKept (typemap_of (typemaps self.old.origins) draft.origin) (length self.old.origins) draft.origin draft.outline }
-        requires signed { IsSigning self.old.origins (signature (typemap_of (typemaps self.old.origins) draft.origin)) draft.signing }
+        requires kept { IsKept (typemap_of (typemaps self.old.origins) draft.origin) (length self.old.origins) draft.origin draft.summary }
+        requires signed { IsSourceOf self.old.origins (signature (typemap_of (typemaps self.old.origins) draft.origin)) draft.source }
         ensures ok { IfOk result (IsPut self.old self.new name draft.origin draft.committed) }
         ensures err { OnErr result (self.new ≡ self.old) }
     {
@@ -272,17 +296,17 @@ impl TypeTable {
         let Draft {
             origin,
             committed,
-            outline,
-            signing,
+            summary,
+            source,
         } = draft;
-        let signature = match signing {
-            Signing::Shared(old) => self.types[old.0 as usize].signature,
-            Signing::Own(runs) => signatures::keep(&mut self.signatures, runs)?,
+        let signature = match source {
+            SignatureSource::Shared(old) => self.types[old.0 as usize].signature,
+            SignatureSource::Own(runs) => signature::keep(&mut self.signatures, runs)?,
         };
         let kept = Kept {
             origin,
             committed,
-            outline,
+            summary,
             signature,
         };
         if self.types.push(kept).is_err() {
@@ -295,75 +319,82 @@ impl TypeTable {
         Ok(id)
     }
 
-    /// Puts a datatype under a name that is not live, where what it comes to is known.
+    /// Puts a datatype under a name that is not live, where its summary is known.
     pub(crate) fn add(
         &mut self,
         name: &Name,
-        how: &Make,
-        olds: Sequence<TypeId>,
-        outline: Outline,
-        signing: Signing,
+        constructor: &Make,
+        old_types: Sequence<TypeId>,
+        summary: Summary,
+        source: SignatureSource,
     ) -> Result<TypeId, Memory>
         requires room { length self.old.origins + 1 < 2 ^ 32 }
-        requires olds_fit { ComesAfter (length self.old.origins) (Derived how.now olds) }
-        requires outline_is { outline ≡ outline_of_new self.old.origins how.now olds }
-        requires in_space { is_all_in_space (typemap_of (typemaps self.old.origins) (Derived how.now olds)) ≡ true }
-        requires few { entry_count (typemap_of (typemaps self.old.origins) (Derived how.now olds)) ≤ 2 ^ 26 }
-        requires signed { IsSigning self.old.origins (signature (typemap_of (typemaps self.old.origins) (Derived how.now olds))) signing }
-        ensures ok { IfOk result (IsAdded self.old self.new name.now (Derived how.now olds)) }
+        requires old_types_fit { ComesAfter (length self.old.origins) (Derived constructor.now old_types) }
+        requires summary_is { summary ≡ summary_of_new self.old.origins constructor.now old_types }
+        requires in_space { is_all_in_space (typemap_of (typemaps self.old.origins) (Derived constructor.now old_types)) ≡ true }
+        requires few { entry_count (typemap_of (typemaps self.old.origins) (Derived constructor.now old_types)) ≤ element_limit }
+        requires signed { IsSourceOf self.old.origins (signature (typemap_of (typemaps self.old.origins) (Derived constructor.now old_types))) source }
+        ensures ok { IfOk result (IsAdded self.old self.new name.now (Derived constructor.now old_types)) }
         ensures err { OnErr result (self.new ≡ self.old) }
     {
-        let how = how.copy()?;
+        let constructor = constructor.copy()?;
         let name = name.copy()?;
         let draft = Draft {
-            origin: Origin::Derived { how, olds },
+            origin: Origin::Derived {
+                constructor,
+                old_types,
+            },
             committed: false,
-            outline,
-            signing,
+            summary,
+            source,
         };
         self.put(name, draft)
     }
 
-    /// Puts what a live name stands for at the end of a list.
-    fn push_old(&self, name: &Name, olds: &mut Sequence<TypeId>) -> Result<(), TypeError>
-        ensures ok { OnOk result (IfSome (id_of self.now.live name.now) (λ id. olds.new ≡ olds.old ++ id ∷ [])) }
+    /// Puts what a live name represents at the end of a list.
+    fn push_old_type(&self, name: &Name, old_types: &mut Sequence<TypeId>) -> Result<(), TypeError>
+        ensures ok { OnOk result (IfSome (id_of self.now.live name.now) (λ id. old_types.new ≡ old_types.old ++ id ∷ [])) }
         ensures live { OnOk result (is_some (id_of self.now.live name.now) ≡ true) }
         ensures unknown { IfErr result (λ e. (e ≡ TypeError.Memory) ⊎ ((e ≡ TypeError.Fault TypeFault.UnknownType) × (is_some (id_of self.now.live name.now) ≡ false))) }
     {
         let Some(id) = self.find(name) else {
             return Err(TypeError::Fault(TypeFault::UnknownType));
         };
-        match olds.push(id) {
+        match old_types.push(id) {
             Ok(()) => Ok(()),
             Err(_) => Err(TypeError::Memory),
         }
     }
 
-    /// What the old names of members stand for.
-    fn find_members(&self, members: &[Member], olds: &mut Sequence<TypeId>) -> Result<(), TypeError>
-        requires { olds.old ≡ [] }
-        ensures ok { OnOk result (olds.new ≡ olds_of self.now.live (member_names members.now)) }
+    /// What the old names of members represent.
+    fn find_members(
+        &self,
+        members: &[Member],
+        old_types: &mut Sequence<TypeId>,
+    ) -> Result<(), TypeError>
+        requires { old_types.old ≡ [] }
+        ensures ok { OnOk result (old_types.new ≡ old_types_of self.now.live (member_names members.now)) }
         ensures live { OnOk result (all_live self.now.live (member_names members.now) ≡ true) }
         ensures unknown { IfErr result (λ e. (e ≡ TypeError.Memory) ⊎ ((e ≡ TypeError.Fault TypeFault.UnknownType) × (all_live self.now.live (member_names members.now) ≡ false))) }
     {
         for member in members {
-            if let Err(error) = self.push_old(&member.old, olds) {
+            if let Err(error) = self.push_old_type(&member.old, old_types) {
                 return Err(error);
             }
         }
         Ok(())
     }
 
-    /// What the old names of a constructor stand for.
-    pub(crate) fn find_olds(&self, how: &Make) -> Result<Sequence<TypeId>, TypeError>
-        ensures ok { IfOk result (λ olds. olds ≡ olds_of self.now.live (old_names how.now)) }
-        ensures after { IfOk result (λ olds. ComesAfter (length self.now.origins) (Derived how.now olds)) }
-        ensures live { OnOk result (all_live self.now.live (old_names how.now) ≡ true) }
-        ensures unknown { IfErr result (λ e. (e ≡ TypeError.Memory) ⊎ ((e ≡ TypeError.Fault TypeFault.UnknownType) × (all_live self.now.live (old_names how.now) ≡ false))) }
+    /// What the old names of a constructor represent.
+    pub(crate) fn find_old_types(&self, constructor: &Make) -> Result<Sequence<TypeId>, TypeError>
+        ensures ok { IfOk result (λ old_types. old_types ≡ old_types_of self.now.live (old_names constructor.now)) }
+        ensures after { IfOk result (λ old_types. ComesAfter (length self.now.origins) (Derived constructor.now old_types)) }
+        ensures live { OnOk result (all_live self.now.live (old_names constructor.now) ≡ true) }
+        ensures unknown { IfErr result (λ e. (e ≡ TypeError.Memory) ⊎ ((e ≡ TypeError.Fault TypeFault.UnknownType) × (all_live self.now.live (old_names constructor.now) ≡ false))) }
     {
-        let mut olds = Sequence::new(*self.types.allocator());
-        let found = match how {
-            Make::Struct { members } => self.find_members(members.as_slice(), &mut olds),
+        let mut old_types = Sequence::new(*self.types.allocator());
+        let found = match constructor {
+            Make::Struct { members } => self.find_members(members.as_slice(), &mut old_types),
             Make::Contiguous { old, .. }
             | Make::Vector { old, .. }
             | Make::Hvector { old, .. }
@@ -371,10 +402,10 @@ impl TypeTable {
             | Make::Hindexed { old, .. }
             | Make::IndexedBlock { old, .. }
             | Make::Resized { old, .. }
-            | Make::Subarray { old, .. } => self.push_old(old, &mut olds),
+            | Make::Subarray { old, .. } => self.push_old_type(old, &mut old_types),
         };
         match found {
-            Ok(()) => Ok(olds),
+            Ok(()) => Ok(old_types),
             Err(error) => Err(error),
         }
     }

@@ -3,14 +3,14 @@ use Rattle.std.proofs.Common.{◌≡◌, ℕ, ◌+◌, ◌*◌, ◌<◌, ◌≤�
 use Rattle.std.proofs.lemmas.List.{map_more}
 use Rattle.std.proofs.lemmas.List.Sums.{fold_push, sum_by_more, sum_by_more_le}
 use Rattle.std.proofs.Math.Nat.{mul-le-mul_right}
-use Rattle.rma_typemap.specs.declared.outlines.Outline.{Outline}
-use Rattle.rma_typemap.specs.Outline.{with_block, blocks_of, empty_outline}
+use Rattle.rma_typemap.specs.declared.summary.Summary.{Summary}
+use Rattle.rma_typemap.specs.inside.Summary.{with_block, indexed_of, empty_summary}
 
-module _ {B : Type 0} (block : B → ℕ × ℤ) (old : Outline) where
-  pub blocks_of-more : (bs : List B) (i : ℕ) (d : B) → i < length bs →
-      blocks_of old (map block (take (i + 1) bs)) ≡ with_block old (blocks_of old (map block (take i bs))) (block (get_or bs i d))
-  blocks_of-more bs i d h =
-      ap (blocks_of old) (map_more block bs i d h) ∙ fold_push (with_block old) empty_outline (map block (take i bs)) (block (get_or bs i d))
+module _ {B : Type 0} (block : B → ℕ × ℤ) (old : Summary) where
+  pub indexed_of_more : (bs : List B) (i : ℕ) (d : B) → i < length bs →
+      indexed_of old (map block (take (i + 1) bs)) ≡ with_block old (indexed_of old (map block (take i bs))) (block (get_or bs i d))
+  indexed_of_more bs i d h =
+      ap (indexed_of old) (map_more block bs i d h) ∙ fold_push (with_block old) empty_summary (map block (take i bs)) (block (get_or bs i d))
 
 -- what the blocks so far and the next one have is no more than what all have
 pub few_more : {B : Type 0} (n : B → ℕ) (e limit : ℕ) (bs : List B) (i : ℕ) (d : B) → i < length bs → sum_by n bs * e ≤ limit →

@@ -1,17 +1,17 @@
--- Outlines stay sound, and near, under copies, moves and joins.
+-- Summaries stay sound, and near, under copies, moves and joins.
 use Rattle.std.proofs.Common.{◌≡◌, ℕ, zero, suc, ◌+◌, ◌*◌, ◌≤◌, max, ℤ, pos, negsuc, ◌+ℤ◌, ◌*ℤ◌, Option, Some, None, arith}
 use Rattle.std.specs.Int.{int_min, int_max}
 use Rattle.std.proofs.lemmas.Int.{ints, clamps}
 use Rattle.std.proofs.lemmas.Nat.{mul-le}
 use Rattle.std.proofs.Math.Nat.{mul-le-mul_left}
-use Rattle.rma_typemap.specs.declared.spans.Span.{Span}
-use Rattle.rma_typemap.specs.declared.chains.Chain.{Chain}
-use Rattle.rma_typemap.specs.declared.outlines.Outline.{Outline}
+use Rattle.rma_typemap.specs.declared.span.Span.{Span}
+use Rattle.rma_typemap.specs.declared.blocks.Blocks.{Blocks}
+use Rattle.rma_typemap.specs.declared.summary.Summary.{Summary}
 use Rattle.rma_typemap.specs.Typemap.{gap}
-use Rattle.rma_typemap.specs.Near.{IsNear, SpanIsNear, ChainIsNear, ChainIsShort, IsAligned, IsNearby, IsSound}
-use Rattle.rma_typemap.specs.Outline.{joined_span, moved_span, stretched_span, joined_chain, moved_chain, repeated_chain, joined, displaced, with_more, repeated, empty_outline, marked}
-use Rattle.rma_typemap.proofs.Integers.{one_more}
-use Rattle.rma_typemap.proofs.ChainLemmas.{gap-small}
+use Rattle.rma_typemap.specs.inside.Near.{IsNear, SpanIsNear, BlocksAreNear, BlocksAreFew, IsAligned, IsNearby, IsSound}
+use Rattle.rma_typemap.specs.inside.Summary.{joined_span, moved_span, stretched_span, joined_blocks, moved_blocks, repeated_blocks, joined, displaced, with_more, repeated, empty_summary, marked}
+use Rattle.rma_typemap.proofs.IntegerLemmas.{one_more}
+use Rattle.rma_typemap.proofs.BlocksLemmas.{gap_small}
 
 -- ---- near numbers
 
@@ -54,156 +54,156 @@ pub near_fewer : (far n : ℕ) (s : ℤ) → IsNear far (pos (suc n) *ℤ s) →
 near_fewer far n (pos s) h = let e = one_more n (pos s) in record { low = omega (arith, ints); high = omega (arith, ints) }
 near_fewer far n (negsuc s) h = let e = one_more n (negsuc s) in record { low = omega (arith, ints); high = omega (arith, ints) }
 
--- ---- near outlines
+-- ---- near summaries
 
-SpanIsNear-wider : (far wide : ℕ) (a : Option Span) → far ≤ wide → SpanIsNear far a → SpanIsNear wide a
-SpanIsNear-wider far wide None le h = tt
-SpanIsNear-wider far wide (Some a) le h = (near_wider far wide a.low le h.0, near_wider far wide a.high le h.1)
+SpanIsNear_wider : (far wide : ℕ) (a : Option Span) → far ≤ wide → SpanIsNear far a → SpanIsNear wide a
+SpanIsNear_wider far wide None le h = tt
+SpanIsNear_wider far wide (Some a) le h = (near_wider far wide a.low le h.0, near_wider far wide a.high le h.1)
 
-ChainIsNear-wider : (far wide : ℕ) (a : Option Chain) → far ≤ wide → ChainIsNear far a → ChainIsNear wide a
-ChainIsNear-wider far wide None le h = tt
-ChainIsNear-wider far wide (Some a) le h = (near_wider far wide a.first le h.0, near_wider far wide a.last le h.1)
+BlocksAreNear_wider : (far wide : ℕ) (a : Option Blocks) → far ≤ wide → BlocksAreNear far a → BlocksAreNear wide a
+BlocksAreNear_wider far wide None le h = tt
+BlocksAreNear_wider far wide (Some a) le h = (near_wider far wide a.first le h.0, near_wider far wide a.last le h.1)
 
-pub IsNearby-wider : (far wide : ℕ) (a : Outline) → far ≤ wide → IsNearby far a → IsNearby wide a
-IsNearby-wider far wide a le h = record {
-  bytes = SpanIsNear-wider far wide a.bytes le h.bytes;
-  lower = SpanIsNear-wider far wide a.lower le h.lower;
-  upper = SpanIsNear-wider far wide a.upper le h.upper;
-  chain = ChainIsNear-wider far wide a.chain le h.chain;
+pub IsNearby_wider : (far wide : ℕ) (a : Summary) → far ≤ wide → IsNearby far a → IsNearby wide a
+IsNearby_wider far wide a le h = record {
+  bytes = SpanIsNear_wider far wide a.bytes le h.bytes;
+  lower = SpanIsNear_wider far wide a.lower le h.lower;
+  upper = SpanIsNear_wider far wide a.upper le h.upper;
+  blocks = BlocksAreNear_wider far wide a.blocks le h.blocks;
 }
 
-pub IsNearby-empty : (far : ℕ) → IsNearby far empty_outline
-IsNearby-empty far = record { bytes = tt; lower = tt; upper = tt; chain = tt }
+pub IsNearby_empty : (far : ℕ) → IsNearby far empty_summary
+IsNearby_empty far = record { bytes = tt; lower = tt; upper = tt; blocks = tt }
 
-SpanIsNear-moved : (far more : ℕ) (by : ℤ) (a : Option Span) → IsNear more by → SpanIsNear far a → SpanIsNear (far + more) (moved_span by a)
-SpanIsNear-moved far more by None k h = tt
-SpanIsNear-moved far more by (Some a) k h = (near_add_left far more a.low by h.0 k, near_add_left far more a.high by h.1 k)
+SpanIsNear_moved : (far more : ℕ) (by : ℤ) (a : Option Span) → IsNear more by → SpanIsNear far a → SpanIsNear (far + more) (moved_span by a)
+SpanIsNear_moved far more by None k h = tt
+SpanIsNear_moved far more by (Some a) k h = (near_add_left far more a.low by h.0 k, near_add_left far more a.high by h.1 k)
 
-ChainIsNear-moved : (far more : ℕ) (by : ℤ) (a : Option Chain) → IsNear more by → ChainIsNear far a → ChainIsNear (far + more) (moved_chain by a)
-ChainIsNear-moved far more by None k h = tt
-ChainIsNear-moved far more by (Some a) k h = (near_add_left far more a.first by h.0 k, near_add_left far more a.last by h.1 k)
+BlocksAreNear_moved : (far more : ℕ) (by : ℤ) (a : Option Blocks) → IsNear more by → BlocksAreNear far a → BlocksAreNear (far + more) (moved_blocks by a)
+BlocksAreNear_moved far more by None k h = tt
+BlocksAreNear_moved far more by (Some a) k h = (near_add_left far more a.first by h.0 k, near_add_left far more a.last by h.1 k)
 
-pub IsNearby-displaced : (far more : ℕ) (by : ℤ) (a : Outline) → IsNear more by → IsNearby far a → IsNearby (far + more) (displaced by a)
-IsNearby-displaced far more by a k h = record {
-  bytes = SpanIsNear-moved far more by a.bytes k h.bytes;
-  lower = SpanIsNear-moved far more by a.lower k h.lower;
-  upper = SpanIsNear-moved far more by a.upper k h.upper;
-  chain = ChainIsNear-moved far more by a.chain k h.chain;
+pub IsNearby_displaced : (far more : ℕ) (by : ℤ) (a : Summary) → IsNear more by → IsNearby far a → IsNearby (far + more) (displaced by a)
+IsNearby_displaced far more by a k h = record {
+  bytes = SpanIsNear_moved far more by a.bytes k h.bytes;
+  lower = SpanIsNear_moved far more by a.lower k h.lower;
+  upper = SpanIsNear_moved far more by a.upper k h.upper;
+  blocks = BlocksAreNear_moved far more by a.blocks k h.blocks;
 }
 
-pub SpanIsNear-joined : (far : ℕ) (a b : Option Span) → SpanIsNear far a → SpanIsNear far b → SpanIsNear far (joined_span a b)
-SpanIsNear-joined far None b h k = k
-SpanIsNear-joined far (Some a) None h k = h
-SpanIsNear-joined far (Some a) (Some b) h k = (near_lesser far a.low b.low h.0 k.0, near_greater far a.high b.high h.1 k.1)
+pub SpanIsNear_joined : (far : ℕ) (a b : Option Span) → SpanIsNear far a → SpanIsNear far b → SpanIsNear far (joined_span a b)
+SpanIsNear_joined far None b h k = k
+SpanIsNear_joined far (Some a) None h k = h
+SpanIsNear_joined far (Some a) (Some b) h k = (near_lesser far a.low b.low h.0 k.0, near_greater far a.high b.high h.1 k.1)
 
-ChainIsNear-joined : (far : ℕ) (a b : Option Chain) → ChainIsNear far a → ChainIsNear far b → ChainIsNear far (joined_chain a b)
-ChainIsNear-joined far None b h k = k
-ChainIsNear-joined far (Some a) None h k = h
-ChainIsNear-joined far (Some a) (Some b) h k = (h.0, k.1)
+BlocksAreNear_joined : (far : ℕ) (a b : Option Blocks) → BlocksAreNear far a → BlocksAreNear far b → BlocksAreNear far (joined_blocks a b)
+BlocksAreNear_joined far None b h k = k
+BlocksAreNear_joined far (Some a) None h k = h
+BlocksAreNear_joined far (Some a) (Some b) h k = (h.0, k.1)
 
-pub IsNearby-joined : (far : ℕ) (a b : Outline) → IsNearby far a → IsNearby far b → IsNearby far (joined a b)
-IsNearby-joined far a b h k = record {
-  bytes = SpanIsNear-joined far a.bytes b.bytes h.bytes k.bytes;
-  lower = SpanIsNear-joined far a.lower b.lower h.lower k.lower;
-  upper = SpanIsNear-joined far a.upper b.upper h.upper k.upper;
-  chain = ChainIsNear-joined far a.chain b.chain h.chain k.chain;
+pub IsNearby_joined : (far : ℕ) (a b : Summary) → IsNearby far a → IsNearby far b → IsNearby far (joined a b)
+IsNearby_joined far a b h k = record {
+  bytes = SpanIsNear_joined far a.bytes b.bytes h.bytes k.bytes;
+  lower = SpanIsNear_joined far a.lower b.lower h.lower k.lower;
+  upper = SpanIsNear_joined far a.upper b.upper h.upper k.upper;
+  blocks = BlocksAreNear_joined far a.blocks b.blocks h.blocks k.blocks;
 }
 
-SpanIsNear-stretched : (far more : ℕ) (by : ℤ) (a : Option Span) → IsNear more by → SpanIsNear far a → SpanIsNear (far + more) (stretched_span by a)
-SpanIsNear-stretched far more by None k h = tt
-SpanIsNear-stretched far more by (Some a) k h = (
+SpanIsNear_stretched : (far more : ℕ) (by : ℤ) (a : Option Span) → IsNear more by → SpanIsNear far a → SpanIsNear (far + more) (stretched_span by a)
+SpanIsNear_stretched far more by None k h = tt
+SpanIsNear_stretched far more by (Some a) k h = (
   near_add far more a.low (int_min (pos 0) by) h.0 (near_lesser more (pos 0) by (near_zero more) k),
   near_add far more a.high (int_max (pos 0) by) h.1 (near_greater more (pos 0) by (near_zero more) k),
 )
 
-ChainIsNear-repeated : (far more n : ℕ) (s : ℤ) (a : Option Chain) → IsNear more (pos n *ℤ s) → ChainIsNear far a → ChainIsNear (far + more) (repeated_chain n s a)
-ChainIsNear-repeated far more n s None k h = tt
-ChainIsNear-repeated far more n s (Some a) k h = (near_wider far (far + more) a.first (omega arith) h.0, near_add far more a.last (pos n *ℤ s) h.1 k)
+BlocksAreNear_repeated : (far more n : ℕ) (s : ℤ) (a : Option Blocks) → IsNear more (pos n *ℤ s) → BlocksAreNear far a → BlocksAreNear (far + more) (repeated_blocks n s a)
+BlocksAreNear_repeated far more n s None k h = tt
+BlocksAreNear_repeated far more n s (Some a) k h = (near_wider far (far + more) a.first (omega arith) h.0, near_add far more a.last (pos n *ℤ s) h.1 k)
 
-pub IsNearby-with_more : (far more n : ℕ) (s : ℤ) (a : Outline) → IsNear more (pos n *ℤ s) → IsNearby far a → IsNearby (far + more) (with_more n s a)
-IsNearby-with_more far more n s a k h = record {
-  bytes = SpanIsNear-stretched far more (pos n *ℤ s) a.bytes k h.bytes;
-  lower = SpanIsNear-stretched far more (pos n *ℤ s) a.lower k h.lower;
-  upper = SpanIsNear-stretched far more (pos n *ℤ s) a.upper k h.upper;
-  chain = ChainIsNear-repeated far more n s a.chain k h.chain;
+pub IsNearby_with_more : (far more n : ℕ) (s : ℤ) (a : Summary) → IsNear more (pos n *ℤ s) → IsNearby far a → IsNearby (far + more) (with_more n s a)
+IsNearby_with_more far more n s a k h = record {
+  bytes = SpanIsNear_stretched far more (pos n *ℤ s) a.bytes k h.bytes;
+  lower = SpanIsNear_stretched far more (pos n *ℤ s) a.lower k h.lower;
+  upper = SpanIsNear_stretched far more (pos n *ℤ s) a.upper k h.upper;
+  blocks = BlocksAreNear_repeated far more n s a.blocks k h.blocks;
 }
 
-pub IsNearby-repeated : (far more n : ℕ) (s : ℤ) (a : Outline) → IsNear more (pos n *ℤ s) → IsNearby far a → IsNearby (far + more) (repeated n s a)
-IsNearby-repeated far more zero s a k h = IsNearby-empty (far + more)
-IsNearby-repeated far more (suc n) s a k h = IsNearby-with_more far more n s a (near_fewer more n s k) h
+pub IsNearby_repeated : (far more n : ℕ) (s : ℤ) (a : Summary) → IsNear more (pos n *ℤ s) → IsNearby far a → IsNearby (far + more) (repeated n s a)
+IsNearby_repeated far more zero s a k h = IsNearby_empty (far + more)
+IsNearby_repeated far more (suc n) s a k h = IsNearby_with_more far more n s a (near_fewer more n s k) h
 
--- ---- sound outlines
+-- ---- sound summaries
 
-pub IsSound-empty : IsSound empty_outline
-IsSound-empty = record { small = omega arith; low = omega arith; short = tt; aligned = tt }
+pub IsSound_empty : IsSound empty_summary
+IsSound_empty = record { small = omega arith; low = omega arith; short = tt; aligned = tt }
 
-IsAligned-moved : (n : ℕ) (by : ℤ) (a : Option Span) → IsAligned n a → IsAligned n (moved_span by a)
-IsAligned-moved n by None h = tt
-IsAligned-moved n by (Some a) h = h
+IsAligned_moved : (n : ℕ) (by : ℤ) (a : Option Span) → IsAligned n a → IsAligned n (moved_span by a)
+IsAligned_moved n by None h = tt
+IsAligned_moved n by (Some a) h = h
 
-ChainIsShort-moved : (n : ℕ) (by : ℤ) (a : Option Chain) → ChainIsShort n a → ChainIsShort n (moved_chain by a)
-ChainIsShort-moved n by None h = tt
-ChainIsShort-moved n by (Some a) h = h
+BlocksAreFew_moved : (n : ℕ) (by : ℤ) (a : Option Blocks) → BlocksAreFew n a → BlocksAreFew n (moved_blocks by a)
+BlocksAreFew_moved n by None h = tt
+BlocksAreFew_moved n by (Some a) h = h
 
-pub IsSound-displaced : (by : ℤ) (a : Outline) → IsSound a → IsSound (displaced by a)
-IsSound-displaced by a h = record {
+pub IsSound_displaced : (by : ℤ) (a : Summary) → IsSound a → IsSound (displaced by a)
+IsSound_displaced by a h = record {
   small = h.small;
   low = h.low;
-  short = ChainIsShort-moved a.entries by a.chain h.short;
-  aligned = IsAligned-moved a.alignment by a.bytes h.aligned;
+  short = BlocksAreFew_moved a.entries by a.blocks h.short;
+  aligned = IsAligned_moved a.alignment by a.bytes h.aligned;
 }
 
-IsAligned-joined : (m n : ℕ) (a b : Option Span) → IsAligned m a → IsAligned n b → IsAligned (max m n) (joined_span a b)
-IsAligned-joined m n None None h k = tt
-IsAligned-joined m n None (Some b) h k = omega arith
-IsAligned-joined m n (Some a) None h k = omega arith
-IsAligned-joined m n (Some a) (Some b) h k = omega arith
+IsAligned_joined : (m n : ℕ) (a b : Option Span) → IsAligned m a → IsAligned n b → IsAligned (max m n) (joined_span a b)
+IsAligned_joined m n None None h k = tt
+IsAligned_joined m n None (Some b) h k = omega arith
+IsAligned_joined m n (Some a) None h k = omega arith
+IsAligned_joined m n (Some a) (Some b) h k = omega arith
 
-ChainIsShort-joined : (m n : ℕ) (a b : Option Chain) → ChainIsShort m a → ChainIsShort n b → ChainIsShort (m + n) (joined_chain a b)
-ChainIsShort-joined m n None None h k = tt
-ChainIsShort-joined m n None (Some b) h k = omega arith
-ChainIsShort-joined m n (Some a) None h k = omega arith
-ChainIsShort-joined m n (Some a) (Some b) h k = let g = gap-small a.last b.first in omega arith
+BlocksAreFew_joined : (m n : ℕ) (a b : Option Blocks) → BlocksAreFew m a → BlocksAreFew n b → BlocksAreFew (m + n) (joined_blocks a b)
+BlocksAreFew_joined m n None None h k = tt
+BlocksAreFew_joined m n None (Some b) h k = omega arith
+BlocksAreFew_joined m n (Some a) None h k = omega arith
+BlocksAreFew_joined m n (Some a) (Some b) h k = let g = gap_small a.last b.first in omega arith
 
-pub IsSound-joined : (a b : Outline) → IsSound a → IsSound b → IsSound (joined a b)
-IsSound-joined a b h k =
+pub IsSound_joined : (a b : Summary) → IsSound a → IsSound b → IsSound (joined a b)
+IsSound_joined a b h k =
     let p = h.small in let q = k.small in let r = h.low in let s = k.low in
     record {
       small = omega arith;
       low = omega arith;
-      short = ChainIsShort-joined a.entries b.entries a.chain b.chain h.short k.short;
-      aligned = IsAligned-joined a.alignment b.alignment a.bytes b.bytes h.aligned k.aligned;
+      short = BlocksAreFew_joined a.entries b.entries a.blocks b.blocks h.short k.short;
+      aligned = IsAligned_joined a.alignment b.alignment a.bytes b.bytes h.aligned k.aligned;
     }
 
-IsAligned-stretched : (n : ℕ) (by : ℤ) (a : Option Span) → IsAligned n a → IsAligned n (stretched_span by a)
-IsAligned-stretched n by None h = tt
-IsAligned-stretched n by (Some a) h = h
+IsAligned_stretched : (n : ℕ) (by : ℤ) (a : Option Span) → IsAligned n a → IsAligned n (stretched_span by a)
+IsAligned_stretched n by None h = tt
+IsAligned_stretched n by (Some a) h = h
 
-ChainIsShort-repeated : (m n : ℕ) (s : ℤ) (a : Option Chain) → ChainIsShort m a → ChainIsShort (m + n * m) (repeated_chain n s a)
-ChainIsShort-repeated m n s None h = tt
-ChainIsShort-repeated m n s (Some a) h =
-    let g = gap-small a.last (a.first +ℤ s) in
+BlocksAreFew_repeated : (m n : ℕ) (s : ℤ) (a : Option Blocks) → BlocksAreFew m a → BlocksAreFew (m + n * m) (repeated_blocks n s a)
+BlocksAreFew_repeated m n s None h = tt
+BlocksAreFew_repeated m n s (Some a) h =
+    let g = gap_small a.last (a.first +ℤ s) in
     let le : a.gaps + gap a.last (a.first +ℤ s) ≤ m = omega arith in
     omega (arith, mul-le-mul_left n le)
 
-IsSound-with_more : (n : ℕ) (s : ℤ) (a : Outline) → IsSound a → IsSound (with_more n s a)
-IsSound-with_more n s a h =
+IsSound_with_more : (n : ℕ) (s : ℤ) (a : Summary) → IsSound a → IsSound (with_more n s a)
+IsSound_with_more n s a h =
     let le = mul-le-mul_left n h.small in
     let p = h.small in
     record {
       small = omega arith;
       low = h.low;
-      short = ChainIsShort-repeated a.entries n s a.chain h.short;
-      aligned = IsAligned-stretched a.alignment (pos n *ℤ s) a.bytes h.aligned;
+      short = BlocksAreFew_repeated a.entries n s a.blocks h.short;
+      aligned = IsAligned_stretched a.alignment (pos n *ℤ s) a.bytes h.aligned;
     }
 
-pub IsSound-repeated : (n : ℕ) (s : ℤ) (a : Outline) → IsSound a → IsSound (repeated n s a)
-IsSound-repeated zero s a h = IsSound-empty
-IsSound-repeated (suc n) s a h = IsSound-with_more n s a h
+pub IsSound_repeated : (n : ℕ) (s : ℤ) (a : Summary) → IsSound a → IsSound (repeated n s a)
+IsSound_repeated zero s a h = IsSound_empty
+IsSound_repeated (suc n) s a h = IsSound_with_more n s a h
 
-pub IsSound-marked : (low high : ℤ) (a : Outline) → IsSound a → IsSound (marked low high a)
-IsSound-marked low high a h = record { small = h.small; low = h.low; short = h.short; aligned = h.aligned }
+pub IsSound_marked : (low high : ℤ) (a : Summary) → IsSound a → IsSound (marked low high a)
+IsSound_marked low high a h = record { small = h.small; low = h.low; short = h.short; aligned = h.aligned }
 
-pub entries-repeated : (n : ℕ) (s : ℤ) (a : Outline) → (repeated n s a).entries ≡ n * a.entries
-entries-repeated zero s a = omega arith
-entries-repeated (suc n) s a = omega arith
+pub entries_repeated : (n : ℕ) (s : ℤ) (a : Summary) → (repeated n s a).entries ≡ n * a.entries
+entries_repeated zero s a = omega arith
+entries_repeated (suc n) s a = omega arith

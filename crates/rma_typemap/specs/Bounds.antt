@@ -2,8 +2,8 @@
 use Rattle.std.specs.Prelude.{ℕ, ℤ, pos, ◌+ℤ◌, ◌-ℤ◌, List, [], ◌∷◌, map, length, sum_by, Bool, false, ◌&&◌, ◌==◌, Option, Some, None}
 use Rattle.std.specs.Int.{int_min, int_max, int_rem_euclid}
 use Rattle.std.specs.Ordering.{int_eq}
-use Rattle.rma_base.specs.declared.basics.Basic.{Basic}
-use Rattle.rma_base.specs.Basics.{basic_size}
+use Rattle.rma_datatype.specs.declared.basic.Basic.{Basic}
+use Rattle.rma_datatype.specs.Basic.{basic_size}
 use Rattle.rma_typemap.specs.Typemap.{Typemap, elements, lower_marks, upper_marks, start_of, end_of, alignment_of, end_after, block_count}
 
 -- the lesser, and the greater, of a number and one that may be there

@@ -1,14 +1,14 @@
 -- The typemaps of the constructors (MPI 4.0, "Datatypes"): copies of the old typemap at the displacements of each.
 use Rattle.std.specs.Prelude.{ℕ, ℤ, pos, negsuc, ◌+ℤ◌, ◌*ℤ◌, List, [], ◌∷◌, ◌++◌, map, flat_map, reverse}
 use Rattle.std.specs.List.{range_with_len}
-use Rattle.rma_base.specs.declared.makes.Block.{Block}
-use Rattle.rma_base.specs.declared.makes.ByteBlock.{ByteBlock}
-use Rattle.rma_base.specs.declared.makes.Member.{Member}
-use Rattle.rma_base.specs.declared.makes.Dimension.{Dimension}
-use Rattle.rma_base.specs.declared.makes.Order.{Order}
-use Rattle.rma_base.specs.declared.makes.Order.TheVariants.{LastFastest, FirstFastest}
-use Rattle.rma_base.specs.declared.makes.Make.{Make}
-use Rattle.rma_base.specs.declared.makes.Make.TheVariants.{Contiguous, Vector, Hvector, Indexed, Hindexed, IndexedBlock, Struct, Resized, Subarray}
+use Rattle.rma_datatype.specs.declared.make.Block.{Block}
+use Rattle.rma_datatype.specs.declared.make.ByteBlock.{ByteBlock}
+use Rattle.rma_datatype.specs.declared.make.Member.{Member}
+use Rattle.rma_datatype.specs.declared.make.Dimension.{Dimension}
+use Rattle.rma_datatype.specs.declared.make.Order.{Order}
+use Rattle.rma_datatype.specs.declared.make.Order.TheVariants.{LastFastest, FirstFastest}
+use Rattle.rma_datatype.specs.declared.make.Make.{Make}
+use Rattle.rma_datatype.specs.declared.make.Make.TheVariants.{Contiguous, Vector, Hvector, Indexed, Hindexed, IndexedBlock, Struct, Resized, Subarray}
 use Rattle.rma_typemap.specs.Typemap.{Typemap, element, lower_mark, upper_mark, copies_at}
 use Rattle.rma_typemap.specs.Bounds.{extent}
 
@@ -37,26 +37,26 @@ hvector n len stride old =
 -- ---- blocks
 
 -- the copies of a block whose displacement is counted in extents, and in bytes
-abbrev pub block_places : ℤ → ℕ → ℤ → List ℤ
-block_places extent len at = map (λ j. (at +ℤ j) *ℤ extent) (numbers len)
+abbrev pub block_displacements : ℤ → ℕ → ℤ → List ℤ
+block_displacements extent len at = map (λ j. (at +ℤ j) *ℤ extent) (numbers len)
 
-abbrev pub byte_block_places : ℤ → ℕ → ℤ → List ℤ
-byte_block_places extent len at = map (λ j. at +ℤ j *ℤ extent) (numbers len)
+abbrev pub byte_block_displacements : ℤ → ℕ → ℤ → List ℤ
+byte_block_displacements extent len at = map (λ j. at +ℤ j *ℤ extent) (numbers len)
 
 unfoldable pub indexed : List Block → Typemap → Typemap
-indexed blocks old = copies_at (flat_map (λ b. block_places (extent old) (times b.length) b.displacement) blocks) old
+indexed blocks old = copies_at (flat_map (λ b. block_displacements (extent old) (times b.length) b.displacement) blocks) old
 
 unfoldable pub hindexed : List ByteBlock → Typemap → Typemap
-hindexed blocks old = copies_at (flat_map (λ b. byte_block_places (extent old) (times b.length) b.displacement) blocks) old
+hindexed blocks old = copies_at (flat_map (λ b. byte_block_displacements (extent old) (times b.length) b.displacement) blocks) old
 
 unfoldable pub indexed_block : ℕ → List ℤ → Typemap → Typemap
-indexed_block len displacements old = copies_at (flat_map (λ at. block_places (extent old) len at) displacements) old
+indexed_block len displacements old = copies_at (flat_map (λ at. block_displacements (extent old) len at) displacements) old
 
 -- the members one after another, each of its own old typemap
 abbrev pub members_of : List Member → List Typemap → Typemap
-members_of [] olds = []
+members_of [] old_maps = []
 members_of (m ∷ ms) [] = []
-members_of (m ∷ ms) (old ∷ olds) = copies_at (byte_block_places (extent old) (times m.length) m.displacement) old ++ members_of ms olds
+members_of (m ∷ ms) (old ∷ old_maps) = copies_at (byte_block_displacements (extent old) (times m.length) m.displacement) old ++ members_of ms old_maps
 
 -- ---- other markers
 
@@ -82,9 +82,9 @@ whole [] = pos 1
 whole (d ∷ ds) = d.size *ℤ whole ds
 
 -- the indices in the whole array of the elements of the part, the first dimension varying slowest
-abbrev pub places : List Dimension → List ℤ
-places [] = pos 0 ∷ []
-places (d ∷ ds) = flat_map (λ i. map (λ p. (d.start +ℤ i) *ℤ whole ds +ℤ p) (places ds)) (numbers (times d.part))
+abbrev pub indices : List Dimension → List ℤ
+indices [] = pos 0 ∷ []
+indices (d ∷ ds) = flat_map (λ i. map (λ p. (d.start +ℤ i) *ℤ whole ds +ℤ p) (indices ds)) (numbers (times d.part))
 
 -- the dimensions with the slowest first
 abbrev pub slowest_first : Order → List Dimension → List Dimension
@@ -93,23 +93,23 @@ slowest_first FirstFastest dimensions = reverse dimensions
 
 unfoldable pub subarray : List Dimension → Typemap → Typemap
 subarray dimensions old =
-    with_bounds (pos 0) (whole dimensions *ℤ extent old) (copies_at (map (λ p. p *ℤ extent old) (places dimensions)) old)
+    with_bounds (pos 0) (whole dimensions *ℤ extent old) (copies_at (map (λ p. p *ℤ extent old) (indices dimensions)) old)
 
 -- ---- all nine
 
 -- the first of some typemaps
 abbrev pub first_of : List Typemap → Typemap
 first_of [] = []
-first_of (old ∷ olds) = old
+first_of (old ∷ old_maps) = old
 
 -- the typemap that a constructor makes of its old ones
 abbrev pub constructed : Make → List Typemap → Typemap
-constructed (Contiguous count old) olds = contiguous (times count) (first_of olds)
-constructed (Vector count len stride old) olds = vector (times count) (times len) stride (first_of olds)
-constructed (Hvector count len stride old) olds = hvector (times count) (times len) stride (first_of olds)
-constructed (Indexed old blocks) olds = indexed blocks (first_of olds)
-constructed (Hindexed old blocks) olds = hindexed blocks (first_of olds)
-constructed (IndexedBlock len old displacements) olds = indexed_block (times len) displacements (first_of olds)
-constructed (Struct members) olds = members_of members olds
-constructed (Resized old low extent) olds = resized low extent (first_of olds)
-constructed (Subarray order old dimensions) olds = subarray (slowest_first order dimensions) (first_of olds)
+constructed (Contiguous count old) old_maps = contiguous (times count) (first_of old_maps)
+constructed (Vector count len stride old) old_maps = vector (times count) (times len) stride (first_of old_maps)
+constructed (Hvector count len stride old) old_maps = hvector (times count) (times len) stride (first_of old_maps)
+constructed (Indexed old blocks) old_maps = indexed blocks (first_of old_maps)
+constructed (Hindexed old blocks) old_maps = hindexed blocks (first_of old_maps)
+constructed (IndexedBlock len old displacements) old_maps = indexed_block (times len) displacements (first_of old_maps)
+constructed (Struct members) old_maps = members_of members old_maps
+constructed (Resized old low extent) old_maps = resized low extent (first_of old_maps)
+constructed (Subarray order old dimensions) old_maps = subarray (slowest_first order dimensions) (first_of old_maps)

@@ -1,10 +1,10 @@
 pub mod Typemap
 pub mod Bounds
 pub mod Constructors
-pub mod Arrays
+pub mod Array
 pub mod Space
-pub mod Outline
-pub mod Near
-pub mod Counts
-pub mod Told
-pub mod Signatures
+pub mod Made
+pub mod Signature
+pub mod inside
+pub use Rattle.rma_base.specs.Limits
+pub use Rattle.rma_datatype.specs.Basic

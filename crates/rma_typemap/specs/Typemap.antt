@@ -1,8 +1,8 @@
 -- Typemaps: what a datatype says of the memory at an address (MPI 4.0, "Datatypes").
 use Rattle.std.specs.Prelude.{ℕ, ◌+◌, max, ℤ, pos, ◌+ℤ◌, List, [], ◌∷◌, map, flat_map, if◌then◌else◌}
 use Rattle.std.specs.Ordering.{int_eq}
-use Rattle.rma_base.specs.declared.basics.Basic.{Basic}
-use Rattle.rma_base.specs.Basics.{basic_size}
+use Rattle.rma_datatype.specs.declared.basic.Basic.{Basic}
+use Rattle.rma_datatype.specs.Basic.{basic_size}
 
 -- a part of a typemap: an element at a displacement, or a marker of the lower or of the upper bound
 pub data Entry : Type 0 where
@@ -14,7 +14,7 @@ pub data Entry : Type 0 where
 abbrev pub Typemap : Type 0
 Typemap = List Entry
 
--- a part, moved by so many bytes
+-- a part, moved by a number of bytes
 abbrev pub moved : ℤ → Entry → Entry
 moved by (element basic at) = element basic (by +ℤ at)
 moved by (lower_mark at) = lower_mark (by +ℤ at)

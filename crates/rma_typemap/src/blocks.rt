@@ -1,84 +1,91 @@
-//! Copies of typemaps in rows and in blocks.
-ghost use Rattle.std.specs.Prelude.{◌≡◌, ◌^◌, ◌+◌, ◌*◌, ◌<◌, ◌≤◌, pos, ◌*ℤ◌, ◌≤ℤ◌};
-ghost use Rattle.rma_typemap.specs.Near.{IsNear, IsNearby, IsSound};
-ghost use Rattle.rma_typemap.specs.Space.{space};
-ghost use Rattle.rma_typemap.specs.Constructors.{times};
-ghost use Rattle.rma_typemap.specs.Outline.{reach, repeated, with_block, vector_of};
+//! Elements in order, by how many do not start where the one before them ends.
+ghost use Rattle.std.specs.Prelude.{◌≡◌, ◌^◌, ◌+◌, ◌*◌, ◌<◌, ◌≤◌, pos, ◌*ℤ◌, Some};
+ghost use Rattle.rma_typemap.specs.inside.Near.{IsNear, BlocksAreNear, BlocksAreFew};
+ghost use Rattle.rma_typemap.specs.Typemap.{gap};
+ghost use Rattle.rma_typemap.specs.inside.Summary.{joined_blocks, moved_blocks, repeated_blocks};
 
-use crate::bounds::extent;
-use crate::outlines::{Outline, displace, empty, join, repeat};
-
-/// The number of copies that a count says.
-pub fn copies(count: i32) -> u64
-    requires { pos 0 ≤ℤ count }
-    ensures value { result ≡ times count }
-    ensures small { result < 2 ^ 31 }
-{
-    count as u64
+/// The elements in order: where the first starts, where the last ends, and how many of the others do not start where the
+/// one before them ends.
+#[derive(Clone, Copy, Debug)]
+pub struct Blocks {
+    /// The number of elements, after the first, that do not start where the one before them ends.
+    pub gaps: u64,
+    /// Where the first element starts.
+    pub first: i128,
+    /// Where the last element ends.
+    pub last: i128,
 }
 
-/// A displacement counted in extents, in bytes.
-pub(crate) fn scaled(displacement: i32, extent: i128) -> i128
-    requires { IsNear (2 ^ 50) extent }
-    ensures value { result ≡ displacement *ℤ extent }
-    ensures near { IsNear (2 ^ 81) result }
+/// 1 where what starts at `start` does not start at `end`, and else 0.
+fn gap_between(end: i128, start: i128) -> u64
+    ensures value { result ≡ gap end start }
+    ensures small { result ≤ 1 }
 {
-    i128::from(displacement) * extent
+    if start == end { 0 } else { 1 }
 }
 
-/// A displacement counted in bytes.
-pub fn wide(displacement: i64) -> i128
-    ensures value { result ≡ displacement }
-    ensures near { IsNear (2 ^ 81) result }
+/// Blocks after others, of which the first has fewer gaps than `m` and the second fewer than `n`.
+pub(crate) fn joined(
+    first: Option<Blocks>,
+    second: Option<Blocks>,
+    m: u64,
+    n: u64,
+) -> Option<Blocks>
+    requires first_short { BlocksAreFew m first }
+    requires second_short { BlocksAreFew n second }
+    requires few { m + n < 2 ^ 63 }
+    ensures { result ≡ joined_blocks first second }
 {
-    i128::from(displacement)
-}
-
-/// Copies one behind the other.
-pub(crate) fn contiguous(old: &Outline, count: u64) -> Outline
-    requires near { IsNearby space old.now }
-    requires sound { IsSound old.now }
-    requires small { count < 2 ^ 31 }
-    requires few { count * old.now.entries ≤ 2 ^ 26 }
-    ensures value { result ≡ repeated count (reach old.now) old.now }
-    ensures result_near { IsNearby (2 ^ 82) result }
-    ensures result_sound { IsSound result }
-    ensures entries { result.entries ≡ count * old.now.entries }
-{
-    repeat(old, count, extent(old))
-}
-
-/// Rows of copies one behind the other, each row so many bytes behind the one before it.
-pub(crate) fn rows(old: &Outline, count: u64, length: u64, stride: i128) -> Outline
-    requires near { IsNearby space old.now }
-    requires sound { IsSound old.now }
-    requires count_small { count < 2 ^ 31 }
-    requires length_small { length < 2 ^ 31 }
-    requires stride_near { IsNear (2 ^ 81) stride }
-    requires few { count * (length * old.now.entries) ≤ 2 ^ 26 }
-    ensures { result ≡ vector_of count length stride old.now }
-{
-    if count == 0 {
-        empty()
-    } else {
-        repeat(&contiguous(old, length), count, stride)
+    match (first, second) {
+        (None, _) => second,
+        (Some(_), None) => first,
+        (Some(a), Some(b)) => Some(Blocks {
+            gaps: a.gaps + gap_between(a.last, b.first) + b.gaps,
+            first: a.first,
+            last: b.last,
+        }),
     }
 }
 
-/// A typemap, and behind it copies of another from a displacement on.
-pub fn append_block(done: &Outline, old: &Outline, count: u64, at: i128) -> Outline
-    requires near { IsNearby space old.now }
-    requires sound { IsSound old.now }
-    requires done_near { IsNearby (2 ^ 83) done.now }
-    requires done_sound { IsSound done.now }
-    requires small { count < 2 ^ 31 }
-    requires at_near { IsNear (2 ^ 81) at }
-    requires few { done.now.entries + count * old.now.entries ≤ 2 ^ 26 }
-    ensures value { result ≡ with_block old.now done.now (count, at) }
-    ensures result_near { IsNearby (2 ^ 83) result }
-    ensures result_sound { IsSound result }
-    ensures entries { result.entries ≡ done.now.entries + count * old.now.entries }
+/// The blocks, moved by a number of bytes.
+pub(crate) fn moved(blocks: Option<Blocks>, by: i128) -> Option<Blocks>
+    requires near { BlocksAreNear (2 ^ 120) blocks }
+    requires by_near { IsNear (2 ^ 120) by }
+    ensures { result ≡ moved_blocks by blocks }
 {
-    let block = contiguous(old, count);
-    join(done, &displace(&block, at))
+    match blocks {
+        None => None,
+        Some(a) => Some(Blocks {
+            gaps: a.gaps,
+            first: by + a.first,
+            last: by + a.last,
+        }),
+    }
+}
+
+/// So many strides.
+pub(crate) fn product(n: u64, stride: i128) -> i128
+    requires { IsNear (2 ^ 120) (pos n *ℤ stride) }
+    ensures { result ≡ pos n *ℤ stride }
+{
+    i128::from(n) * stride
+}
+
+/// The blocks of one with fewer gaps than `m`, and of `n` more of it, each a stride after the one before it.
+pub(crate) fn repeated(blocks: Option<Blocks>, n: u64, stride: i128, m: u64) -> Option<Blocks>
+    requires near { BlocksAreNear (2 ^ 120) blocks }
+    requires stride_near { IsNear (2 ^ 120) stride }
+    requires distance_near { IsNear (2 ^ 120) (pos n *ℤ stride) }
+    requires short { BlocksAreFew m blocks }
+    requires few { m + n * m < 2 ^ 63 }
+    ensures { result ≡ repeated_blocks n stride blocks }
+{
+    match blocks {
+        None => None,
+        Some(a) => Some(Blocks {
+            gaps: a.gaps + n * (a.gaps + gap_between(a.last, a.first + stride)),
+            first: a.first,
+            last: a.last + product(n, stride),
+        }),
+    }
 }

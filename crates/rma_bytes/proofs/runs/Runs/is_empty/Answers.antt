@@ -1,9 +1,9 @@
 use Rattle.std.proofs.Common.{◌≡◌, List, [], length, ◌∙◌, sym, ap, subst, arith}
 use Rattle.std.proofs.lemmas.Bool.Decides.{nat_tests}
 use Rattle.std.proofs.lemmas.List.{nil_from_length}
-use Rattle.rma_bytes.specs.declared.runs.Run.{Run}
+use Rattle.rma_bytes.specs.declared.run.Run.{Run}
 use Rattle.rma_bytes.specs.Runs.{HasByte, IsCanonical}
-use Rattle.rma_bytes.proofs.PlaceLemmas.{no_byte}
+use Rattle.rma_bytes.proofs.IndexLemmas.{no_byte}
 use Rattle.rma_bytes.proofs.runs.Runs.is_empty.Goals as goal
 
 pub returns-clause-bytes : goal.returns-clause-bytes

@@ -3,9 +3,9 @@ use Rattle.std.specs.Prelude.{ℤ, ◌+ℤ◌}
 use Rattle.std.specs.List.{refill}
 use Rattle.std.proofs.lemmas.Int.{to_z-of_z}
 use Rattle.std.proofs.lemmas.List.{length-map}
-use Rattle.rma_bytes.specs.declared.runs.Run.{Run}
+use Rattle.rma_bytes.specs.declared.run.Run.{Run}
 use Rattle.rma_bytes.specs.Runs.{HasByte, IsWithinBounds, IsCanonical, moved}
-use Rattle.rma_bytes.proofs.PlaceLemmas.{canonical_moved, moved_bytes, bounds_moved, refilled}
+use Rattle.rma_bytes.proofs.IndexLemmas.{canonical_moved, moved_bytes, bounds_moved, refilled}
 use Rattle.rma_bytes.proofs.runs.Runs.shift.Goals as goal
 
 pub shift-requires : goal.shift-requires

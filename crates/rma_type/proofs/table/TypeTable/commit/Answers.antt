@@ -1,9 +1,10 @@
 use Rattle.std.proofs.Common.{◌≡◌, slice_get, slice_set, Some, IfSome, set, map, true, refl, sym, ap, subst, ◌∙◌, Option}
 use Rattle.std.proofs.lemmas.List.{map-set}
-use Rattle.rma_type.specs.declared.types.TypeId.{TypeId}
+use Rattle.rma_type.specs.declared.id.TypeId.{TypeId}
 use Rattle.rma_type.specs.declared.table.Kept.{Kept}
-use Rattle.rma_type.specs.Tables.{Table, id_of}
-use Rattle.rma_type.proofs.TableLemmas.{read_at, as_committed, IsTable-committed, origins_of-set}
+use Rattle.rma_type.specs.Table.{Table}
+use Rattle.rma_type.specs.Names.{id_of}
+use Rattle.rma_type.proofs.TableLemmas.{read_at, as_committed, IsTable_committed, origins_of_set}
 use Rattle.rma_type.proofs.table.TypeTable.commit.Goals as goal
 
 there : (c : goal.After-self-1) → slice_get c.self.inside.types.items c.in-Some.id.0 ≡ Some c.index_mut.result.now
@@ -13,7 +14,7 @@ there c =
     read_at c.self.inside.types.items c.in-Some.id.0 c.index_mut.result.now (c.self.invariant.ids c.args.name.now c.in-Some.id named) c.index_mut.ensures.value
 
 pub invariant_of-self : goal.invariant_of-self
-invariant_of-self c = IsTable-committed c.self.inside c.in-Some.id.0 c.index_mut.result.now c.self.invariant (there c)
+invariant_of-self c = IsTable_committed c.self.inside c.in-Some.id.0 c.index_mut.result.now c.self.invariant (there c)
 
 pub returns-clause-ok : goal.returns-clause-ok
 returns-clause-ok c =
@@ -22,7 +23,7 @@ returns-clause-ok c =
     let old = c.index_mut.result.now in
     let P : Option TypeId → Type 0 = λ o. IfSome o (λ id. map (λ (k : Kept). k.committed) (set items i (as_committed old)) ≡ slice_set c.args.self.now.committed id.0 true) in
     record {
-      origins = origins_of-set items i (as_committed old) old (there c) refl ∙ ap (λ (t : Table). t.origins) c.self.view_is;
+      origins = origins_of_set items i (as_committed old) old (there c) refl ∙ ap (λ (t : Table). t.origins) c.self.view_is;
       live = ap (λ (t : Table). t.live) c.self.view_is;
       committed = subst P (sym (sym c.find.ensures.value ∙ c.in-Some.is))
           (map-set (λ (k : Kept). k.committed) items i (as_committed old) ∙ ap (λ (t : Table). slice_set t.committed i true) c.self.view_is);

@@ -1,6 +1,6 @@
 use Rattle.std.proofs.Common.{◌≡◌, length, arith}
 use Rattle.std.proofs.lemmas.Bool.Decides.{nat_tests}
-use Rattle.rma_type.specs.Signings.{signature_in}
+use Rattle.rma_type.specs.inside.SignatureSource.{signature_in}
 use Rattle.rma_type.proofs.ComponentLemmas.{no_runs, no_basics, fewer_begin, nothing_begins_all, more_begin_only_where_empty}
 use Rattle.rma_type.proofs.table.TypeTable.fits.Goals as goal
 
@@ -16,12 +16,12 @@ returns-else-na-nb c =
     let os = c.args.self.now.origins in
     let a = signature_in os c.args.a in
     let b = signature_in os c.args.b in
-    let runs = c.signature-front.result.now in (
+    let runs = c.signature-prefix.result.now in (
       λ h.
           let none : length runs ≡ 0 = grind (arith, nat_tests, c.is_empty.ensures, h) in
-          nothing_begins_all c.args.na c.args.nb a b (no_runs a runs c.signature-front.ensures.runs none),
+          nothing_begins_all c.args.na c.args.nb a b (no_runs a runs c.signature-prefix.ensures.runs none),
       λ h.
           let empty = more_begin_only_where_empty c.args.na c.args.nb a b (c.share.ensures c.if-share.true) c.if-na-nb.false h in
-          let none : length runs ≡ 0 = no_basics a runs c.signature-front.ensures.runs empty in
+          let none : length runs ≡ 0 = no_basics a runs c.signature-prefix.ensures.runs empty in
           grind (arith, nat_tests, c.is_empty.ensures, none),
     )

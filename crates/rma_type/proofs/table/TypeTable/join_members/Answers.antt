@@ -1,7 +1,7 @@
 use Rattle.std.proofs.Common.{◌+◌, sym, ap, ◌∙◌, get_or, arith}
-use Rattle.rma_type.specs.declared.types.TypeId.{TypeId}
-use Rattle.rma_typemap.specs.Outline.{with_member, struct_of}
-use Rattle.rma_type.specs.Members.{outline_in, member_entries}
+use Rattle.rma_type.specs.declared.id.TypeId.{TypeId}
+use Rattle.rma_typemap.specs.inside.Summary.{with_member, struct_of}
+use Rattle.rma_type.specs.inside.Members.{summary_in, member_entries}
 use Rattle.rma_type.proofs.MemberLemmas.{member_more, entries_more, entries_more_le, all_taken}
 use Rattle.rma_type.proofs.table.TypeTable.join_members.Goals as goal
 
@@ -10,7 +10,7 @@ no_type = record { 0 = 0 }
 
 pub append_member-done-requires-clause-few : goal.append_member-done-requires-clause-few
 append_member-done-requires-clause-few c =
-    let le = entries_more_le c.args.self.now.origins c.args.members.now c.args.olds.now c.requires.fit c.loop-i.i c.index-members-i.result no_type c.loop-i-test.true (sym c.index-members-i.is) in
+    let le = entries_more_le c.args.self.now.origins c.args.members.now c.args.old_types.now c.requires.fit c.loop-i.i c.index-members-i.result no_type c.loop-i-test.true (sym c.index-members-i.is) in
     let entries = c.loop-i.invariant.entries in
     omega (arith, le, entries, c.requires.few)
 
@@ -18,22 +18,22 @@ pub loop-i-preserved : goal.loop-i-preserved
 loop-i-preserved c =
     let os = c.args.self.now.origins in
     let ms = c.args.members.now in
-    let olds = c.args.olds.now in
+    let old_types = c.args.old_types.now in
     let i = c.loop-i.i in
     let m = c.index-members-i.result in
-    let old = outline_in os (get_or olds i no_type) in
+    let old = summary_in os (get_or old_types i no_type) in
     record {
       value = c.append_member-done.ensures.value
           ∙ ap (λ o. with_member o (m, old)) c.loop-i.invariant.value
-          ∙ sym (member_more os ms olds c.requires.fit i m no_type c.loop-i-test.true (sym c.index-members-i.is));
+          ∙ sym (member_more os ms old_types c.requires.fit i m no_type c.loop-i-test.true (sym c.index-members-i.is));
       near = c.append_member-done.ensures.result_near;
       sound = c.append_member-done.ensures.result_sound;
       entries = c.append_member-done.ensures.entries
           ∙ ap (λ n. n + member_entries (m, old)) c.loop-i.invariant.entries
-          ∙ sym (entries_more os ms olds c.requires.fit i m no_type c.loop-i-test.true (sym c.index-members-i.is));
+          ∙ sym (entries_more os ms old_types c.requires.fit i m no_type c.loop-i-test.true (sym c.index-members-i.is));
     }
 
 pub returns : goal.returns
 returns c =
     c.loop-i.invariant.value
-    ∙ ap struct_of (all_taken c.args.self.now.origins c.args.members.now c.args.olds.now c.requires.fit c.loop-i.i (omega arith))
+    ∙ ap struct_of (all_taken c.args.self.now.origins c.args.members.now c.args.old_types.now c.requires.fit c.loop-i.i (omega arith))

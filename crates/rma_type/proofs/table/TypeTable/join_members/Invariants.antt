@@ -1,13 +1,13 @@
 use Rattle.std.proofs.Common.{◌≡◌, ◌^◌, take}
-use Rattle.rma_typemap.specs.Near.{IsNearby, IsSound}
-use Rattle.rma_typemap.specs.Outline.{struct_of}
-use Rattle.rma_type.specs.Members.{with_outlines, all_entries}
+use Rattle.rma_typemap.specs.inside.Near.{IsNearby, IsSound}
+use Rattle.rma_typemap.specs.inside.Summary.{struct_of}
+use Rattle.rma_type.specs.inside.Members.{with_summaries, all_entries}
 use Rattle.rma_type.proofs.table.TypeTable.join_members.Given as goal
 
 abbrev pub invariant-loop-i : goal.invariant-loop-i
 invariant-loop-i l = record {
-  value : l.done ≡ struct_of (take l.i (with_outlines l.self.origins l.members l.olds));
+  value : l.done ≡ struct_of (take l.i (with_summaries l.self.origins l.members l.old_types));
   near : IsNearby (2 ^ 83) l.done;
   sound : IsSound l.done;
-  entries : l.done.entries ≡ all_entries (take l.i (with_outlines l.self.origins l.members l.olds));
+  entries : l.done.entries ≡ all_entries (take l.i (with_summaries l.self.origins l.members l.old_types));
 }

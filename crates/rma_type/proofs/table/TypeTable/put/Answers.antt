@@ -3,15 +3,16 @@ use Rattle.std.proofs.lemmas.Grind.{common_steps}
 use Rattle.std.specs.Cmp.Lexicographic.{pointwise}
 use Rattle.std.proofs.lemmas.List.{length-map}
 use Rattle.rma_typemap.specs.Bounds.{signature}
-use Rattle.rma_type.specs.declared.types.TypeId.{TypeId}
+use Rattle.rma_type.specs.declared.id.TypeId.{TypeId}
 use Rattle.rma_type.specs.declared.table.Kept.{Kept}
 use Rattle.rma_type.specs.declared.table.TypeTable.TheInside.{Inside}
-use Rattle.rma_type.specs.declared.origins.Origin.{Origin}
-use Rattle.rma_type.specs.Signings.{IsSigned}
-use Rattle.rma_type.specs.TableInside.{IsKept, origins_of}
-use Rattle.rma_type.specs.Tables.{Table, id_of, typemaps, typemap_of}
-use Rattle.rma_type.proofs.AddLemmas.{IsTable-same, IsTable-added, StayIn, stay-same, stay-push}
-use Rattle.rma_type.proofs.SigningLemmas.{shared_signature, own_signature}
+use Rattle.rma_type.specs.declared.origin.Origin.{Origin}
+use Rattle.rma_type.specs.inside.SignatureSource.{HasSignature}
+use Rattle.rma_type.specs.inside.Kept.{IsKept, origins_of}
+use Rattle.rma_type.specs.Table.{Table, typemaps, typemap_of}
+use Rattle.rma_type.specs.Names.{id_of}
+use Rattle.rma_type.proofs.AddLemmas.{IsTable_same, IsTable_added, StayIn, stay_same, stay_push}
+use Rattle.rma_type.proofs.SourceLemmas.{shared_signature, own_signature}
 use Rattle.rma_type.proofs.table.TypeTable.put.Goals as goal
 use Rattle.rma_type.proofs.table.TypeTable.put.Goals.{in-Shared, in-Own+in_ok-signature-in-Own}
 
@@ -24,36 +25,36 @@ only_signed old new types live stay = (ap (λ v. v.items) types, ap (λ m. m.ent
 
 pub invariant_of-self : goal.invariant_of-self
 invariant_of-self c =
-    IsTable-same c.self.inside _ refl refl (stay-same c.self.inside.signatures.items c.keep.new.signatures.items c.in_err-signature-in-Own.ensures.err) c.self.invariant
+    IsTable_same c.self.inside _ refl refl (stay_same c.self.inside.signatures.items c.keep.new.signatures.items c.in_err-signature-in-Own.ensures.err) c.self.invariant
 
 pub invariant_of-self-then-is_err : goal.invariant_of-self-then-is_err
 invariant_of-self-then-is_err c =
     let old = c.self.inside in
-    let now = c.match-signing.self-inside in
+    let now = c.match-source.self-inside in
     let only : OnlySigned old now =
-    elim c.match-signing.branch [
+    elim c.match-source.branch [
       | in-Shared w ↦ only_signed old now (ap (λ (t : Inside). t.types) w.self-inside-is) (ap (λ (t : Inside). t.live) w.self-inside-is)
-          (stay-same old.signatures.items now.signatures.items (ap (λ (t : Inside). t.signatures.items) w.self-inside-is))
+          (stay_same old.signatures.items now.signatures.items (ap (λ (t : Inside). t.signatures.items) w.self-inside-is))
       | in-Own+in_ok-signature-in-Own w ↦ only_signed old now (ap (λ (t : Inside). t.types) w.self-inside-is) (ap (λ (t : Inside). t.live) w.self-inside-is)
-          (stay-push old.signatures.items now.signatures.items w.in-Own.runs (ap (λ (t : Inside). t.signatures.items) w.self-inside-is ∙ w.in_ok-signature-in-Own.ensures.ok))
+          (stay_push old.signatures.items now.signatures.items w.in-Own.runs (ap (λ (t : Inside). t.signatures.items) w.self-inside-is ∙ w.in_ok-signature-in-Own.ensures.ok))
     ] in
     let same : c.push.new.self.items ≡ now.types.items = grind (arith, common_steps, c.push.ensures.items, c.is_err.ensures.negation) in
-    IsTable-same old _ (same ∙ only.0) only.1 only.2 c.self.invariant
+    IsTable_same old _ (same ∙ only.0) only.1 only.2 c.self.invariant
 
 pub invariant_of-self-then-is_err-2 : goal.invariant_of-self-then-is_err-2
 invariant_of-self-then-is_err-2 c =
     let old = c.self.inside in
-    let now = c.match-signing.self-inside in
+    let now = c.match-source.self-inside in
     let only : OnlySigned old now =
-    elim c.match-signing.branch [
+    elim c.match-source.branch [
       | in-Shared w ↦ only_signed old now (ap (λ (t : Inside). t.types) w.self-inside-is) (ap (λ (t : Inside). t.live) w.self-inside-is)
-          (stay-same old.signatures.items now.signatures.items (ap (λ (t : Inside). t.signatures.items) w.self-inside-is))
+          (stay_same old.signatures.items now.signatures.items (ap (λ (t : Inside). t.signatures.items) w.self-inside-is))
       | in-Own+in_ok-signature-in-Own w ↦ only_signed old now (ap (λ (t : Inside). t.types) w.self-inside-is) (ap (λ (t : Inside). t.live) w.self-inside-is)
-          (stay-push old.signatures.items now.signatures.items w.in-Own.runs (ap (λ (t : Inside). t.signatures.items) w.self-inside-is ∙ w.in_ok-signature-in-Own.ensures.ok))
+          (stay_push old.signatures.items now.signatures.items w.in-Own.runs (ap (λ (t : Inside). t.signatures.items) w.self-inside-is ∙ w.in_ok-signature-in-Own.ensures.ok))
     ] in
     let items : c.pop.new.self.items ≡ now.types.items = grind (arith, common_steps, c.push.ensures.items, c.is_err.ensures.negation, c.pop.ensures.rest) in
     let live : c.insert.new.self.entries ≡ now.live.entries = grind (arith, common_steps, c.insert.ensures.err, c.is_err-2.ensures.negation) in
-    IsTable-same old _ (items ∙ only.0) (live ∙ only.1) only.2 c.self.invariant
+    IsTable_same old _ (items ∙ only.0) (live ∙ only.1) only.2 c.self.invariant
 
 -- what a look-up finds after an insertion was there, or is what was inserted
 found : (test : Bool) (id other : TypeId) (now before : Option TypeId) → now ≡ cond test (Some id) before → now ≡ Some other → (other ≡ id) ⊎ (before ≡ Some other)
@@ -63,28 +64,28 @@ found false id other now before e h = inr (sym e ∙ h)
 pub invariant_of-self-else-is_err-2 : goal.invariant_of-self-else-is_err-2
 invariant_of-self-else-is_err-2 c =
     let old = c.self.inside in
-    let now = c.match-signing.self-inside in
+    let now = c.match-source.self-inside in
     let table = c.args.self.now in
     let draft = c.args.draft in
     let basics = signature (typemap_of (typemaps table.origins) draft.origin) in
-    let signed : OnlySigned old now × IsSigned now.signatures.items basics c.match-signing.signature =
-    elim c.match-signing.branch [
+    let signed : OnlySigned old now × HasSignature now.signatures.items basics c.match-source.signature =
+    elim c.match-source.branch [
       | in-Shared w ↦ (
         only_signed old now (ap (λ (t : Inside). t.types) w.self-inside-is) (ap (λ (t : Inside). t.live) w.self-inside-is)
-            (stay-same old.signatures.items now.signatures.items (ap (λ (t : Inside). t.signatures.items) w.self-inside-is)),
-        shared_signature old now table c.self.view_is c.self.invariant w.in-Shared.old w.index.result.now basics draft.signing c.match-signing.signature w.self-inside-is
+            (stay_same old.signatures.items now.signatures.items (ap (λ (t : Inside). t.signatures.items) w.self-inside-is)),
+        shared_signature old now table c.self.view_is c.self.invariant w.in-Shared.old w.index.result.now basics draft.source c.match-source.signature w.self-inside-is
             c.requires.signed w.in-Shared.is w.index.ensures w.signature-is,
       )
       | in-Own+in_ok-signature-in-Own w ↦
           let grown : now.signatures.items ≡ old.signatures.items ++ w.in-Own.runs ∷ [] = ap (λ (t : Inside). t.signatures.items) w.self-inside-is ∙ w.in_ok-signature-in-Own.ensures.ok in (
             only_signed old now (ap (λ (t : Inside). t.types) w.self-inside-is) (ap (λ (t : Inside). t.live) w.self-inside-is)
-                (stay-push old.signatures.items now.signatures.items w.in-Own.runs grown),
-            own_signature table.origins old.signatures.items now.signatures.items w.in-Own.runs basics draft.signing c.match-signing.signature c.requires.signed w.in-Own.is grown
+                (stay_push old.signatures.items now.signatures.items w.in-Own.runs grown),
+            own_signature table.origins old.signatures.items now.signatures.items w.in-Own.runs basics draft.source c.match-source.signature c.requires.signed w.in-Own.is grown
                 (w.signature-is ∙ w.in_ok-signature-in-Own.ensures.number),
           )
     ] in
     let only = signed.0 in
-    let kept : Kept = record { origin = draft.origin; committed = draft.committed; outline = draft.outline; signature = c.match-signing.signature } in
+    let kept : Kept = record { origin = draft.origin; committed = draft.committed; summary = draft.summary; signature = c.match-source.signature } in
     let old_items = old.types.items in
     let pushed : c.push.new.self.items ≡ now.types.items ++ kept ∷ [] = grind (arith, common_steps, c.push.ensures.items, c.is_err.ensures.negation) in
     let items : c.push.new.self.items ≡ old_items ++ kept ∷ [] = pushed ∙ ap (λ xs. xs ++ kept ∷ []) only.0 in
@@ -97,9 +98,9 @@ invariant_of-self-else-is_err-2 c =
     λ q. grind (arith, common_steps, c.insert.ensures.updates, c.is_err-2.ensures.negation) in
     let updated : (q : List ℕ) → id_of c.insert.new.self.entries q ≡ cond (pointwise nat_eq c.args.name q) (Some id) (id_of old.live.entries q) =
     λ q. update q ∙ ap (λ es. cond (pointwise nat_eq c.args.name q) (Some id) (id_of es q)) only.1 in
-    let P : List Origin → Type 0 = λ os. IsKept (typemap_of (typemaps os) draft.origin) (length old_items) draft.origin draft.outline in
-    let Q : ℕ → Type 0 = λ n. IsKept (typemap_of (typemaps table.origins) draft.origin) n draft.origin draft.outline in
-    let R : List Origin → Type 0 = λ os. IsSigned now.signatures.items (signature (typemap_of (typemaps os) draft.origin)) c.match-signing.signature in
-    IsTable-added old (record { types = c.push.new.self; signatures = now.signatures; live = c.insert.new.self }) kept id c.self.invariant room
+    let P : List Origin → Type 0 = λ os. IsKept (typemap_of (typemaps os) draft.origin) (length old_items) draft.origin draft.summary in
+    let Q : ℕ → Type 0 = λ n. IsKept (typemap_of (typemaps table.origins) draft.origin) n draft.origin draft.summary in
+    let R : List Origin → Type 0 = λ os. HasSignature now.signatures.items (signature (typemap_of (typemaps os) draft.origin)) c.match-source.signature in
+    IsTable_added old (record { types = c.push.new.self; signatures = now.signatures; live = c.insert.new.self }) kept id c.self.invariant room
     items number (λ name other at. found (pointwise nat_eq c.args.name name) id other _ _ (updated name) at)
     (subst P (sym origins) (subst Q count c.requires.kept)) only.2 (subst R (sym origins) signed.1)

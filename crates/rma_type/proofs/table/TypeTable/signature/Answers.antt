@@ -1,8 +1,8 @@
 use Rattle.std.proofs.Common.{length, List, ap, sym, subst, arith}
-use Rattle.rma_type.specs.declared.types.SigRun.{SigRun}
-use Rattle.rma_type.specs.Signatures.{IsRunsOf}
-use Rattle.rma_type.specs.Signings.{signature_in}
-use Rattle.rma_type.proofs.SigningLemmas.{signed_in, signed_within, signed_at, signature_is_short}
+use Rattle.rma_type.specs.declared.sig_run.SigRun.{SigRun}
+use Rattle.rma_type.specs.Signature.{IsRunsOf}
+use Rattle.rma_type.specs.inside.SignatureSource.{signature_in}
+use Rattle.rma_type.proofs.SourceLemmas.{signed_in, signed_within, signed_at, signature_is_short}
 use Rattle.rma_type.proofs.table.TypeTable.signature.Goals as goal
 
 pub index-requires-2 : goal.index-requires-2
@@ -12,8 +12,8 @@ index-requires-2 c =
     (signed_in t c.args.self.now c.self.view_is c.self.invariant c.args.id c.index.result.now c.requires c.index.ensures) in
     omega (arith, within, t.signatures.ok.0)
 
-stands : (c : goal.After-as_slice) → IsRunsOf (signature_in c.args.self.now.origins c.args.id) c.as_slice.result.now
-stands c =
+represents : (c : goal.After-as_slice) → IsRunsOf (signature_in c.args.self.now.origins c.args.id) c.as_slice.result.now
+represents c =
     let t = c.self.inside in
     let basics = signature_in c.args.self.now.origins c.args.id in
     let P : List SigRun → Type 0 = λ runs. IsRunsOf basics runs in
@@ -22,9 +22,9 @@ stands c =
     (signed_in t c.args.self.now c.self.view_is c.self.invariant c.args.id c.index.result.now c.requires c.index.ensures) c.index-2.ensures)
 
 pub returns-clause-runs : goal.returns-clause-runs
-returns-clause-runs c = stands c
+returns-clause-runs c = represents c
 
 pub returns-clause-few : goal.returns-clause-few
 returns-clause-few c =
     let short = signature_is_short c.self.inside c.args.self.now c.self.view_is c.self.invariant c.args.id c.index.result.now c.requires c.index.ensures in
-    omega (arith, short, ap length (stands c).same)
+    omega (arith, short, ap length (represents c).same)

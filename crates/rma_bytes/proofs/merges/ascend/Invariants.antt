@@ -1,6 +1,0 @@
-use Rattle.std.proofs.Common.{◌↔◌, drop}
-use Rattle.rma_bytes.specs.Walks.{AscendFrom, Ascend}
-use Rattle.rma_bytes.proofs.merges.ascend.Given as goal
-
-abbrev pub invariant-each : goal.invariant-each
-invariant-each l = Ascend l.blocks ↔ AscendFrom l.start (drop l.block-index l.blocks)

@@ -1,5 +1,0 @@
-use Rattle.rma_bytes.proofs.RunLemmas.{canonical_unique}
-use Rattle.rma_bytes.proofs.runs.canonical_runs_are_unique.Goals as goal
-
-pub returns : goal.returns
-returns c = canonical_unique

@@ -1,0 +1,22 @@
+-- Words for the walks over lists of runs that build a set.
+use Rattle.std.specs.Prelude.{nat_lt, if◌then◌else◌, ℤ, pos, neg_ℤ, ◌≤ℤ◌, ◌<ℤ◌, ◌^◌, List, [], ◌∷◌, ◌++◌, ⊤}
+use Rattle.rma_bytes.specs.declared.run.Run.{Run}
+use Rattle.rma_bytes.specs.Runs.{end_of}
+
+-- the starts of the runs do not fall, and the first is no less than s
+abbrev pub AscendFrom : ℤ → List Run → Type 0
+AscendFrom s [] = ⊤
+AscendFrom s (run ∷ runs) = (s ≤ℤ run.start) × AscendFrom run.start runs
+
+-- the starts of runs within the bounds do not fall
+abbrev pub Ascend : List Run → Type 0
+Ascend runs = AscendFrom (neg_ℤ (pos (2 ^ 49))) runs
+
+-- each of the runs ends before s: at least one number lies between
+abbrev pub EndBefore : List Run → ℤ → Type 0
+EndBefore [] s = ⊤
+EndBefore (run ∷ runs) s = (end_of run <ℤ s) × EndBefore runs s
+
+-- the runs with one more after them, unless that is empty
+abbrev pub kept : List Run → Run → List Run
+kept runs run = (if nat_lt 0 run.len then runs ++ run ∷ [] else runs)

@@ -1,0 +1,6 @@
+use Rattle.std.proofs.Common.{◌≡◌, ◌*◌, ◌-◌, drop, length}
+use Rattle.rma_typemap.specs.Array.{cuts_of, part_of_cuts}
+use Rattle.rma_typemap.proofs.array.too_many.Given as goal
+
+abbrev pub invariant-loop-k : goal.invariant-loop-k
+invariant-loop-k l = l.total ≡ part_of_cuts (drop (length l.dimensions - l.k) (cuts_of l.order l.dimensions)) * l.entries

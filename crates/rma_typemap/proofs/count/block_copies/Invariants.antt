@@ -1,0 +1,10 @@
+use Rattle.std.proofs.Common.{◌≡◌, ◌*◌, ◌^◌, ◌≤◌, take, sum_by}
+use Rattle.rma_datatype.specs.declared.make.Block.{Block}
+use Rattle.rma_typemap.specs.Constructors.{times}
+use Rattle.rma_typemap.proofs.count.block_copies.Given as goal
+
+abbrev pub invariant-loop-block : goal.invariant-loop-block
+invariant-loop-block l = record {
+  value : l.total ≡ sum_by (λ (b : Block). times b.length) (take l.block-index l.blocks);
+  small : l.total ≤ l.block-index * 2 ^ 31;
+}

@@ -1,8 +1,0 @@
--- Signatures of copies (MPI 4.0, "Datatypes").
-use Rattle.std.specs.Prelude.{ℕ, zero, suc, List, [], ◌++◌}
-use Rattle.rma_base.specs.declared.basics.Basic.{Basic}
-
--- n copies of a signature, one after another
-unfoldable pub copies : ℕ → List Basic → List Basic
-copies zero basics = []
-copies (suc n) basics = basics ++ copies n basics
