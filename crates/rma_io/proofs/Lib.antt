@@ -1,6 +1,6 @@
 pub mod CountLemmas
-pub mod PageLemmas
-pub mod ReelLemmas
-pub mod ServingLemmas
-pub mod FileLemmas
+pub mod BufferLemmas
+pub mod LogBytesLemmas
+pub mod OpenLogLemmas
+pub mod ScheduleLemmas
 pub mod SourceLemmas

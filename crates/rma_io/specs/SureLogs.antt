@@ -1,15 +1,14 @@
 -- A source of logs in memory that never fails.
-use Rattle.std.specs.Prelude.{◌≡◌, ℕ, ◌+◌, List, [], ◌∷◌, ◌++◌, Some, None, Result, Ok, Err, length, map, slice_index_or, Vec}
+use Rattle.std.specs.Prelude.{◌≡◌, ℕ, ◌+◌, List, [], ◌∷◌, ◌++◌, None, Result, Ok, Err, length, map, slice_index_or, Vec}
 use Rattle.std.specs.declared.alloc.Global.{Global}
-use Rattle.rma_io.specs.Tapes.{untouched}
-use Rattle.rma_io.specs.Logbooks.{Log, names_of, tapes_of}
-use Rattle.rma_io.specs.Turns.{Cut}
-use Rattle.rma_io.specs.Servings.{IsServed}
-use Rattle.rma_io.specs.Sources.{Source, Opened, pulled_len}
-use Rattle.rma_io.specs.declared.sources.Failed.{Failed}
-use Rattle.rma_io.specs.declared.sources.OpenFault.{OpenFault}
-use Rattle.rma_io.specs.declared.sources.OpenFault.TheVariants as refusal
-use Rattle.rma_io.specs.declared.sources.Pull.{Pull}
+use Rattle.rma_io.specs.Log.{Log, untouched, known_bytes, names_of}
+use Rattle.rma_io.specs.Schedule.{Cut}
+use Rattle.rma_io.specs.ScheduledRead.{IsScheduledRead}
+use Rattle.rma_io.specs.Source.{Source, Opened, pulled_len}
+use Rattle.rma_io.specs.declared.source.Failed.{Failed}
+use Rattle.rma_io.specs.declared.source.OpenFault.{OpenFault}
+use Rattle.rma_io.specs.declared.source.OpenFault.TheVariants as refusal
+use Rattle.rma_io.specs.declared.source.Pull.{Pull}
 
 -- the bytes of each log, in the order in which they are opened; the pairs that are left to read by; the logs
 -- opened, and the bytes taken
@@ -22,17 +21,17 @@ pub record SureSource : Type 0 where
 abbrev pub contents_of : List (Vec ℕ Global) → List (List ℕ)
 contents_of logs = map (λ log. log.items) logs
 
--- the bytes of the log at this place, or none
+-- the bytes of the log of this number, or none
 abbrev pub text_of : List (List ℕ) → ℕ → List ℕ
-text_of contents place = slice_index_or contents place []
+text_of contents number = slice_index_or contents number []
 
 -- a source that was not called yet
 abbrev pub unopened : List (List ℕ) → List Cut → SureSource
 unopened contents cuts = record { contents = contents; cuts = cuts; logs = []; taken = 0 }
 
--- it tells its bytes, and has no faults
+-- its bytes are known, and it has no faults
 abbrev pub source_of : SureSource → Source
-source_of sure = record { logs = length sure.logs; taken = sure.taken; tapes = Some (tapes_of sure.logs); faults = 0 }
+source_of sure = record { logs = map known_bytes sure.logs; taken = sure.taken; faults = 0 }
 
 abbrev pub opened_of : SureSource → Opened
 opened_of sure = record { names = names_of sure.logs; refused = None }
@@ -44,13 +43,13 @@ KeepsOpened before after = opened_of after ≡ opened_of before
 -- a pull into this room gave this answer, and left the room so
 abbrev pub IsSurePull : SureSource → List ℕ → Result Pull Failed → SureSource → List ℕ → Type 0
 IsSurePull old room (Ok pull) new filled =
-    IsServed old.logs old.cuts room pull new.logs new.cuts filled
+    IsScheduledRead old.logs old.cuts room pull new.logs new.cuts filled
     × (new ≡ record old { cuts = new.cuts; logs = new.logs; taken = old.taken + pulled_len (Ok pull) })
 IsSurePull old room (Err e) new filled = ⊥
 
 -- an open of this name gave this answer: the next of the logs, or an empty one where there is none
 abbrev pub IsSureOpen : SureSource → List ℕ → Result Unit OpenFault → SureSource → Type 0
 IsSureOpen old name (Ok x) new =
-    new ≡ record old { logs = old.logs ++ record { name = name; tape = untouched (text_of old.contents (length old.logs)) } ∷ [] }
+    new ≡ record old { logs = old.logs ++ untouched name (text_of old.contents (length old.logs)) ∷ [] }
 IsSureOpen old name (Err refusal.Failed) new = ⊥
 IsSureOpen old name (Err refusal.Memory) new = new ≡ old

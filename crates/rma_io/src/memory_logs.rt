@@ -1,14 +1,15 @@
 //! A source of logs in memory, which can be told to fail.
 ghost use Rattle.std.specs.Prelude.{◌≡◌, ◌≤◌, ◌+◌, ◌<◌, ◌^◌, ◌++◌, ◌∷◌, ◌↔◌, [], All, Contains, IsTrue, MatchOption, OnErr, OnOk, length, map, string_bytes, Some, None, Ok};
-ghost use Rattle.std.proofs.Common.{sym};
+ghost use Rattle.std.proofs.Common.{sym, ◌∙◌};
 ghost use Rattle.std.proofs.lemmas.List.{length-map};
-ghost use Rattle.rma_io.specs.Sources.{IsPulled, IsOpened, pulled_len};
-ghost use Rattle.rma_io.specs.MemoryLogs.{uncalled, source_of, opened_of, files_of, KeepsOpened, IsMemoryPull, IsMemoryOpen, IsFirstNamedAt, NoneNamed, MustFail, AddsFile};
-ghost use Rattle.rma_io.specs.Servings.{IsServed};
-ghost use Rattle.rma_io.specs.Counts.{raised};
+ghost use Rattle.rma_io.specs.Source.{IsPulled, IsOpened, pulled_len};
+ghost use Rattle.rma_io.specs.MemoryLogs.{uncalled, text_of, source_of, opened_of, files_of, KeepsOpened, IsMemoryPull, IsMemoryOpen, IsFirstNamedAt, NoneNamed, MustFail, AddsFile};
+ghost use Rattle.rma_io.specs.Log.{known_bytes};
+ghost use Rattle.rma_io.specs.ScheduledRead.{IsScheduledRead};
+ghost use Rattle.rma_io.specs.Count.{raised};
 
-use crate::reels::Reels;
-use crate::sources::{Failed, Logs, OpenFault, Pull, Pulls};
+use crate::open_log::OpenLogs;
+use crate::source::{Failed, Logs, OpenFault, Pull, Pulls};
 use std::alloc::Global;
 use std::marker::Model;
 
@@ -17,11 +18,15 @@ use std::marker::Model;
 #[derive(Drop)]
 pub struct MemoryLogs {
     alloc: Global,
+    // The name and the bytes of each file.
     files: Vec<(String, Vec<u8>)>,
+    // The numbers of the calls that fail, and the number of the next call.
     fails: Vec<u32>,
     calls: u64,
-    reels: Reels,
+    opened: OpenLogs,
+    // The name last refused.
     refused: Option<String>,
+    // How many bytes were taken of all logs.
     taken: u64,
     faults: u64,
 }
@@ -29,22 +34,22 @@ pub struct MemoryLogs {
 impl Model for MemoryLogs {
     ghost use Rattle.std.specs.Prelude.{All, option_map, string_bytes};
     ghost use Rattle.rma_io.specs.MemoryLogs.{MemorySource, files_of, text_of};
-    ghost use Rattle.rma_io.specs.Places.{IsPlaced, logs_at};
+    ghost use Rattle.rma_io.specs.inside.OpenLogs.{FitsFile, logs_at};
 
     ghost Value = { MemorySource };
 
     ghost view = { λ a. record {
       files = files_of a.files.items;
-      cuts = a.reels.cuts;
+      cuts = a.opened.cuts;
       fails = a.fails.items;
       calls = a.calls;
-      logs = logs_at (text_of (files_of a.files.items)) a.reels.places;
+      logs = logs_at (text_of (files_of a.files.items)) a.opened.logs;
       refused = option_map string_bytes a.refused;
       taken = a.taken;
       faults = a.faults;
     } };
 
-    ghost invariant = { λ a. All (IsPlaced (text_of (files_of a.files.items))) a.reels.places };
+    ghost invariant = { λ a. All (FitsFile (text_of (files_of a.files.items))) a.opened.logs };
 }
 
 /// Whether the call of this number is one of those that fail.
@@ -54,25 +59,35 @@ fn is_planned(fails: &[u32], number: u64) -> bool
     fails.iter().any(|fail| u64::from(*fail) == number)
 }
 
-/// The place of the first file of this name.
-fn place_of(files: &[(String, Vec<u8>)], name: &str) -> Option<usize>
+/// The index of the first file of this name, if there is one.
+fn index_of(files: &[(String, Vec<u8>)], name: &str) -> Option<usize>
     ensures { MatchOption result
         (NoneNamed (files_of files.now) name.now)
         (IsFirstNamedAt (files_of files.now) name.now) }
 {
-    for (place, file) in files.iter().enumerate() {
+    for (index, file) in files.iter().enumerate() {
         if file.0.as_str() == name {
-            return Some(place);
+            return Some(index);
         }
     }
     None
+}
+
+/// The bytes of the file at this index, or none where there is no such file.
+fn text(files: &[(String, Vec<u8>)], index: usize) -> &[u8]
+    ensures { result.now ≡ text_of (files_of files.now) index }
+{
+    match files.get(index) {
+        Some(file) => &file.1,
+        None => &[],
+    }
 }
 
 impl MemoryLogs {
     /// A source that was not called yet. Calls of `open` and of `pull` are counted together from 0, and those whose
     /// number is in `fails` fail. A pair `(rank, len)` of `cuts` makes a pull give `len` bytes of that log, where 0
     /// counts as 1, as far as they are there and there is room; pairs of logs with nothing left are passed over.
-    /// Behind the last pair the lowest rank with bytes left is read, as much as fits.
+    /// After the last pair the lowest rank with bytes left is read, as much as fits.
     pub fn new(
         alloc: Global,
         files: Vec<(String, Vec<u8>)>,
@@ -86,7 +101,7 @@ impl MemoryLogs {
             files,
             fails,
             calls: 0,
-            reels: Reels::new(alloc, cuts),
+            opened: OpenLogs::new(alloc, cuts),
             refused: None,
             taken: 0,
             faults: 0,
@@ -103,11 +118,11 @@ impl MemoryLogs {
         is_planned(&self.fails, number)
     }
 
-    /// Gives the next bytes, where there are some.
-    fn serve(&mut self, room: &mut [u8]) -> Pull
+    /// Reads the next bytes, where there are some.
+    fn read_next(&mut self, room: &mut [u8]) -> Pull
         requires room { 0 < length room.old }
         requires small { self.old.taken + length room.old ≤ 2 ^ 62 }
-        ensures served { IsServed self.old.logs self.old.cuts room.old result
+        ensures read { IsScheduledRead self.old.logs self.old.cuts room.old result
             self.new.logs self.new.cuts room.new }
         ensures same { self.new ≡ record self.old {
           cuts = self.new.cuts;
@@ -115,25 +130,29 @@ impl MemoryLogs {
           taken = self.old.taken + pulled_len (Ok result);
         } }
     {
-        let Some(deal) = self.reels.deal(room.len()) else {
+        let Some(chunk) = self.opened.next_chunk(room.len()) else {
             return Pull::Done;
         };
-        deal.read(&self.files[deal.text].1, room);
-        self.taken += deal.len as u64;
+        chunk.read(text(&self.files, chunk.file), room);
+        self.taken += chunk.len as u64;
         Pull::Bytes {
-            rank: deal.rank,
-            len: deal.len,
+            rank: chunk.rank,
+            len: chunk.len,
         }
     }
 
-    /// Adds a log with the bytes of the file at this place.
-    fn add(&mut self, name: String, place: usize) -> Result<(), OpenFault>
-        requires there { place < length self.old.files }
+    /// Adds a log with the bytes of the file at this index.
+    ///
+    /// # Errors
+    ///
+    /// `OpenFault::Memory` where memory ran out; nothing changes.
+    fn add(&mut self, name: String, index: usize) -> Result<(), OpenFault>
+        requires there { index < length self.old.files }
         requires ranks { length self.old.logs + 1 < 2 ^ 32 }
-        ensures { AddsFile self.old (string_bytes name) place result self.new }
+        ensures { AddsFile self.old (string_bytes name) index result self.new }
     {
-        let len = self.files[place].1.len();
-        match self.reels.add(name, place, len) {
+        let len = text(&self.files, index).len();
+        match self.opened.add(name, index, len) {
             Ok(()) => Ok(()),
             Err(_) => Err(OpenFault::Memory),
         }
@@ -167,10 +186,8 @@ impl Pulls for MemoryLogs {
             self.faults = self.faults.saturating_add(1);
             return Err(Failed);
         }
-        Ok(self.serve(room))
+        Ok(self.read_next(room))
     }
-
-    ghost told_of_each = { λ s. length-map s.logs (λ log. log.tape) };
 }
 
 impl Logs for MemoryLogs {
@@ -186,8 +203,8 @@ impl Logs for MemoryLogs {
         let Ok(copy) = String::from_str(self.alloc, name) else {
             return Err(OpenFault::Memory);
         };
-        match place_of(&self.files, name) {
-            Some(place) if !fails => self.add(copy, place),
+        match index_of(&self.files, name) {
+            Some(index) if !fails => self.add(copy, index),
             _ => {
                 self.refuse(copy);
                 Err(OpenFault::Failed)
@@ -195,7 +212,7 @@ impl Logs for MemoryLogs {
         }
     }
 
-    ghost one_log_a_name = { λ s. sym (length-map s.logs (λ log. log.name)) };
+    ghost one_log_a_name = { λ s. length-map s.logs known_bytes ∙ sym (length-map s.logs (λ log. log.name)) };
 
     ghost pulls_keep = { λ a b kept. kept };
 }

@@ -1,20 +1,22 @@
 //! A sink in memory, which can be told to fail.
 ghost use Rattle.std.specs.Prelude.{◌≡◌, ◌∷◌, MatchOption, vec_len};
-ghost use Rattle.rma_io.specs.Pages.{IsPage};
-ghost use Rattle.rma_io.specs.Sinks.{IsPut};
+ghost use Rattle.rma_io.specs.Buffer.{IsBuffer};
+ghost use Rattle.rma_io.specs.Sink.{IsPut};
 ghost use Rattle.rma_io.specs.MemorySink.{unwritten, output_of, IsMemoryPut, GoesWell, FailsAfter};
 
-use crate::pages::Page;
-use crate::sinks::Sink;
-use crate::sources::Failed;
+use crate::buffer::Buffer;
+use crate::sink::Sink;
+use crate::source::Failed;
 use std::marker::Model;
 
-/// A sink that fails where it is told to. It keeps, in the room that it is given, the first bytes of those that are
-/// written, as far as they fit, and tells them as long as all of them fit.
+/// A sink that fails where it is told to. It keeps the first bytes of those that are written, as far as the room that it
+/// is given holds them; what was written is known as long as all of it fits.
 #[derive(Drop)]
 pub struct MemorySink {
-    page: Page,
+    buffer: Buffer,
+    // The numbers of the puts that fail, each with the number of bytes after which it fails.
     fails: Vec<(u32, u32)>,
+    // The number of the next put.
     puts: u64,
     faults: u64,
 }
@@ -24,7 +26,7 @@ impl Model for MemorySink {
 
     ghost Value = { MemoryOutput };
 
-    ghost view = { λ a. record { page = a.page; fails = a.fails.items; puts = a.puts; faults = a.faults } };
+    ghost view = { λ a. record { buffer = a.buffer; fails = a.fails.items; puts = a.puts; faults = a.faults } };
 }
 
 /// After how many bytes the put of this number fails, if it is to fail.
@@ -47,7 +49,7 @@ impl MemorySink {
         ensures { result ≡ unwritten (vec_len room) fails.items }
     {
         MemorySink {
-            page: Page::new(room),
+            buffer: Buffer::new(room),
             fails,
             puts: 0,
             faults: 0,
@@ -56,10 +58,10 @@ impl MemorySink {
 
     /// The first bytes that were written, as far as they fit.
     pub fn kept(&self) -> &[u8]
-        ensures kept { result.now ≡ self.now.page.kept }
-        ensures page { IsPage self.now.page }
+        ensures kept { result.now ≡ self.now.buffer.kept }
+        ensures buffer { IsBuffer self.now.buffer }
     {
-        self.page.kept()
+        self.buffer.kept()
     }
 }
 
@@ -73,10 +75,10 @@ impl Sink for MemorySink {
         let plan = planned(&self.fails, self.puts);
         self.puts = self.puts.saturating_add(1);
         let Some(most) = plan else {
-            self.page.pass(piece);
+            self.buffer.pass(piece);
             return Ok(());
         };
-        self.page.pass(&piece[..(most as usize).min(piece.len())]);
+        self.buffer.pass(&piece[..(most as usize).min(piece.len())]);
         self.faults = self.faults.saturating_add(1);
         Err(Failed)
     }

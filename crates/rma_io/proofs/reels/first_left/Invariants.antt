@@ -1,7 +1,0 @@
-use Rattle.std.proofs.Common.{All, take}
-use Rattle.rma_io.specs.Turns.{IsZero}
-use Rattle.rma_io.specs.Places.{lefts}
-use Rattle.rma_io.proofs.reels.first_left.Given as goal
-
-abbrev pub invariant-loop-rank : goal.invariant-loop-rank
-invariant-loop-rank l = All IsZero (take l.rank (lefts l.opened))
