@@ -1,2 +1,2 @@
-pub mod HoldLemmas
+pub mod BufferLemmas
 pub mod TextLemmas

@@ -8,8 +8,8 @@ pub two_numbers : (p x q y r m n : List ℕ) → x ≡ m → y ≡ n → p ++ (x
 two_numbers p x q y r m n e f = rw (e, f) (simp (append_assoc, append-nil))
 
 -- two numbers and a word in a text
-pub word_behind : (p x q y r z s m n w : List ℕ) → x ≡ m → y ≡ n → z ≡ w → p ++ (x ++ (q ++ (y ++ (r ++ (z ++ (s ++ [])))))) ≡ p ++ (m ++ q ++ n ++ r ++ w ++ s)
-word_behind p x q y r z s m n w e f g = rw (e, f, g) (simp (append_assoc, append-nil))
+pub word_after : (p x q y r z s m n w : List ℕ) → x ≡ m → y ≡ n → z ≡ w → p ++ (x ++ (q ++ (y ++ (r ++ (z ++ (s ++ [])))))) ≡ p ++ (m ++ q ++ n ++ r ++ w ++ s)
+word_after p x q y r z s m n w e f g = rw (e, f, g) (simp (append_assoc, append-nil))
 
 -- a word and two numbers in a text
 pub word_before : (p z s q x r y w m n o l : List ℕ) → z ≡ w → x ≡ m → y ≡ n

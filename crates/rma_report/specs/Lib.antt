@@ -1,3 +1,3 @@
 pub mod ReportText
 pub mod Writing
-pub mod Holding
+pub mod inside

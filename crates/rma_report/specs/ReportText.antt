@@ -1,12 +1,12 @@
 -- The text of a report (the report format of this product).
 use Rattle.std.specs.Prelude.{ℕ, ◌-◌, List, [], ◌++◌, Option, Some, None, length, take, codes, decimal, ◌==◌, if◌then◌else◌}
 use Rattle.std.specs.List.{flat_map}
-use Rattle.rma_base.specs.declared.lines.LineNo.{LineNo}
-use Rattle.rma_base.specs.declared.ranks.Rank.{Rank}
-use Rattle.rma_base.specs.Reasons.{form_word}
-use Rattle.rma_base.specs.MatchReasons.{match_word}
-use Rattle.rma_report.specs.declared.findings.Finding.{Finding}
-use Rattle.rma_report.specs.declared.findings.Finding.TheVariants.{Malformed, Mismatch}
+use Rattle.rma_base.specs.declared.line.LineNo.{LineNo}
+use Rattle.rma_base.specs.declared.rank.Rank.{Rank}
+use Rattle.rma_base.specs.FormReason.{form_word}
+use Rattle.rma_base.specs.MatchReason.{match_word}
+use Rattle.rma_report.specs.declared.finding.Finding.{Finding}
+use Rattle.rma_report.specs.declared.finding.Finding.TheVariants.{Malformed, Mismatch}
 
 -- where a call stands
 abbrev pub place_text : Rank → LineNo → List ℕ
@@ -22,7 +22,7 @@ abbrev pub finding_line : Finding → List ℕ
 finding_line (Malformed rank line reason) = codes "malformed " ++ place_text rank line ++ codes " reason " ++ form_word reason ++ codes "\n"
 finding_line (Mismatch fault) = codes "mismatch " ++ match_word fault.reason ++ codes " " ++ place_text fault.rank fault.line ++ other_text fault.other ++ codes "\n"
 
--- the first line, on so many logs that have so many lines
+-- the first line, on `ranks` logs of `lines` lines together
 abbrev pub header_line : ℕ → ℕ → List ℕ
 header_line ranks lines = codes "rmaudit 1 ranks " ++ decimal ranks ++ codes " lines " ++ decimal lines ++ codes "\n"
 
@@ -30,14 +30,14 @@ header_line ranks lines = codes "rmaudit 1 ranks " ++ decimal ranks ++ codes " l
 abbrev pub omitted_line : ℕ → List ℕ
 omitted_line count = if count == 0 then [] else codes "omitted " ++ decimal count ++ codes "\n"
 
--- the last line, where there are so many findings
+-- the last line, by the number of findings
 abbrev pub verdict_line : ℕ → List ℕ
 verdict_line count = if count == 0 then codes "clean\n" else codes "findings " ++ decimal count ++ codes "\n"
 
--- the lines behind the first, where this was found, of which at most so many are shown
+-- the lines after the first, on these findings, of which at most `limit` are shown
 abbrev pub body_text : List Finding → ℕ → List ℕ
 body_text found limit = flat_map finding_line (take limit found) ++ omitted_line (length found - limit) ++ verdict_line (length found)
 
--- the report on so many logs that have so many lines, in which this was found, of which at most so many are shown
+-- the report on `ranks` logs of `lines` lines together, with these findings, of which at most `limit` are shown
 abbrev pub report_text : ℕ → ℕ → List Finding → ℕ → List ℕ
 report_text ranks lines found limit = header_line ranks lines ++ body_text found limit

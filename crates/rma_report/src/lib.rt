@@ -1,10 +1,15 @@
 //! What an audit finds, and the text of its report.
+//!
+//! [`Findings`] are the number of the logs and of their lines, and the list of what is wrong with them. Each [`Finding`] is one
+//! line of the report: the first bad line of a log, or a call that the calls of other ranks do not match. [`write_text`] writes
+//! the report to a sink, with as many findings as are asked for; it takes no memory, and what it wrote before a
+//! [`WriteFault`] is a prefix of the report.
 #![tactic(auto)]
 
-pub mod finding_lists;
-pub mod findings;
-mod holds;
-mod lines;
-pub mod report_texts;
-#[cfg(test)]
-mod tests;
+mod buffer;
+mod finding;
+mod line;
+mod report;
+
+pub use finding::{Finding, FindingList, Findings};
+pub use report::{WriteFault, write_text};

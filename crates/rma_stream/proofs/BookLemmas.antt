@@ -4,41 +4,41 @@ use Rattle.std.proofs.Math.ListN.{length-set}
 use Rattle.std.proofs.lemmas.List.{get_or_push, get_or_append_left, get_or-set_other}
 use Rattle.std.proofs.lemmas.Grind.{get_or-set_at}
 use Rattle.std.proofs.lemmas.Bool.{cases_lt, cases_eq}
-use Rattle.rma_book.specs.RankReading.{RankReading, StandsFor}
-use Rattle.rma_stream.specs.Feeding.{HaveBooks}
+use Rattle.rma_book.specs.inside.RankState.{RankState, Represents}
+use Rattle.rma_stream.specs.inside.Feeding.{HaveBooks}
 
 -- one book more, and one text
-pub HaveBooks-push : (ranks : ℕ) (books : List RankReading) (texts : List (List ℕ)) (book : RankReading) (text : List ℕ) → HaveBooks ranks books texts
-    → StandsFor (length books) ranks book text → HaveBooks ranks (books ++ book ∷ []) (texts ++ text ∷ [])
-HaveBooks-push ranks books texts book text h one = record {
+pub HaveBooks_push : (ranks : ℕ) (books : List RankState) (texts : List (List ℕ)) (book : RankState) (text : List ℕ) → HaveBooks ranks books texts
+    → Represents (length books) ranks book text → HaveBooks ranks (books ++ book ∷ []) (texts ++ text ∷ [])
+HaveBooks_push ranks books texts book text h one = record {
   one_a_text = omega (arith, length-append books (book ∷ []), length-append texts (text ∷ []), h.one_a_text);
   each = λ k d below. elim (cases_lt k (length books)) [
     | inl lt ↦
-        subst (λ r. StandsFor k ranks r (get_or (texts ++ text ∷ []) k [])) (sym (get_or_append_left books (book ∷ []) d k lt))
-        (subst (λ t. StandsFor k ranks (get_or books k d) t) (sym (get_or_append_left texts (text ∷ []) [] k (omega (arith, h.one_a_text)))) (h.each k d lt))
+        subst (λ r. Represents k ranks r (get_or (texts ++ text ∷ []) k [])) (sym (get_or_append_left books (book ∷ []) d k lt))
+        (subst (λ t. Represents k ranks (get_or books k d) t) (sym (get_or_append_left texts (text ∷ []) [] k (omega (arith, h.one_a_text)))) (h.each k d lt))
     | inr ge ↦
         let at_end : length books ≡ k = omega (arith, length-append books (book ∷ [])) in
-        subst (λ r. StandsFor k ranks r (get_or (texts ++ text ∷ []) k [])) (sym (get_or_push books book d k at_end))
-        (subst (λ t. StandsFor k ranks book t) (sym (get_or_push texts text [] k (sym h.one_a_text ∙ at_end))) (subst (λ n. StandsFor n ranks book text) at_end one))
+        subst (λ r. Represents k ranks r (get_or (texts ++ text ∷ []) k [])) (sym (get_or_push books book d k at_end))
+        (subst (λ t. Represents k ranks book t) (sym (get_or_push texts text [] k (sym h.one_a_text ∙ at_end))) (subst (λ n. Represents n ranks book text) at_end one))
   ];
 }
 
--- another book at a place, and another text
-pub HaveBooks-set : (ranks : ℕ) (books : List RankReading) (texts : List (List ℕ)) (i : ℕ) (book : RankReading) (text : List ℕ) → i < length books
-    → HaveBooks ranks books texts → StandsFor i ranks book text → HaveBooks ranks (set books i book) (set texts i text)
-HaveBooks-set ranks books texts i book text there h one = record {
+-- another book at an index, and another text
+pub HaveBooks_set : (ranks : ℕ) (books : List RankState) (texts : List (List ℕ)) (i : ℕ) (book : RankState) (text : List ℕ) → i < length books
+    → HaveBooks ranks books texts → Represents i ranks book text → HaveBooks ranks (set books i book) (set texts i text)
+HaveBooks_set ranks books texts i book text there h one = record {
   one_a_text = length-set books i book ∙ h.one_a_text ∙ sym (length-set texts i text);
   each = λ k d below. elim (cases_eq k i) [
     | inl same ↦
-        subst (λ r. StandsFor k ranks r (get_or (set texts i text) k [])) (sym (get_or-set_at books i k book d same there))
-        (subst (λ t. StandsFor k ranks book t) (sym (get_or-set_at texts i k text [] same (omega (arith, h.one_a_text)))) (subst (λ n. StandsFor n ranks book text) (sym same) one))
+        subst (λ r. Represents k ranks r (get_or (set texts i text) k [])) (sym (get_or-set_at books i k book d same there))
+        (subst (λ t. Represents k ranks book t) (sym (get_or-set_at texts i k text [] same (omega (arith, h.one_a_text)))) (subst (λ n. Represents n ranks book text) (sym same) one))
     | inr other ↦
-        subst (λ r. StandsFor k ranks r (get_or (set texts i text) k [])) (sym (get_or-set_other books i k book d other))
-        (subst (λ t. StandsFor k ranks (get_or books k d) t) (sym (get_or-set_other texts i k text [] other)) (h.each k d (omega (arith, length-set books i book))))
+        subst (λ r. Represents k ranks r (get_or (set texts i text) k [])) (sym (get_or-set_other books i k book d other))
+        (subst (λ t. Represents k ranks (get_or books k d) t) (sym (get_or-set_other texts i k text [] other)) (h.each k d (omega (arith, length-set books i book))))
   ];
 }
 
--- the book behind those before it
-pub book_at : (front : List RankReading) (book : RankReading) (back : List RankReading) (d : RankReading) → get_or (front ++ book ∷ back) (length front) d ≡ book
+-- the book after those before it
+pub book_at : (prefix : List RankState) (book : RankState) (back : List RankState) (d : RankState) → get_or (prefix ++ book ∷ back) (length prefix) d ≡ book
 book_at [] book back d = refl
-book_at (first ∷ front) book back d = book_at front book back d
+book_at (first ∷ prefix) book back d = book_at prefix book back d

@@ -1,2 +1,2 @@
 pub mod BookLemmas
-pub mod EndLemmas
+pub mod OutcomeLemmas

@@ -1,16 +1,18 @@
 -- What an audit finds in the whole logs of a run.
 use Rattle.std.specs.Prelude.{◌≡◌, ℕ, ◌+◌, List, [], ◌∷◌, length, map, sum_by}
 use Rattle.rma_lex.specs.Checked.{checked_lines}
-use Rattle.rma_lex.specs.Lines.{lines}
-use Rattle.rma_call.specs.declared.calls.RankCalls.{RankCalls}
-use Rattle.rma_book.specs.declared.faults.BookEnd.{BookEnd}
-use Rattle.rma_book.specs.declared.faults.BookEnd.TheVariants.{Calls, Fault}
+use Rattle.rma_lex.specs.Line.{lines}
+use Rattle.rma_call.specs.declared.call.RankCalls.{RankCalls}
+use Rattle.rma_book.specs.declared.fault.BookEnd.{BookEnd}
+use Rattle.rma_book.specs.declared.fault.BookEnd.TheVariants.{Calls, Fault}
 use Rattle.rma_book.specs.Ends.{IsEnd}
 use Rattle.rma_sync.specs.Matching.{match_faults}
-use Rattle.rma_report.specs.declared.findings.Finding.{Finding}
-use Rattle.rma_report.specs.declared.findings.Finding.TheVariants.{Malformed, Mismatch}
+use Rattle.rma_report.specs.declared.finding.Finding.{Finding}
+use Rattle.rma_report.specs.declared.finding.Finding.TheVariants.{Malformed, Mismatch}
+use Rattle.rma_stream.specs.declared.pass.Pass.{Pass}
+use Rattle.rma_stream.specs.declared.pass.Pass.TheVariants.{BadLines, Matching}
 
--- what each of some logs comes to, among so many, where the first is that of this rank
+-- the outcome of each of some logs, among `logs` of them, where the first is that of this rank
 abbrev pub AreEnds : ℕ → ℕ → List (List ℕ) → List BookEnd → Type 0
 AreEnds logs rank [] [] = Unit {0}
 AreEnds logs rank [] (end ∷ ends) = ⊥
@@ -29,14 +31,24 @@ bad_lines rank [] = []
 bad_lines rank (Calls calls ∷ ends) = bad_lines (rank + 1) ends
 bad_lines rank (Fault fault ∷ ends) = Malformed (record { 0 = rank }) fault.line fault.reason ∷ bad_lines (rank + 1) ends
 
--- the findings of the first of two passes that finds something
-abbrev pub first_pass : List Finding → List Finding → List Finding
-first_pass [] later = later
-first_pass (finding ∷ findings) later = finding ∷ findings
+-- the passes of an audit, in their order
+abbrev pub passes : List Pass
+passes = BadLines ∷ Matching ∷ []
 
--- the findings of the passes: bad lines, and then calls that the calls of other ranks do not match
+-- what a pass finds, where these are the outcomes of the logs
+abbrev pub found_by : List BookEnd → Pass → List Finding
+found_by ends BadLines = bad_lines 0 ends
+found_by ends Matching = map Mismatch (match_faults (calls_in ends))
+
+-- the first of some lists of findings that is not empty, and no finding where all are
+abbrev pub first_failing : List (List Finding) → List Finding
+first_failing [] = []
+first_failing ([] ∷ later) = first_failing later
+first_failing ((finding ∷ findings) ∷ later) = finding ∷ findings
+
+-- the findings of the first failing pass
 abbrev pub findings_of : List BookEnd → List Finding
-findings_of ends = first_pass (bad_lines 0 ends) (map Mismatch (match_faults (calls_in ends)))
+findings_of ends = first_failing (map (found_by ends) passes)
 
 -- the findings in these whole logs, one log a rank
 abbrev pub AreFindings : List (List ℕ) → List Finding → Type 0

@@ -1,8 +1,15 @@
 //! The audit of the logs of a run, as their bytes come.
+//!
+//! An [`Audit`] keeps one book a rank. It is fed the logs in pieces, of any size and in any order of the ranks, and once all
+//! have ended it answers the findings: those of the first pass that fails. A [`pass`] sees the outcomes of all logs; a further
+//! one is a variant there, a row in `specs/Findings.antt` and an arm of each.
+//!
+//! [`pass`]: pass.rt
 #![tactic(auto)]
 
-pub mod audits;
-mod ends;
+mod audit;
 pub mod laws;
-#[cfg(test)]
-mod tests;
+mod outcome;
+mod pass;
+
+pub use audit::Audit;

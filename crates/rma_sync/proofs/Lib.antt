@@ -1,9 +1,9 @@
 pub mod WalkLemmas
-pub mod PlaceLemmas
-pub mod TallyLemmas
+pub mod FirstIndexLemmas
+pub mod CallCountLemmas
 pub mod SoFarLemmas
-pub mod EvenLemmas
-pub mod ReadingLemmas
-pub mod MeetingLemmas
-pub mod TotalLemmas
+pub mod BalanceLemmas
+pub mod ScanLemmas
+pub mod RoundLemmas
+pub mod ByRankLemmas
 pub mod MissingLemmas

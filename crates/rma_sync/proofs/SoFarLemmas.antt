@@ -8,75 +8,75 @@ use Rattle.std.proofs.lemmas.Bool.Decides.{nat_tests}
 use Rattle.std.proofs.lemmas.List.{flat_map_more}
 use Rattle.std.proofs.lemmas.List.Elements.{filter_map-append}
 use Rattle.std.proofs.lemmas.List.Sums.{sum_by-append, sum_by-cons}
-use Rattle.rma_base.specs.declared.ranks.Rank.{Rank}
-use Rattle.rma_call.specs.declared.calls.Call.{Call}
-use Rattle.rma_call.specs.declared.calls.RankCalls.{RankCalls}
-use Rattle.rma_call.specs.declared.calls.What.{What}
-use Rattle.rma_sync.specs.declared.kinds.Kind.{Kind}
-use Rattle.rma_sync.specs.declared.tallies.Tally.{Tally}
-use Rattle.rma_sync.specs.Collectives.{named, is_on, count_of, made, made_on, so_far, walked, walked_all, collective_at, collectives}
-use Rattle.rma_sync.specs.Mentions.{mention_of, mentions_of, mentions}
-use Rattle.rma_sync.specs.Tallies.{counted, IsTally}
-use Rattle.rma_sync.proofs.WalkLemmas.{walked-push}
-use Rattle.rma_sync.proofs.TallyLemmas.{IsTally-same, IsTally-counted}
+use Rattle.rma_base.specs.declared.rank.Rank.{Rank}
+use Rattle.rma_call.specs.declared.call.Call.{Call}
+use Rattle.rma_call.specs.declared.call.RankCalls.{RankCalls}
+use Rattle.rma_call.specs.declared.what.What.{What}
+use Rattle.rma_sync.specs.declared.kind.Kind.{Kind}
+use Rattle.rma_sync.specs.declared.call_count.CallCounts.{CallCounts}
+use Rattle.rma_sync.specs.Collective.{named, is_on, count_of, made, made_on, so_far, walked, walked_all, collective_at, collectives}
+use Rattle.rma_sync.specs.Declaration.{declaration_of, declarations_of, declarations}
+use Rattle.rma_sync.specs.inside.CallCount.{counted, AreCallCounts}
+use Rattle.rma_sync.proofs.WalkLemmas.{walked_push}
+use Rattle.rma_sync.proofs.CallCountLemmas.{AreCallCounts_same, AreCallCounts_counted}
 
 -- ---- what is listed of the calls
 
-pub walked_all-push : {Y : Type 0} (f : Rank → List Call → Call → Option Y) (done : List RankCalls) (own : RankCalls) →
+pub walked_all_push : {Y : Type 0} (f : Rank → List Call → Call → Option Y) (done : List RankCalls) (own : RankCalls) →
     walked_all f (done ++ own ∷ []) ≡ walked_all f done ++ walked f own.rank [] own.calls
-walked_all-push f done own = sym (flat_map_more (λ (r : RankCalls). walked f r.rank [] r.calls) [] done own)
+walked_all_push f done own = sym (flat_map_more (λ (r : RankCalls). walked f r.rank [] r.calls) [] done own)
 
-pub collectives-more : (done : List RankCalls) (own : RankCalls) (before : List Call) (call : Call) →
+pub collectives_more : (done : List RankCalls) (own : RankCalls) (before : List Call) (call : Call) →
     collectives (so_far done own (before ++ call ∷ [])) ≡ collectives (so_far done own before) ++ cons_option (collective_at own.rank before call) []
-collectives-more done own before call =
+collectives_more done own before call =
     let last = cons_option (collective_at own.rank before call) [] in
-    walked_all-push collective_at done (record own { calls = before ++ call ∷ [] })
-    ∙ ap (λ l. collectives done ++ l) (walked-push collective_at own.rank [] before call)
+    walked_all_push collective_at done (record own { calls = before ++ call ∷ [] })
+    ∙ ap (λ l. collectives done ++ l) (walked_push collective_at own.rank [] before call)
     ∙ sym (append_assoc (collectives done) (walked collective_at own.rank [] before) last)
-    ∙ ap (λ l. l ++ last) (sym (walked_all-push collective_at done (record own { calls = before })))
+    ∙ ap (λ l. l ++ last) (sym (walked_all_push collective_at done (record own { calls = before })))
 
-module _ {T : Type 0} (said : What → Option (List ℕ × T)) where
-  pub mentions-push : (done : List RankCalls) (own : RankCalls) → mentions said (done ++ own ∷ []) ≡ mentions said done ++ mentions_of said own.rank own.calls
-  mentions-push done own = sym (flat_map_more (λ (r : RankCalls). mentions_of said r.rank r.calls) [] done own)
+module _ {T : Type 0} (stated : What → Option (List ℕ × T)) where
+  pub declarations_push : (done : List RankCalls) (own : RankCalls) → declarations stated (done ++ own ∷ []) ≡ declarations stated done ++ declarations_of stated own.rank own.calls
+  declarations_push done own = sym (flat_map_more (λ (r : RankCalls). declarations_of stated r.rank r.calls) [] done own)
 
-  pub mentions-more : (done : List RankCalls) (own : RankCalls) (before : List Call) (call : Call) →
-      mentions said (so_far done own (before ++ call ∷ [])) ≡ mentions said (so_far done own before) ++ cons_option (mention_of said own.rank call) []
-  mentions-more done own before call =
-      let last = cons_option (mention_of said own.rank call) [] in
-      mentions-push done (record own { calls = before ++ call ∷ [] })
-      ∙ ap (λ l. mentions said done ++ l) (filter_map-append (mention_of said own.rank) before (call ∷ []))
-      ∙ sym (append_assoc (mentions said done) (mentions_of said own.rank before) last)
-      ∙ ap (λ l. l ++ last) (sym (mentions-push done (record own { calls = before })))
+  pub declarations_more : (done : List RankCalls) (own : RankCalls) (before : List Call) (call : Call) →
+      declarations stated (so_far done own (before ++ call ∷ [])) ≡ declarations stated (so_far done own before) ++ cons_option (declaration_of stated own.rank call) []
+  declarations_more done own before call =
+      let last = cons_option (declaration_of stated own.rank call) [] in
+      declarations_push done (record own { calls = before ++ call ∷ [] })
+      ∙ ap (λ l. declarations stated done ++ l) (filter_map-append (declaration_of stated own.rank) before (call ∷ []))
+      ∙ sym (append_assoc (declarations stated done) (declarations_of stated own.rank before) last)
+      ∙ ap (λ l. l ++ last) (sym (declarations_push done (record own { calls = before })))
 
 -- ---- how many calls a rank makes
 
-made-here : (kind : Kind) (done : List RankCalls) (own : RankCalls) (name : List ℕ) → made kind (done ++ own ∷ []) (length done) name ≡ count_of kind name own.calls
-made-here kind [] own name = refl
-made-here kind (d ∷ done) own name = made-here kind done own name
+made_here : (kind : Kind) (done : List RankCalls) (own : RankCalls) (name : List ℕ) → made kind (done ++ own ∷ []) (length done) name ≡ count_of kind name own.calls
+made_here kind [] own name = refl
+made_here kind (d ∷ done) own name = made_here kind done own name
 
-made-elsewhere : (kind : Kind) (done : List RankCalls) (a b : RankCalls) (name : List ℕ) (m : ℕ) → m ≢ length done →
+made_elsewhere : (kind : Kind) (done : List RankCalls) (a b : RankCalls) (name : List ℕ) (m : ℕ) → m ≢ length done →
     made kind (done ++ a ∷ []) m name ≡ made kind (done ++ b ∷ []) m name
-made-elsewhere kind [] a b name zero ne = absurd (ne refl)
-made-elsewhere kind [] a b name (suc m) ne = refl
-made-elsewhere kind (d ∷ done) a b name zero ne = refl
-made-elsewhere kind (d ∷ done) a b name (suc m) ne = made-elsewhere kind done a b name m (λ e. ne (ap (λ n. suc n) e))
+made_elsewhere kind [] a b name zero ne = absurd (ne refl)
+made_elsewhere kind [] a b name (suc m) ne = refl
+made_elsewhere kind (d ∷ done) a b name zero ne = refl
+made_elsewhere kind (d ∷ done) a b name (suc m) ne = made_elsewhere kind done a b name m (λ e. ne (ap (λ n. suc n) e))
 
 -- a rank that has not begun makes none
-pub made-begun : (kind : Kind) (done : List RankCalls) (own : RankCalls) (name : List ℕ) (m : ℕ) → made kind (so_far done own []) m name ≡ made kind done m name
-made-begun kind [] own name zero = refl
-made-begun kind [] own name (suc m) = refl
-made-begun kind (d ∷ done) own name zero = refl
-made-begun kind (d ∷ done) own name (suc m) = made-begun kind done own name m
+pub made_begun : (kind : Kind) (done : List RankCalls) (own : RankCalls) (name : List ℕ) (m : ℕ) → made kind (so_far done own []) m name ≡ made kind done m name
+made_begun kind [] own name zero = refl
+made_begun kind [] own name (suc m) = refl
+made_begun kind (d ∷ done) own name zero = refl
+made_begun kind (d ∷ done) own name (suc m) = made_begun kind done own name m
 
-count_of-push : (kind : Kind) (name : List ℕ) (before : List Call) (call : Call) →
+count_of_push : (kind : Kind) (name : List ℕ) (before : List Call) (call : Call) →
     count_of kind name (before ++ call ∷ []) ≡ count_of kind name before + cond (is_on kind name call) 1 0
-count_of-push kind name before call =
+count_of_push kind name before call =
     let one = λ (c : Call). cond (is_on kind name c) 1 0 in
     sum_by-append one before (call ∷ []) ∙ ap (λ n. count_of kind name before + n) (sum_by-cons one call [] ∙ omega arith)
 
 module _ (kind : Kind) (name : List ℕ) (done : List RankCalls) (own : RankCalls) (before : List Call) (index : ℕ) (at : length done ≡ index) where
-  pub made-now : made kind (so_far done own before) index name ≡ count_of kind name before
-  made-now = ap (λ n. made kind (so_far done own before) n name) (sym at) ∙ made-here kind done (record own { calls = before }) name
+  pub made_now : made kind (so_far done own before) index name ≡ count_of kind name before
+  made_now = ap (λ n. made kind (so_far done own before) n name) (sym at) ∙ made_here kind done (record own { calls = before }) name
 
 module _ (kind : Kind) (name : List ℕ) (done : List RankCalls) (own : RankCalls) (before : List Call) (call : Call) (index : ℕ) (at : length done ≡ index) where
   abbrev R : List RankCalls
@@ -85,50 +85,50 @@ module _ (kind : Kind) (name : List ℕ) (done : List RankCalls) (own : RankCall
   abbrev R' : List RankCalls
   R' = so_far done own (before ++ call ∷ [])
 
-  made-next : made kind R' index name ≡ made kind R index name + cond (is_on kind name call) 1 0
-  made-next =
-      made-now kind name done own (before ++ call ∷ []) index at
-      ∙ count_of-push kind name before call
-      ∙ ap (λ n. n + cond (is_on kind name call) 1 0) (sym (made-now kind name done own before index at))
+  made_next : made kind R' index name ≡ made kind R index name + cond (is_on kind name call) 1 0
+  made_next =
+      made_now kind name done own (before ++ call ∷ []) index at
+      ∙ count_of_push kind name before call
+      ∙ ap (λ n. n + cond (is_on kind name call) 1 0) (sym (made_now kind name done own before index at))
 
-  made-others : (m : ℕ) → m ≢ index → made kind R' m name ≡ made kind R m name
-  made-others m ne = made-elsewhere kind done (record own { calls = before ++ call ∷ [] }) (record own { calls = before }) name m (λ e. ne (e ∙ at))
+  made_others : (m : ℕ) → m ≢ index → made kind R' m name ≡ made kind R m name
+  made_others m ne = made_elsewhere kind done (record own { calls = before ++ call ∷ [] }) (record own { calls = before }) name m (λ e. ne (e ∙ at))
 
-  made-same : is_on kind name call ≡ false → (m : ℕ) → made kind R' m name ≡ made kind R m name
-  made-same off m = by (eqb m index) refl
+  made_same : is_on kind name call ≡ false → (m : ℕ) → made kind R' m name ≡ made kind R m name
+  made_same off m = by (eqb m index) refl
     where
       by : (b : Bool) → eqb m index ≡ b → made kind R' m name ≡ made kind R m name
       by true e =
           let here = eqb-true m index e in
-          ap (λ n. made kind R' n name) here ∙ made-next ∙ ap (λ b. made kind R index name + cond b 1 0) off ∙ add0 (made kind R index name) ∙ ap (λ n. made kind R n name) (sym here)
+          ap (λ n. made kind R' n name) here ∙ made_next ∙ ap (λ b. made kind R index name + cond b 1 0) off ∙ add0 (made kind R index name) ∙ ap (λ n. made kind R n name) (sym here)
         where
           add0 : (n : ℕ) → n + 0 ≡ n
           add0 n = omega arith
-      by false e = made-others m (λ same. grind (arith, nat_tests))
+      by false e = made_others m (λ same. grind (arith, nat_tests))
 
   -- what is kept of the name after the call
-  pub IsTally-read : (t u : Tally) → IsTally (made_on kind R name) index t → u ≡ cond (is_on kind name call) (counted t index) t →
-      IsTally (made_on kind R' name) index u
-  IsTally-read t u is kept = by (is_on kind name call) refl
+  pub AreCallCounts_scanned : (t u : CallCounts) → AreCallCounts (made_on kind R name) index t → u ≡ cond (is_on kind name call) (counted t index) t →
+      AreCallCounts (made_on kind R' name) index u
+  AreCallCounts_scanned t u is kept = by (is_on kind name call) refl
     where
-      by : (b : Bool) → is_on kind name call ≡ b → IsTally (made_on kind R' name) index u
+      by : (b : Bool) → is_on kind name call ≡ b → AreCallCounts (made_on kind R' name) index u
       by true e =
           let same : u ≡ counted t index = kept ∙ ap (λ b. cond b (counted t index) t) e in
-          let more : made kind R' index name ≡ made kind R index name + 1 = made-next ∙ ap (λ b. made kind R index name + cond b 1 0) e in
-          subst (λ v. IsTally (made_on kind R' name) index v) (sym same)
-          (IsTally-counted (made_on kind R name) (made_on kind R' name) index t is more made-others)
+          let more : made kind R' index name ≡ made kind R index name + 1 = made_next ∙ ap (λ b. made kind R index name + cond b 1 0) e in
+          subst (λ v. AreCallCounts (made_on kind R' name) index v) (sym same)
+          (AreCallCounts_counted (made_on kind R name) (made_on kind R' name) index t is more made_others)
       by false e =
           let same : u ≡ t = kept ∙ ap (λ b. cond b (counted t index) t) e in
-          subst (λ v. IsTally (made_on kind R' name) index v) (sym same)
-          (IsTally-same (made_on kind R name) (made_on kind R' name) index index t (made-same e) (omega arith) is)
+          subst (λ v. AreCallCounts (made_on kind R' name) index v) (sym same)
+          (AreCallCounts_same (made_on kind R name) (made_on kind R' name) index index t (made_same e) (omega arith) is)
 
 -- ---- which names a call is on
 
-pub is_on-none : (kind : Kind) (name : List ℕ) (call : Call) → named kind call.body.what ≡ None → is_on kind name call ≡ false
-is_on-none kind name call none = ap (λ (o : Option (List ℕ)). option_map_or (λ own. pointwise nat_eq own name) o false) none
+pub is_on_none : (kind : Kind) (name : List ℕ) (call : Call) → named kind call.what ≡ None → is_on kind name call ≡ false
+is_on_none kind name call none = ap (λ (o : Option (List ℕ)). option_map_or (λ own. pointwise nat_eq own name) o false) none
 
-pub is_on-some : (kind : Kind) (name other : List ℕ) (call : Call) → named kind call.body.what ≡ Some other → is_on kind name call ≡ pointwise nat_eq other name
-is_on-some kind name other call some = ap (λ (o : Option (List ℕ)). option_map_or (λ own. pointwise nat_eq own name) o false) some
+pub is_on_some : (kind : Kind) (name other : List ℕ) (call : Call) → named kind call.what ≡ Some other → is_on kind name call ≡ pointwise nat_eq other name
+is_on_some kind name other call some = ap (λ (o : Option (List ℕ)). option_map_or (λ own. pointwise nat_eq own name) o false) some
 
 -- what changes of a name alone changes of the name that is looked for
 pub changed_alone : {X : Type 0} (F : List ℕ → X) (G : X → X) (own name : List ℕ) →

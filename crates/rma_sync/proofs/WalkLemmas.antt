@@ -1,13 +1,13 @@
 -- One more element at a loop's step.
 use Rattle.std.proofs.Common.{◌≡◌, ℕ, ◌+◌, ◌<◌, List, [], ◌∷◌, ◌++◌, length, get_or, take, Option, Some, None, refl, sym, ap, ◌∙◌}
-use Rattle.rma_base.specs.declared.ranks.Rank.{Rank}
-use Rattle.rma_call.specs.declared.calls.Call.{Call}
-use Rattle.rma_sync.specs.Collectives.{walked}
+use Rattle.rma_base.specs.declared.rank.Rank.{Rank}
+use Rattle.rma_call.specs.declared.call.Call.{Call}
+use Rattle.rma_sync.specs.Collective.{walked}
 use Rattle.std.specs.List.{filter_map, flat_map, cons_option}
 use Rattle.std.proofs.lemmas.List.{take_more, append_assoc, append-nil, flat_map_more}
 use Rattle.std.proofs.lemmas.List.Elements.{filter_map-append}
 
--- the front with the element behind it
+-- the prefix with the element after it
 pub taken : {X : Type 0} (xs : List X) (i : ℕ) (x : X) → i < length xs → x ≡ get_or xs i x → take (i + 1) xs ≡ take i xs ++ x ∷ []
 taken xs i x lt is = take_more xs i x lt ∙ ap (λ y. take i xs ++ y ∷ []) (sym is)
 
@@ -24,21 +24,21 @@ module _ {X Y : Type 0} where
       flat_map f (take i xs) ++ f x ≡ flat_map f (take (i + 1) xs)
   flat_map_taken f xs i x lt is = flat_map_more f [] (take i xs) x ∙ ap (flat_map f) (sym (taken xs i x lt is))
 
--- four lists, put behind one another in turn
+-- four lists, one after another
 pub joined : {X : Type 0} (a b c d l b' c' d' l1 l2 l3 : List X) → l ≡ a → b' ≡ b → c' ≡ c → d' ≡ d →
     l1 ≡ l ++ b' → l2 ≡ l1 ++ c' → l3 ≡ l2 ++ d' → l3 ≡ a ++ (b ++ (c ++ (d ++ [])))
 joined a b c d l b' c' d' l1 l2 l3 at_a at_b at_c at_d e1 e2 e3 =
     let e : l3 ≡ ((a ++ b) ++ c) ++ d = cc in
     e ∙ simp (append_assoc, append-nil)
 
-cons_option-append : {Y : Type 0} (o : Option Y) (xs ys : List Y) → cons_option o (xs ++ ys) ≡ cons_option o xs ++ ys
-cons_option-append None xs ys = refl
-cons_option-append (Some x) xs ys = refl
+cons_option_append : {Y : Type 0} (o : Option Y) (xs ys : List Y) → cons_option o (xs ++ ys) ≡ cons_option o xs ++ ys
+cons_option_append None xs ys = refl
+cons_option_append (Some x) xs ys = refl
 
-pub walked-push : {Y : Type 0} (f : Rank → List Call → Call → Option Y) (rank : Rank) (before xs : List Call) (x : Call) →
+pub walked_push : {Y : Type 0} (f : Rank → List Call → Call → Option Y) (rank : Rank) (before xs : List Call) (x : Call) →
     walked f rank before (xs ++ x ∷ []) ≡ walked f rank before xs ++ cons_option (f rank (before ++ xs) x) []
-walked-push f rank before [] x = ap (λ l. cons_option (f rank l x) []) (sym (append-nil before))
-walked-push f rank before (y ∷ ys) x =
-    ap (cons_option (f rank before y)) (walked-push f rank (before ++ y ∷ []) ys x)
-    ∙ cons_option-append (f rank before y) (walked f rank (before ++ y ∷ []) ys) (cons_option (f rank ((before ++ y ∷ []) ++ ys) x) [])
+walked_push f rank before [] x = ap (λ l. cons_option (f rank l x) []) (sym (append-nil before))
+walked_push f rank before (y ∷ ys) x =
+    ap (cons_option (f rank before y)) (walked_push f rank (before ++ y ∷ []) ys x)
+    ∙ cons_option_append (f rank before y) (walked f rank (before ++ y ∷ []) ys) (cons_option (f rank ((before ++ y ∷ []) ++ ys) x) [])
     ∙ ap (λ l. cons_option (f rank before y) (walked f rank (before ++ y ∷ []) ys) ++ cons_option (f rank l x) []) (append_assoc before (y ∷ []) ys)

@@ -2,15 +2,15 @@
 -- Communications", and "Groups, Contexts, Communicators, and Caching").
 use Rattle.std.specs.Prelude.{List, [], ◌∷◌}
 use Rattle.std.specs.List.{flat_map}
-use Rattle.rma_base.specs.declared.match_reasons.MatchReason.{MatchReason}
-use Rattle.rma_base.specs.declared.match_reasons.MatchReason.TheVariants.{SendUnreceived, ReceiveUnsent, CollectiveDiffers, CollectiveMissing, AssertDiffers, PostUnmatched, StartUnmatched, WindowDiffers, CommDiffers}
-use Rattle.rma_call.specs.declared.calls.RankCalls.{RankCalls}
-use Rattle.rma_call.specs.declared.match_faults.MatchFault.{MatchFault}
-use Rattle.rma_sync.specs.Mentions.{mentions}
-use Rattle.rma_sync.specs.Terms.{declared, same_ranks, created, same_terms}
-use Rattle.rma_sync.specs.Faults.{differences}
-use Rattle.rma_sync.specs.Collectives.{collectives}
-use Rattle.rma_sync.specs.Meetings.{collective_differences}
+use Rattle.rma_base.specs.declared.match_reason.MatchReason.{MatchReason}
+use Rattle.rma_base.specs.declared.match_reason.MatchReason.TheVariants.{SendUnreceived, ReceiveUnsent, CollectiveDiffers, CollectiveMissing, AssertDiffers, PostUnmatched, StartUnmatched, WindowDiffers, CommDiffers}
+use Rattle.rma_call.specs.declared.call.RankCalls.{RankCalls}
+use Rattle.rma_call.specs.declared.match_fault.MatchFault.{MatchFault}
+use Rattle.rma_sync.specs.Declaration.{declarations}
+use Rattle.rma_sync.specs.Attribute.{declared, same_ranks, created, same_attributes}
+use Rattle.rma_sync.specs.Difference.{differences}
+use Rattle.rma_sync.specs.Collective.{collectives}
+use Rattle.rma_sync.specs.Round.{collective_differences}
 use Rattle.rma_sync.specs.Missing.{missing_calls}
 
 -- the faults of one reason, by rank and then by line
@@ -22,8 +22,8 @@ faults_of ranks CollectiveMissing = missing_calls ranks
 faults_of ranks AssertDiffers = []
 faults_of ranks PostUnmatched = []
 faults_of ranks StartUnmatched = []
-faults_of ranks WindowDiffers = differences same_terms WindowDiffers (mentions created ranks)
-faults_of ranks CommDiffers = differences same_ranks CommDiffers (mentions declared ranks)
+faults_of ranks WindowDiffers = differences same_attributes WindowDiffers (declarations created ranks)
+faults_of ranks CommDiffers = differences same_ranks CommDiffers (declarations declared ranks)
 
 -- the faults of all reasons, in the order of the reasons
 abbrev pub match_faults : List RankCalls → List MatchFault

@@ -1,19 +1,27 @@
-//! How the calls of all ranks match: collective calls, windows and communicators.
+//! How the calls of all ranks match: collective calls, windows and communicators (MPI 4.0, "Collective Communication",
+//! "One-Sided Communications").
+//!
+//! [`match_faults`] takes the calls of all ranks and answers the calls that others do not match, by reason in the order of
+//! the report, then by rank, then by line. The k-th collective calls of the members of a communicator are one round: they
+//! are of one kind, every member makes each of them, and a window or a communicator is declared alike by every rank.
+//!
+//! One scan of all calls finds what differs and counts; only where the counts are not balanced does a second one look for
+//! the calls that some member does not make.
 #![tactic(auto)]
 
-mod counts;
-mod differences;
-mod first_places;
-mod frees;
-mod kinds;
-pub mod matching;
-mod meetings;
-mod members;
-mod mentions;
+mod attribute;
+mod by_rank;
+mod call_count;
+mod declaration;
+mod difference;
+mod first_index;
+mod free;
+mod kind;
+mod matching;
+mod member;
 mod missing;
-mod reading;
-mod tallies;
-mod terms;
-#[cfg(test)]
-mod tests;
-mod totals;
+mod name_count;
+mod round;
+mod scan;
+
+pub use matching::match_faults;

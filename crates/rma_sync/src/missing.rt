@@ -1,70 +1,76 @@
 //! Calls that some member does not make.
 ghost use Rattle.std.specs.Prelude.{◌≡◌, ◌+◌, ◌<◌, ◌^◌, ◌++◌, ◌∷◌, [], ℕ, List, IfOk, OnOk};
 ghost use Rattle.std.specs.Option.{option_or};
-ghost use Rattle.rma_call.specs.declared.calls.Call.{Call};
-ghost use Rattle.rma_call.specs.declared.calls.RankCalls.{RankCalls};
-ghost use Rattle.rma_sync.specs.declared.kinds.Kind.{Kind};
-ghost use Rattle.rma_sync.specs.declared.kinds.Kind.TheVariants as kind;
-ghost use Rattle.rma_sync.specs.Collectives.{walked};
-ghost use Rattle.rma_sync.specs.Counts.{AreCounts};
-ghost use Rattle.rma_sync.specs.Members.{AreMembers};
-ghost use Rattle.rma_sync.specs.Totals.{is_reached};
-ghost use Rattle.rma_sync.specs.Missing.{IsWatch, AreWatches, Tells, fault_if, missing_of, missing_at, missing_calls};
+ghost use Rattle.rma_call.specs.declared.call.Call.{Call};
+ghost use Rattle.rma_call.specs.declared.call.RankCalls.{RankCalls};
+ghost use Rattle.rma_sync.specs.declared.kind.Kind.{Kind};
+ghost use Rattle.rma_sync.specs.declared.kind.Kind.TheVariants as kind;
+ghost use Rattle.rma_sync.specs.Collective.{walked};
+ghost use Rattle.rma_sync.specs.inside.NameCount.{AreCounts};
+ghost use Rattle.rma_sync.specs.inside.Member.{AreMembers};
+ghost use Rattle.rma_sync.specs.inside.ByRank.{is_reached};
+ghost use Rattle.rma_sync.specs.Missing.{fault_if, missing_of, missing_at, missing_calls};
+ghost use Rattle.rma_sync.specs.inside.Missing.{IsMissingOfKind, AreMissingCalls, Tells};
 
-use crate::differences::push_some;
-use crate::kinds::{self, Kind};
-use crate::members::Members;
-use crate::{counts, totals};
+use crate::difference::push_some;
+use crate::kind::{self, Kind};
+use crate::member::Members;
+use crate::{by_rank, name_count};
 use indexmap::IndexMap;
-use rma_base::allocation::Memory;
-use rma_base::lists::Sequence;
-use rma_base::match_reasons::MatchReason;
-use rma_base::names::Name;
-use rma_base::ranks::Rank;
-use rma_call::calls::{Call, RankCalls};
-use rma_call::match_faults::MatchFault;
+use rma_base::{MatchReason, Memory, Name, Rank, Sequence};
+use rma_call::{Call, MatchFault, RankCalls};
 use std::alloc::Global;
 
-/// The numbers of the calls of a kind, by rank, and for names that were asked for the fewest that a member makes.
+/// What tells the missing calls of a kind.
 #[derive(Drop)]
-pub(crate) struct Watch {
+pub(crate) struct MissingOfKind {
+    /// The kind.
     kind: Kind,
-    totals: Sequence<IndexMap<Name, usize>>,
+    /// The numbers of the calls on each name, by rank.
+    counts_by_rank: Sequence<IndexMap<Name, usize>>,
+    /// The fewest calls that a member makes on a name, as far as it was asked for.
     known: IndexMap<Name, Option<usize>>,
 }
 
-/// Both kinds of calls that every member has to make.
+/// What tells the missing calls of both kinds.
 #[derive(Drop)]
-pub(crate) struct Watches {
+pub(crate) struct MissingCalls {
+    /// Who has to make a call.
     members: Members,
-    collectives: Watch,
-    frees: Watch,
+    /// What tells the missing collective calls.
+    collectives: MissingOfKind,
+    /// What tells the missing frees of windows.
+    frees: MissingOfKind,
 }
 
-impl Watch {
+impl MissingOfKind {
     /// The numbers of this kind in a run.
-    fn new(alloc: Global, kind: Kind, ranks: &[RankCalls]) -> Result<Watch, Memory>
-        ensures { IfOk result (λ watch. IsWatch kind ranks.now watch) }
+    fn new(alloc: Global, kind: Kind, ranks: &[RankCalls]) -> Result<MissingOfKind, Memory>
+        ensures { IfOk result (λ missing. IsMissingOfKind kind ranks.now missing) }
     {
-        let totals = totals::totals(alloc, kind, ranks)?;
-        Ok(Watch {
+        let counts_by_rank = by_rank::counts_by_rank(alloc, kind, ranks)?;
+        Ok(MissingOfKind {
             kind,
-            totals,
+            counts_by_rank,
             known: IndexMap::new(alloc),
         })
     }
 
     /// The fewest calls on the name that a member makes, if it has a member.
     fn fewest(&mut self, members: &Members, name: &Name) -> Result<Option<usize>, Memory>
-        ensures fewest { IfOk result (λ fewest. (kind : Kind) (ranks : List RankCalls) → AreMembers ranks members.now → IsWatch kind ranks self.old
+        ensures fewest { IfOk result (λ fewest. (kind : Kind) (ranks : List RankCalls) → AreMembers ranks members.now → IsMissingOfKind kind ranks self.old
             → Tells kind ranks name.now fewest) }
-        ensures watch { OnOk result ((kind : Kind) (ranks : List RankCalls) → AreMembers ranks members.now → IsWatch kind ranks self.old
-            → IsWatch kind ranks self.new) }
+        ensures missing { OnOk result ((kind : Kind) (ranks : List RankCalls) → AreMembers ranks members.now → IsMissingOfKind kind ranks self.old
+            → IsMissingOfKind kind ranks self.new) }
     {
         if let Some(fewest) = self.known.get(name) {
             return Ok(*fewest);
         }
-        let fewest = totals::fewest(self.totals.as_slice(), members.of(self.kind, name), name);
+        let fewest = by_rank::fewest(
+            self.counts_by_rank.as_slice(),
+            members.of(self.kind, name),
+            name,
+        );
         let name = name.copy()?;
         self.known.insert(name, fewest)?;
         Ok(fewest)
@@ -79,28 +85,28 @@ impl Watch {
         call: &Call,
     ) -> Result<Option<MatchFault>, Memory>
         ensures fault { IfOk result (λ fault. (kind : Kind) (ranks : List RankCalls) (before : List Call) → AreMembers ranks members.now
-            → IsWatch kind ranks self.old → AreCounts kind before counts.now.entries → fault ≡ missing_of kind ranks rank before call.now) }
-        ensures watch { OnOk result ((kind : Kind) (ranks : List RankCalls) → AreMembers ranks members.now → IsWatch kind ranks self.old
-            → IsWatch kind ranks self.new) }
+            → IsMissingOfKind kind ranks self.old → AreCounts kind before counts.now.entries → fault ≡ missing_of kind ranks rank before call.now) }
+        ensures missing { OnOk result ((kind : Kind) (ranks : List RankCalls) → AreMembers ranks members.now → IsMissingOfKind kind ranks self.old
+            → IsMissingOfKind kind ranks self.new) }
     {
-        let Some(name) = kinds::named(self.kind, call) else {
+        let Some(name) = kind::named(self.kind, call) else {
             return Ok(None);
         };
-        let number = counts::count(counts, name);
+        let number = name_count::count(counts, name);
         let fewest = self.fewest(members, name)?;
         Ok(fault_if(reaches(fewest, number), rank, call))
     }
 }
 
-impl Watches {
+impl MissingCalls {
     /// Both kinds in a run.
-    fn new(alloc: Global, ranks: &[RankCalls], members: Members) -> Result<Watches, Memory>
+    fn new(alloc: Global, ranks: &[RankCalls], members: Members) -> Result<MissingCalls, Memory>
         requires { AreMembers ranks.now members }
-        ensures { IfOk result (λ watches. AreWatches ranks.now watches) }
+        ensures { IfOk result (λ missing. AreMissingCalls ranks.now missing) }
     {
-        let collectives = Watch::new(alloc, Kind::Collective, ranks)?;
-        let frees = Watch::new(alloc, Kind::Free, ranks)?;
-        Ok(Watches {
+        let collectives = MissingOfKind::new(alloc, Kind::Collective, ranks)?;
+        let frees = MissingOfKind::new(alloc, Kind::Free, ranks)?;
+        Ok(MissingCalls {
             members,
             collectives,
             frees,
@@ -115,10 +121,10 @@ impl Watches {
         rank: Rank,
         call: &Call,
     ) -> Result<Option<MatchFault>, Memory>
-        ensures fault { IfOk result (λ fault. (ranks : List RankCalls) (before : List Call) → AreWatches ranks self.old
+        ensures fault { IfOk result (λ fault. (ranks : List RankCalls) (before : List Call) → AreMissingCalls ranks self.old
             → AreCounts kind.Collective before collectives.now.entries → AreCounts kind.Free before frees.now.entries
             → fault ≡ missing_at ranks rank before call.now) }
-        ensures watches { OnOk result ((ranks : List RankCalls) → AreWatches ranks self.old → AreWatches ranks self.new) }
+        ensures missing { OnOk result ((ranks : List RankCalls) → AreMissingCalls ranks self.old → AreMissingCalls ranks self.new) }
     {
         let collective = self
             .collectives
@@ -140,10 +146,10 @@ pub(crate) fn missing_calls(
     requires { AreMembers ranks.now members }
     ensures { IfOk result (λ faults. faults ≡ missing_calls ranks.now) }
 {
-    let mut watches = Watches::new(alloc, ranks, members)?;
+    let mut missing = MissingCalls::new(alloc, ranks, members)?;
     let mut faults = Sequence::new(alloc);
     for rank in ranks {
-        judge_rank(alloc, rank, &mut watches, &mut faults)?;
+        judge_rank(alloc, rank, &mut missing, &mut faults)?;
     }
     Ok(faults)
 }
@@ -152,19 +158,19 @@ pub(crate) fn missing_calls(
 fn judge_rank(
     alloc: Global,
     rank: &RankCalls,
-    watches: &mut Watches,
+    missing: &mut MissingCalls,
     faults: &mut Sequence<MatchFault>,
 ) -> Result<(), Memory>
-    ensures { OnOk result ((ranks : List RankCalls) → AreWatches ranks watches.old
-        → AreWatches ranks watches.new × (faults.new ≡ faults.old ++ walked (missing_at ranks) rank.now.rank [] rank.now.calls)) }
+    ensures { OnOk result ((ranks : List RankCalls) → AreMissingCalls ranks missing.old
+        → AreMissingCalls ranks missing.new × (faults.new ≡ faults.old ++ walked (missing_at ranks) rank.now.rank [] rank.now.calls)) }
 {
     let mut collectives = IndexMap::new(alloc);
     let mut frees = IndexMap::new(alloc);
     for call in rank.calls.as_slice() {
-        let fault = watches.judge(&collectives, &frees, rank.rank, call)?;
+        let fault = missing.judge(&collectives, &frees, rank.rank, call)?;
         push_some(faults, fault)?;
-        counts::note(Kind::Collective, &mut collectives, call)?;
-        counts::note(Kind::Free, &mut frees, call)?;
+        name_count::note(Kind::Collective, &mut collectives, call)?;
+        name_count::note(Kind::Free, &mut frees, call)?;
     }
     Ok(())
 }

@@ -1,6 +1,6 @@
 use Rattle.std.proofs.Common.{length, ap, sym, ◌∙◌}
 use Rattle.rma_stream.specs.Findings.{findings_of}
-use Rattle.rma_stream.proofs.EndLemmas.{one_list}
+use Rattle.rma_stream.proofs.OutcomeLemmas.{one_list}
 use Rattle.rma_stream.proofs.laws.findings_are_one_list.Goals as goal
 
 pub returns : goal.returns

@@ -1,9 +1,10 @@
 use Rattle.std.proofs.Common.{◌≡◌, List, [], ◌++◌, take}
-use Rattle.rma_call.specs.declared.calls.RankCalls.{RankCalls}
-use Rattle.rma_sync.specs.declared.kinds.Kind.TheVariants as kind
-use Rattle.rma_sync.specs.Collectives.{walked}
-use Rattle.rma_sync.specs.Counts.{AreCounts}
-use Rattle.rma_sync.specs.Missing.{AreWatches, missing_at}
+use Rattle.rma_call.specs.declared.call.RankCalls.{RankCalls}
+use Rattle.rma_sync.specs.declared.kind.Kind.TheVariants as kind
+use Rattle.rma_sync.specs.Collective.{walked}
+use Rattle.rma_sync.specs.inside.NameCount.{AreCounts}
+use Rattle.rma_sync.specs.Missing.{missing_at}
+use Rattle.rma_sync.specs.inside.Missing.{AreMissingCalls}
 use Rattle.rma_sync.proofs.missing.judge_rank.Given as goal
 
 -- the calls so far are counted, and judged
@@ -11,6 +12,6 @@ abbrev pub invariant-loop-call : goal.invariant-loop-call
 invariant-loop-call l = record {
   collectives : AreCounts kind.Collective (take l.call-index l.call-items) l.collectives.entries;
   frees : AreCounts kind.Free (take l.call-index l.call-items) l.frees.entries;
-  judged : (ranks : List RankCalls) → AreWatches ranks l.initial.watches →
-      AreWatches ranks l.watches × (l.faults ≡ l.initial.faults ++ walked (missing_at ranks) l.rank.rank [] (take l.call-index l.call-items));
+  judged : (ranks : List RankCalls) → AreMissingCalls ranks l.initial.missing →
+      AreMissingCalls ranks l.missing × (l.faults ≡ l.initial.faults ++ walked (missing_at ranks) l.rank.rank [] (take l.call-index l.call-items));
 }

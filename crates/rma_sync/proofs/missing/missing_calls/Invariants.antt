@@ -1,11 +1,12 @@
 use Rattle.std.proofs.Common.{◌≡◌, take}
-use Rattle.rma_sync.specs.Collectives.{walked_all}
-use Rattle.rma_sync.specs.Missing.{AreWatches, missing_at}
+use Rattle.rma_sync.specs.Collective.{walked_all}
+use Rattle.rma_sync.specs.Missing.{missing_at}
+use Rattle.rma_sync.specs.inside.Missing.{AreMissingCalls}
 use Rattle.rma_sync.proofs.missing.missing_calls.Given as goal
 
 -- the calls of the ranks so far are judged
 abbrev pub invariant-loop-rank : goal.invariant-loop-rank
 invariant-loop-rank l = record {
-  watches : AreWatches l.ranks l.watches;
+  missing : AreMissingCalls l.ranks l.missing;
   judged : l.faults ≡ walked_all (missing_at l.ranks) (take l.rank-index l.ranks);
 }

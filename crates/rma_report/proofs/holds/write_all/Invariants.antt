@@ -1,7 +1,0 @@
-use Rattle.std.proofs.Common.{Ok, take}
-use Rattle.std.specs.List.{flat_map}
-use Rattle.rma_report.specs.Holding.{IsPassed}
-use Rattle.rma_report.proofs.holds.write_all.Given as goal
-
-abbrev pub invariant-loop-text : goal.invariant-loop-text
-invariant-loop-text g l = IsPassed (g.S.Sink.output l.initial.out) l.initial.hold.bytes (flat_map (λ text. text.now) (take l.text-index l.texts)) (Ok tt) l.hold.bytes (g.S.Sink.output l.out)

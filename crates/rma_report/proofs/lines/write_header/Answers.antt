@@ -1,8 +1,0 @@
-use Rattle.std.proofs.Common.{codes, decimal}
-use Rattle.rma_report.proofs.HoldLemmas.{passed-text}
-use Rattle.rma_report.proofs.TextLemmas.{two_numbers}
-use Rattle.rma_report.proofs.lines.write_header.Goals as goal
-
-pub returns : goal.returns
-returns g c =
-    passed-text _ _ _ _ _ _ _ (two_numbers (codes "rmaudit 1 ranks ") c.format.result.now (codes " lines ") c.format-2.result.now (codes "\n") (decimal c.args.ranks) (decimal c.args.lines) c.format.ensures.text c.format-2.ensures.text) c.write_all.ensures

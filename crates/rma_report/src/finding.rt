@@ -1,0 +1,33 @@
+//! What an audit finds.
+use rma_base::{FormReason, LineNo, Rank, Sequence};
+use rma_call::MatchFault;
+
+/// One thing that is wrong with the logs of a run.
+#[derive(Clone, Copy, Debug, PartialEq, Eq)]
+pub enum Finding {
+    /// The first bad line of the log of a rank.
+    Malformed {
+        /// The rank whose log has the line.
+        rank: Rank,
+        /// The line, or the one after the last where a line is missing.
+        line: LineNo,
+        /// What is wrong with it.
+        reason: FormReason,
+    },
+    /// A call that the calls of other ranks do not match.
+    Mismatch(MatchFault),
+}
+
+/// Findings in the order of the report.
+pub type FindingList = Sequence<Finding>;
+
+/// What an audit found in the logs of a run.
+#[derive(Drop)]
+pub struct Findings {
+    /// The number of logs.
+    pub ranks: u32,
+    /// The number of lines of all logs.
+    pub lines: u64,
+    /// The findings of the first failing pass.
+    pub list: FindingList,
+}

@@ -1,0 +1,17 @@
+use Rattle.std.proofs.Common.{List, length, map, sym, ap, ◌∙◌, subst}
+use Rattle.rma_book.specs.inside.RankState.{RankState}
+use Rattle.rma_stream.specs.declared.pass.Pass.{Pass}
+use Rattle.rma_stream.specs.inside.Feeding.{HaveBooks}
+use Rattle.rma_stream.specs.Findings.{found_by, first_failing}
+use Rattle.rma_stream.proofs.audit.Audit.finish.Goals as goal
+
+pub returns : goal.returns
+returns c = λ texts h.
+    let logs = length texts in
+    let books = c.self.inside.books in
+    let held = subst (λ (bs : List RankState). HaveBooks logs bs texts) (sym c.self.view_is) h in
+    let ends = c.in_ok-outcomes.ensures texts held in (
+      c.len-ranks.ensures ∙ books.ok.0 ∙ held.one_a_text,
+      c.count_lines-lines.ensures logs texts (subst (λ (bs : List RankState). HaveBooks logs bs texts) (sym c.deref.ensures.value) held),
+      (ends.0, ends.1, c.in_ok-list.ensures ends.0 ends.2 ∙ ap (λ (ps : List Pass). first_failing (map (found_by ends.0) ps)) c.all_passes.ensures),
+    )

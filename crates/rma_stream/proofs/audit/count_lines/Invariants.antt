@@ -1,0 +1,11 @@
+use Rattle.std.proofs.Common.{◌≡◌, ◌≤◌, ◌*◌, ℕ, List, take}
+use Rattle.rma_base.specs.Limits.{fed_limit}
+use Rattle.rma_stream.specs.inside.Feeding.{HaveBooks}
+use Rattle.rma_stream.specs.Findings.{count_of_lines}
+use Rattle.rma_stream.proofs.audit.count_lines.Given as goal
+
+-- the lines of the logs so far
+abbrev pub invariant-loop-book : goal.invariant-loop-book
+invariant-loop-book l =
+    ((ranks : ℕ) (texts : List (List ℕ)) → HaveBooks ranks l.books texts → l.lines ≡ count_of_lines (take l.book-index texts))
+    × (l.lines ≤ l.book-index * fed_limit)

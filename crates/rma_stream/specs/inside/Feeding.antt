@@ -1,0 +1,17 @@
+-- What the books of an audit represent.
+use Rattle.std.specs.Prelude.{◌≡◌, ℕ, ◌+◌, ◌<◌, ◌≤◌, List, [], ◌++◌, length, slice_index_or, slice_set}
+use Rattle.rma_base.specs.Limits.{fed_limit}
+use Rattle.rma_book.specs.inside.RankState.{RankState, Represents}
+
+-- there is one book a log, and the k-th from 0 was fed these bytes of the log of rank k
+pub record HaveBooks (ranks : ℕ) (books : List RankState) (texts : List (List ℕ)) : Type 0 where
+  pub one_a_text : length books ≡ length texts
+  pub each : (k : ℕ) (d : RankState) → k < length books → Represents k ranks (slice_index_or books k d) (slice_index_or texts k [])
+
+-- the texts, where that of a rank goes on with this piece
+abbrev pub with_piece : List (List ℕ) → ℕ → List ℕ → List (List ℕ)
+with_piece texts rank piece = slice_set texts rank (slice_index_or texts rank [] ++ piece)
+
+-- the book of a rank may be fed `count` bytes more
+abbrev pub HasRoom : List RankState → ℕ → ℕ → Type 0
+HasRoom books rank count = (d : RankState) → (slice_index_or books rank d).text.fed + count ≤ fed_limit

@@ -1,0 +1,97 @@
+//! The audit of the logs of a run.
+ghost use Rattle.std.specs.Prelude.{◌≡◌, ℕ, ◌<◌, ◌≤◌, List, [], length, replicate, slice_index_or, IfOk, OnOk};
+ghost use Rattle.rma_book.specs.inside.RankState.{RankState};
+ghost use Rattle.rma_stream.specs.inside.Feeding.{HaveBooks, HasRoom, with_piece};
+ghost use Rattle.rma_stream.specs.Findings.{AreFindings, count_of_lines};
+
+use crate::outcome::Outcomes;
+use crate::pass::{all_passes, first_failing};
+use rma_base::limits::RANKS;
+use rma_base::{Memory, Rank};
+use rma_book::RankBook;
+use rma_report::Findings;
+use std::alloc::Global;
+use std::marker::Model;
+
+/// The books of all ranks, each of the log of its rank.
+#[derive(Drop)]
+pub struct Audit {
+    /// Where it takes its memory.
+    alloc: Global,
+    /// The book of each rank.
+    books: Vec<RankBook>,
+}
+
+impl Model for Audit {
+    ghost use Rattle.std.specs.Prelude.{◌≡◌, false, List, All};
+    ghost use Rattle.rma_book.specs.inside.RankState.{RankState};
+
+    ghost Value = { List RankState };
+
+    ghost view = { λ audit. audit.books.items };
+
+    ghost invariant = { λ audit. All (λ book. book.text.closed ≡ false) audit.books.items };
+}
+
+impl Audit {
+    /// An audit of the logs of `ranks` ranks, of which nothing was read yet.
+    pub fn new(alloc: Global, ranks: u32) -> Result<Audit, Memory>
+        ensures text { IfOk result (λ audit. HaveBooks ranks audit (replicate ranks [])) }
+        ensures ranks { IfOk result (λ audit. length audit ≡ ranks) }
+    {
+        let mut books = Vec::new(alloc);
+        for rank in 0..ranks {
+            books.push(RankBook::new(alloc, Rank(rank), ranks)?)?;
+        }
+        Ok(Audit { alloc, books })
+    }
+
+    /// How many bytes of the log of a rank it was fed.
+    pub fn fed(&self, rank: Rank) -> u64
+        requires { rank.0 < length self.now }
+        ensures { (d : RankState) → result ≡ (slice_index_or self.now rank.0 d).text.fed }
+    {
+        self.books[rank.0 as usize].fed()
+    }
+
+    /// Reads the next piece of the log of a rank.
+    ///
+    /// # Errors
+    ///
+    /// `Memory` where memory ran out: the audit no longer represents what it was fed.
+    pub fn feed(&mut self, rank: Rank, piece: &[u8]) -> Result<(), Memory>
+        requires there { rank.0 < length self.old }
+        requires room { HasRoom self.old rank.0 (length piece.now) }
+        ensures text { OnOk result ((ranks : ℕ) (texts : List (List ℕ)) → HaveBooks ranks self.old texts → HaveBooks ranks self.new (with_piece texts rank.0 piece.now)) }
+        ensures ranks { OnOk result (length self.new ≡ length self.old) }
+    {
+        let book = &mut self.books[rank.0 as usize];
+        book.feed(piece)?;
+        Ok(())
+    }
+
+    /// All logs have ended: the findings of the first failing pass, and how many lines there are.
+    pub fn finish(self) -> Result<Findings, Memory>
+        requires { length self ≤ RANKS }
+        ensures { IfOk result (λ findings. (texts : List (List ℕ)) → HaveBooks (length texts) self texts
+            → (findings.ranks ≡ length texts) × (findings.lines ≡ count_of_lines texts) × AreFindings texts findings.list) }
+    {
+        let ranks = self.books.len() as u32;
+        let lines = count_lines(&self.books);
+        let outcomes = Outcomes::of(self.alloc, self.books)?;
+        let list = first_failing(self.alloc, &outcomes, &all_passes())?;
+        Ok(Findings { ranks, lines, list })
+    }
+}
+
+/// How many lines the logs have together.
+fn count_lines(books: &[RankBook]) -> u64
+    requires { length books.now ≤ RANKS }
+    ensures { (ranks : ℕ) (texts : List (List ℕ)) → HaveBooks ranks books.now texts → result ≡ count_of_lines texts }
+{
+    let mut lines = 0;
+    for book in books {
+        lines += u64::from(book.lines());
+    }
+    lines
+}

@@ -1,0 +1,83 @@
+//! The outcomes of all logs, and what each pass finds in them.
+ghost use Rattle.std.specs.Prelude.{◌≡◌, ◌≤◌, ℕ, List, [], length, IfOk, OnOk, map, ◌++◌, ◌∷◌};
+ghost use Rattle.rma_book.specs.declared.fault.BookEnd.{BookEnd};
+ghost use Rattle.rma_report.specs.declared.finding.Finding.TheVariants.{Mismatch};
+ghost use Rattle.rma_sync.specs.Matching.{match_faults};
+ghost use Rattle.rma_stream.specs.inside.Feeding.{HaveBooks};
+ghost use Rattle.rma_stream.specs.inside.Outcome.{AreOutcomes};
+ghost use Rattle.rma_stream.specs.Findings.{AreEnds, found_by};
+
+use crate::pass::Pass;
+use rma_base::limits::RANKS;
+use rma_base::{Memory, Rank, Sequence};
+use rma_book::{BookEnd, RankBook};
+use rma_call::RankCalls;
+use rma_report::{Finding, FindingList};
+use rma_sync::match_faults;
+use std::alloc::Global;
+
+/// The outcomes of some logs.
+#[derive(Drop)]
+pub(crate) struct Outcomes {
+    /// The first bad lines, by rank.
+    bad: FindingList,
+    /// The calls of the logs without one, by rank.
+    calls: Vec<RankCalls>,
+}
+
+impl Outcomes {
+    /// The outcomes of the logs of these books.
+    pub(crate) fn of(alloc: Global, books: Vec<RankBook>) -> Result<Outcomes, Memory>
+        requires { length books.items ≤ RANKS }
+        ensures { IfOk result (λ them. (texts : List (List ℕ)) → HaveBooks (length texts) books.items texts
+            → (ends : List BookEnd) × AreEnds (length texts) 0 texts ends × AreOutcomes ends them) }
+    {
+        let mut them = Outcomes {
+            bad: Sequence::new(alloc),
+            calls: Vec::new(alloc),
+        };
+        let mut rank = 0;
+        for book in books {
+            them.push(Rank(rank), book.end()?)?;
+            rank += 1;
+        }
+        Ok(them)
+    }
+
+    /// Appends the outcome of the log of a rank.
+    fn push(&mut self, rank: Rank, end: BookEnd) -> Result<(), Memory>
+        ensures { OnOk result ((before : List BookEnd) → rank.0 ≡ length before → AreOutcomes before self.old → AreOutcomes (before ++ end ∷ []) self.new) }
+    {
+        match end {
+            BookEnd::Calls(calls) => self.calls.push(calls)?,
+            BookEnd::Fault(fault) => self.bad.push(Finding::Malformed {
+                rank,
+                line: fault.line,
+                reason: fault.reason,
+            })?,
+        }
+        Ok(())
+    }
+
+    /// The findings of a pass.
+    pub(crate) fn findings(&self, alloc: Global, pass: Pass) -> Result<FindingList, Memory>
+        ensures { IfOk result (λ found. (ends : List BookEnd) → AreOutcomes ends self.now → found ≡ found_by ends pass) }
+    {
+        match pass {
+            Pass::BadLines => self.bad.copy(),
+            Pass::Matching => mismatches(alloc, &self.calls),
+        }
+    }
+}
+
+/// The calls that the calls of other ranks do not match, as findings.
+fn mismatches(alloc: Global, calls: &[RankCalls]) -> Result<FindingList, Memory>
+    ensures { IfOk result (λ list. list ≡ map Mismatch (match_faults calls.now)) }
+{
+    let faults = match_faults(alloc, calls)?;
+    let mut list = Sequence::new(alloc);
+    for fault in faults.as_slice() {
+        list.push(Finding::Mismatch(*fault))?;
+    }
+    Ok(list)
+}

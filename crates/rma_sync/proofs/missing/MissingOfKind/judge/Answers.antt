@@ -1,0 +1,18 @@
+use Rattle.std.proofs.Common.{◌≡◌, List, ℕ, Some, ap, sym, ◌∙◌}
+use Rattle.std.specs.Option.{option_copied, option_and_then}
+use Rattle.rma_sync.specs.Collective.{named, count_of}
+use Rattle.rma_sync.specs.inside.ByRank.{is_reached}
+use Rattle.rma_sync.specs.Missing.{fault_if, lacks}
+use Rattle.rma_sync.proofs.missing.MissingOfKind.judge.Goals as goal
+
+pub returns-clause-fault : goal.returns-clause-fault
+returns-clause-fault c = λ kind ranks before members missing counted.
+    let call = c.args.call.now in
+    let name = c.in-Some.name.now in
+    let fewest = c.in_ok-fewest.fewest in
+    let at : named kind call.what ≡ Some name = ap (λ k. named k call.what) (sym missing.kind_is) ∙ sym c.named.ensures ∙ ap option_copied c.in-Some.is in
+    let number : c.count-number.result ≡ count_of kind name before = c.count-number.ensures ∙ counted name in
+    let told = c.in_ok-fewest.ensures.fewest kind ranks members missing in
+    c.fault_if.ensures
+    ∙ ap (λ lacking. fault_if lacking c.args.rank call) (c.reaches.ensures ∙ ap (is_reached fewest) number ∙ sym (told (count_of kind name before)))
+    ∙ ap (option_and_then (λ (n : List ℕ). fault_if (lacks kind ranks n (count_of kind n before)) c.args.rank call)) (sym at)

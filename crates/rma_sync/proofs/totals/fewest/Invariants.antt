@@ -1,8 +1,0 @@
-use Rattle.std.proofs.Common.{◌≡◌, ℕ, nat_le, take}
-use Rattle.std.specs.List.{list_any}
-use Rattle.rma_sync.specs.Totals.{total_in, is_reached}
-use Rattle.rma_sync.proofs.totals.fewest.Given as goal
-
--- the fewest calls of the members so far
-abbrev pub invariant-loop-member : goal.invariant-loop-member
-invariant-loop-member l = (number : ℕ) → list_any (λ m. nat_le (total_in l.totals m l.name) number) (take l.member-index l.members) ≡ is_reached l.fewest number

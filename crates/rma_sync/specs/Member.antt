@@ -1,0 +1,29 @@
+-- Who has to make a call (MPI 4.0, "Groups, Contexts, Communicators, and Caching" and "One-Sided Communications").
+use Rattle.std.specs.Prelude.{ℕ, List, [], Option, Some, option_map, map, nat_eq, codes, if◌then◌else◌}
+use Rattle.std.specs.Option.{option_map_or}
+use Rattle.std.specs.Cmp.Lexicographic.{pointwise}
+use Rattle.rma_call.specs.declared.call.RankCalls.{RankCalls}
+use Rattle.rma_sync.specs.declared.kind.Kind.{Kind}
+use Rattle.rma_sync.specs.declared.kind.Kind.TheVariants.{Collective, Free}
+use Rattle.rma_sync.specs.Declaration.{declarations, first_of}
+use Rattle.rma_sync.specs.Attribute.{declared, created}
+
+-- all ranks of a run
+abbrev pub everyone : List RankCalls → List ℕ
+everyone ranks = map (λ r. r.rank.0) ranks
+
+-- the members of a communicator: all ranks for `world`, which is never declared, and else the ranks that the lowest
+-- rank lists that declares it
+abbrev pub members_of_comm : List RankCalls → List ℕ → List ℕ
+members_of_comm ranks comm =
+    if pointwise nat_eq comm (codes "world") then everyone ranks else option_map_or (λ d. d.attributes) (first_of (declarations declared ranks) comm) []
+
+-- the communicator whose members have to make a call of this kind: its own, or that of the window's creation by the
+-- lowest rank that creates it
+abbrev pub comm_for : Kind → List RankCalls → List ℕ → Option (List ℕ)
+comm_for Collective ranks comm = Some comm
+comm_for Free ranks window = option_map (λ c. c.attributes.comm) (first_of (declarations created ranks) window)
+
+-- the ranks that have to make a call of this kind on the name
+abbrev pub members : Kind → List RankCalls → List ℕ → List ℕ
+members kind ranks name = option_map_or (members_of_comm ranks) (comm_for kind ranks name) []

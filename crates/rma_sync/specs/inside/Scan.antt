@@ -1,0 +1,34 @@
+-- What is kept of the calls of a run when they are scanned once.
+use Rattle.std.specs.Prelude.{◌≡◌, ℕ, ◌≤◌, List, true, nat_le}
+use Rattle.std.specs.List.{list_all}
+use Rattle.rma_call.specs.declared.call.RankCalls.{RankCalls}
+use Rattle.rma_sync.specs.declared.kind.Kind.{Kind}
+use Rattle.rma_sync.specs.declared.kind.Kind.TheVariants as kind
+use Rattle.rma_sync.specs.declared.free.FreeCounts.{FreeCounts}
+use Rattle.rma_sync.specs.declared.scan.Scan.{Scan}
+use Rattle.rma_sync.specs.Declaration.{declarations}
+use Rattle.rma_sync.specs.Attribute.{declared, created}
+use Rattle.rma_sync.specs.Collective.{made, made_on}
+use Rattle.rma_sync.specs.Member.{members}
+use Rattle.rma_sync.specs.inside.CallCount.{AreCallCounts, call_counts_of}
+use Rattle.rma_sync.specs.inside.Round.{AreRounds}
+
+-- what is kept represents the calls of the ranks that free windows
+abbrev pub AreFrees : List RankCalls → ℕ → FreeCounts → Type 0
+AreFrees ranks index f = (window : List ℕ) → AreCallCounts (made_on kind.Free ranks window) index (call_counts_of f.windows.entries window)
+
+-- what is kept represents the calls of the ranks up to the current one
+pub record HasScanned (ranks : List RankCalls) (index : ℕ) (r : Scan) : Type 0 where
+  pub comms_are : r.comms ≡ declarations declared ranks
+  pub creations_are : r.creations ≡ declarations created ranks
+  pub rounds_are : AreRounds ranks index r.rounds
+  pub frees_are : AreFrees ranks index r.frees
+
+-- some number is the most calls of the kind that a rank makes on the name, and each member makes as many
+abbrev pub IsBalanced : Kind → List RankCalls → List ℕ → Type 0
+IsBalanced kind ranks name =
+    (most : ℕ) × ((m : ℕ) → made kind ranks m name ≤ most) × (list_all (λ m. nat_le most (made kind ranks m name)) (members kind ranks name) ≡ true)
+
+-- on no name does a member make fewer calls of the kind than another rank
+abbrev pub AreBalanced : Kind → List RankCalls → Type 0
+AreBalanced kind ranks = (name : List ℕ) → IsBalanced kind ranks name

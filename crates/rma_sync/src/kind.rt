@@ -1,0 +1,56 @@
+//! The kinds of calls that every member of a communicator or a window has to make.
+ghost use Rattle.std.specs.Prelude.{◌≡◌, option_copied};
+ghost use Rattle.rma_sync.specs.Collective.{comm_of, window_of, freed, named};
+
+use rma_base::Name;
+use rma_call::{Call, FrameCall, SyncCall, What, WindowCall};
+
+/// A kind of calls that every member has to make.
+#[derive(Clone, Copy, Debug, PartialEq, Eq)]
+pub enum Kind {
+    /// The collective calls on a communicator.
+    Collective,
+    /// The calls that free a window.
+    Free,
+}
+
+/// What a call of this kind is on.
+pub(crate) fn named(kind: Kind, call: &Call) -> Option<&Name>
+    ensures { option_copied result ≡ named kind call.now.what }
+{
+    match kind {
+        Kind::Collective => comm_of(call),
+        Kind::Free => freed(call),
+    }
+}
+
+/// The communicator of a collective call.
+pub(crate) fn comm_of(call: &Call) -> Option<&Name>
+    ensures { option_copied result ≡ comm_of call.now.what }
+{
+    match call.what.get() {
+        What::Sync(SyncCall::Frame(FrameCall::Barrier { comm }))
+        | What::Sync(SyncCall::Window(WindowCall::Create { comm, .. })) => Some(comm),
+        _ => None,
+    }
+}
+
+/// The window that a collective call creates: a barrier creates none.
+pub(crate) fn window_of(call: &Call) -> Option<&Name>
+    ensures { option_copied result ≡ window_of call.now.what }
+{
+    match call.what.get() {
+        What::Sync(SyncCall::Window(WindowCall::Create { window, .. })) => Some(window),
+        _ => None,
+    }
+}
+
+/// The window that a call frees.
+pub(crate) fn freed(call: &Call) -> Option<&Name>
+    ensures { option_copied result ≡ freed call.now.what }
+{
+    match call.what.get() {
+        What::Sync(SyncCall::Window(WindowCall::Free { window })) => Some(window),
+        _ => None,
+    }
+}

@@ -1,0 +1,71 @@
+//! Who has to make a call: the members of its communicator, or of the communicator of its window.
+ghost use Rattle.std.specs.Prelude.{◌≡◌, List, IfOk};
+ghost use Rattle.rma_call.specs.declared.call.RankCalls.{RankCalls};
+ghost use Rattle.rma_sync.specs.Declaration.{declarations};
+ghost use Rattle.rma_sync.specs.Attribute.{declared, created};
+ghost use Rattle.rma_sync.specs.Member.{members_of_comm, members};
+ghost use Rattle.rma_sync.specs.inside.Member.{AreMembers};
+
+use crate::attribute::WindowAttributes;
+use crate::declaration::{Declaration, Declarations};
+use crate::kind::Kind;
+use rma_base::{Memory, Name, RankSet, Sequence};
+use rma_call::RankCalls;
+use std::alloc::Global;
+
+/// The communicators and the windows of a run, with their members.
+#[derive(Drop)]
+pub(crate) struct Members {
+    pub(crate) comms: Declarations<RankSet>,
+    pub(crate) creations: Declarations<WindowAttributes>,
+    everyone: Vec<u32>,
+}
+
+impl Members {
+    /// Those of the run of these ranks, whose calls declare these communicators and create these windows.
+    pub(crate) fn new(
+        alloc: Global,
+        ranks: &[RankCalls],
+        comms: Sequence<Declaration<RankSet>>,
+        creations: Sequence<Declaration<WindowAttributes>>,
+    ) -> Result<Members, Memory>
+        requires comms { comms ≡ declarations declared ranks.now }
+        requires creations { creations ≡ declarations created ranks.now }
+        ensures { IfOk result (λ it. AreMembers ranks.now it) }
+    {
+        let comms = Declarations::new(alloc, comms)?;
+        let creations = Declarations::new(alloc, creations)?;
+        let everyone = ranks.iter().map(|rank| rank.rank.0).collect(alloc)?;
+        Ok(Members {
+            comms,
+            creations,
+            everyone,
+        })
+    }
+
+    /// The ranks that have to make a call of this kind on the name.
+    pub(crate) fn of(&self, kind: Kind, name: &Name) -> &[u32]
+        ensures { (ranks : List RankCalls) → AreMembers ranks self.now → result.now ≡ members kind ranks name.now }
+    {
+        match kind {
+            Kind::Collective => self.of_comm(name),
+            Kind::Free => match self.creations.first(name) {
+                Some(creation) => self.of_comm(&creation.attributes.comm),
+                None => &[],
+            },
+        }
+    }
+
+    /// The ranks of a communicator.
+    fn of_comm(&self, comm: &Name) -> &[u32]
+        ensures { (ranks : List RankCalls) → AreMembers ranks self.now → result.now ≡ members_of_comm ranks comm.now }
+    {
+        if comm.text() == "world" {
+            return self.everyone.as_slice();
+        }
+        match self.comms.first(comm) {
+            Some(declaration) => declaration.attributes.numbers(),
+            None => &[],
+        }
+    }
+}

@@ -1,0 +1,71 @@
+//! The calls of a run, scanned once.
+ghost use Rattle.std.specs.Prelude.{◌≡◌, ◌+◌, ◌++◌, [], ◌∷◌, List, length, IfOk, OnOk};
+ghost use Rattle.rma_call.specs.declared.call.Call.{Call};
+ghost use Rattle.rma_call.specs.declared.call.RankCalls.{RankCalls};
+ghost use Rattle.rma_sync.specs.Collective.{so_far};
+ghost use Rattle.rma_sync.specs.inside.Scan.{HasScanned};
+
+use crate::attribute::WindowAttributes;
+use crate::declaration::{Declaration, push_declaration};
+use crate::free::FreeCounts;
+use crate::round::Rounds;
+use rma_base::{Memory, Rank, RankSet, Sequence};
+use rma_call::{Call, RankCalls};
+use std::alloc::Global;
+
+/// What the calls of a run declare, the rounds of their collective calls, and how often windows are freed.
+#[derive(Drop)]
+pub(crate) struct Scan {
+    pub(crate) comms: Sequence<Declaration<RankSet>>,
+    pub(crate) creations: Sequence<Declaration<WindowAttributes>>,
+    pub(crate) rounds: Rounds,
+    pub(crate) frees: FreeCounts,
+}
+
+impl Scan {
+    /// Scans the calls by rank and then by line.
+    pub(crate) fn new(alloc: Global, ranks: &[RankCalls]) -> Result<Scan, Memory>
+        ensures { IfOk result (λ scan. HasScanned ranks.now (length ranks.now) scan) }
+    {
+        let mut scan = Scan::empty(alloc);
+        for (index, rank) in ranks.iter().enumerate() {
+            scan.scan_rank(alloc, index, rank)?;
+        }
+        Ok(scan)
+    }
+
+    /// No calls.
+    fn empty(alloc: Global) -> Scan
+        ensures { HasScanned [] 0 result }
+    {
+        Scan {
+            comms: Sequence::new(alloc),
+            creations: Sequence::new(alloc),
+            rounds: Rounds::new(alloc),
+            frees: FreeCounts::new(alloc),
+        }
+    }
+
+    /// Scans the calls of the next rank.
+    fn scan_rank(&mut self, alloc: Global, index: usize, rank: &RankCalls) -> Result<(), Memory>
+        ensures { OnOk result ((done : List RankCalls) → length done ≡ index → HasScanned done index self.old
+            → HasScanned (done ++ rank.now ∷ []) (index + 1) self.new) }
+    {
+        for call in rank.calls.as_slice() {
+            self.scan(alloc, index, rank.rank, call)?;
+        }
+        Ok(())
+    }
+
+    /// Scans the next call of the current rank.
+    fn scan(&mut self, alloc: Global, index: usize, rank: Rank, call: &Call) -> Result<(), Memory>
+        ensures { OnOk result ((done : List RankCalls) (own : RankCalls) (before : List Call) → length done ≡ index → own.rank ≡ rank
+            → HasScanned (so_far done own before) index self.old → HasScanned (so_far done own (before ++ call.now ∷ [])) index self.new) }
+    {
+        push_declaration(rank, call, &mut self.comms)?;
+        push_declaration(rank, call, &mut self.creations)?;
+        self.rounds.scan(alloc, index, rank, call)?;
+        self.frees.scan(alloc, index, call)?;
+        Ok(())
+    }
+}
