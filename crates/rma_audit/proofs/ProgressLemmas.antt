@@ -1,42 +1,57 @@
 -- The books follow the source.
-use Rattle.std.proofs.Common.{◌≡◌, ℕ, ◌<◌, List, [], ◌++◌, Option, Some, None, Ok, IfSome, length, take, get_or, set, map, ap, sym, ◌∙◌, subst, arith, length-append}
+use Rattle.std.proofs.Common.{◌≡◌, ℕ, ◌<◌, List, [], ◌++◌, Ok, length, take, get_or, set, sym, ◌∙◌, subst, ap, inl, inr, arith, length-append}
+use Rattle.std.specs.Prelude.{Option, Some, None, IfSome}
 use Rattle.std.proofs.Math.ListN.{length-set}
-use Rattle.std.proofs.lemmas.List.{get_or-map, map-set, length-take}
+use Rattle.std.proofs.lemmas.Bool.{cases_eq}
+use Rattle.std.proofs.lemmas.List.{length-take, get_or-set_same, get_or-set_other}
 use Rattle.std.proofs.lemmas.List.Sums.{sum_by-set}
-use Rattle.std.proofs.lemmas.Option.{slice_get_within, get_or_from_slice_get}
-use Rattle.rma_io.specs.Tapes.{Tape, StillTold}
-use Rattle.rma_io.specs.Sources.{Source, IsPulled, MovesTapes}
-use Rattle.rma_io.specs.declared.sources.Pull.TheVariants.{Bytes}
-use Rattle.rma_book.specs.RankReading.{RankReading}
-use Rattle.rma_stream.specs.Feeding.{HaveBooks, with_piece}
-use Rattle.rma_audit.specs.Progress.{HasTaken}
+use Rattle.rma_io.specs.Known.{StillKnown}
+use Rattle.rma_io.specs.LogBytes.{LogBytes, log_of, TakesFrom}
+use Rattle.rma_io.specs.Source.{Source, IsPulled}
+use Rattle.rma_io.specs.declared.source.Pull.TheVariants.{Bytes}
+use Rattle.rma_book.specs.inside.RankState.{RankState}
+use Rattle.rma_stream.specs.inside.Feeding.{HaveBooks, with_piece}
+use Rattle.rma_audit.specs.Answers.{AreTaken}
+use Rattle.rma_audit.specs.inside.Progress.{HasTaken}
 
--- what is told goes on with the piece
-told_more : (texts : List (List ℕ)) (rank len : ℕ) (room : List ℕ) (before after : Option (List Tape)) → StillTold (MovesTapes room (Ok (Bytes rank len))) before after → IfSome before (λ tapes. map (λ tape. tape.taken) tapes ≡ texts)
-    → IfSome after (λ tapes. map (λ tape. tape.taken) tapes ≡ with_piece texts rank (take len room))
-told_more texts rank len room before None told h = tt
-told_more texts rank len room None (Some after) told h = absurd told
-told_more texts rank len room (Some before) (Some after) told h =
-    let tape = told.0 in
-    let piece = take len room in
-    let found : tape.taken ≡ get_or texts rank [] =
-    sym (ap (λ ts. get_or ts rank []) (sym h) ∙ get_or-map (λ (t : Tape). t.taken) before rank tape [] (slice_get_within before rank tape told.2) ∙ ap (λ (t : Tape). t.taken) (get_or_from_slice_get before rank tape tape told.2)) in
-    ap (map (λ (t : Tape). t.taken)) told.4
-    ∙ map-set (λ (t : Tape). t.taken) before rank (record { taken = tape.taken ++ piece; left = told.1 })
-    ∙ ap (λ ts. set ts rank (tape.taken ++ piece)) h
-    ∙ ap (λ t. set texts rank (t ++ piece)) found
+-- what is known of the bytes taken, when these are taken as well
+known_more : (before after : Option (List ℕ)) (text piece : List ℕ) → StillKnown (λ old new. new ≡ old ++ piece) before after
+    → IfSome before (λ bytes. bytes ≡ text) → IfSome after (λ bytes. bytes ≡ text ++ piece)
+known_more before None text piece more is = tt
+known_more None (Some after) text piece more is = absurd more
+known_more (Some before) (Some after) text piece more is = more ∙ ap (λ bytes. bytes ++ piece) is
+
+known_same : (before after : Option (List ℕ)) (text : List ℕ) → StillKnown (λ old new. new ≡ old) before after
+    → IfSome before (λ bytes. bytes ≡ text) → IfSome after (λ bytes. bytes ≡ text)
+known_same before None text same is = tt
+known_same None (Some after) text same is = absurd same
+known_same (Some before) (Some after) text same is = same ∙ is
+
+AreTaken_more : (before after : List LogBytes) (texts : List (List ℕ)) (rank : ℕ) (piece : List ℕ) → rank < length texts
+    → TakesFrom rank piece before after → AreTaken before texts → AreTaken after (with_piece texts rank piece)
+AreTaken_more before after texts rank piece there takes are other =
+    let text = get_or texts rank [] ++ piece in
+    elim (cases_eq other rank) [
+      | inl same ↦
+          subst (λ (r : ℕ). IfSome (log_of after r).taken (λ bytes. bytes ≡ get_or (set texts rank text) r [])) (sym same)
+          (subst (λ (t : List ℕ). IfSome (log_of after rank).taken (λ bytes. bytes ≡ t)) (sym (get_or-set_same texts rank text [] there))
+          (known_more (log_of before rank).taken (log_of after rank).taken (get_or texts rank []) piece takes.takes.taken (are rank)))
+      | inr ne ↦
+          subst (λ (t : List ℕ). IfSome (log_of after other).taken (λ bytes. bytes ≡ t)) (sym (get_or-set_other texts rank other text [] ne))
+          (known_same (log_of before other).taken (log_of after other).taken (get_or texts other []) (takes.others other ne).taken (are other))
+    ]
 
 -- a piece was pulled, and the books were fed it
-pub taken_more : (old new : Source) (room : List ℕ) (rank len : ℕ) (books after : List RankReading) (texts : List (List ℕ)) → IsPulled old room (Ok (Bytes rank len)) new → HasTaken old books texts
-    → HaveBooks old.logs after (with_piece texts rank (take len room)) → HasTaken new after (with_piece texts rank (take len room))
+pub taken_more : (old new : Source) (room : List ℕ) (rank len : ℕ) (books after : List RankState) (texts : List (List ℕ)) → IsPulled old room (Ok (Bytes rank len)) new → HasTaken old books texts
+    → HaveBooks (length old.logs) after (with_piece texts rank (take len room)) → HasTaken new after (with_piece texts rank (take len room))
 taken_more old new room rank len books after texts pulled h read =
     let piece = take len room in
     let text = get_or texts rank [] in
     let there : rank < length texts = omega (arith, h.one_a_log, pulled.within.0) in
     let size : length piece ≡ len = simp length-take (omega (arith, pulled.within.2)) in
     record {
-      one_a_log = length-set texts rank (text ++ piece) ∙ h.one_a_log ∙ sym pulled.logs;
-      read = subst (λ n. HaveBooks n after (with_piece texts rank piece)) (sym pulled.logs) read;
+      one_a_log = length-set texts rank (text ++ piece) ∙ h.one_a_log ∙ sym pulled.same_logs;
+      read = subst (λ n. HaveBooks n after (with_piece texts rank piece)) (sym pulled.same_logs) read;
       all_taken = omega (arith, sum_by-set length texts rank (text ++ piece) [] there, length-append text piece, size, h.all_taken, pulled.taken);
-      told = told_more texts rank len room old.tapes new.tapes pulled.told h.told;
+      bytes = AreTaken_more old.logs new.logs texts rank piece there pulled.moved h.bytes;
     }

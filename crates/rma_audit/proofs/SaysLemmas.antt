@@ -1,13 +1,15 @@
 -- What a run says once the logs are read.
-use Rattle.std.proofs.Common.{◌≡◌, ℕ, List, [], ◌++◌, length, refl, ap, ◌∙◌, subst}
-use Rattle.rma_io.specs.Tapes.{StillTold}
-use Rattle.rma_io.specs.Sinks.{AppendsFrontOf}
+use Rattle.std.specs.Prelude.{◌==◌}
+use Rattle.std.proofs.lemmas.Bool.{eqb-true, false≢true}
+use Rattle.std.proofs.Common.{◌≡◌, ℕ, true, false, List, [], ◌∷◌, ◌++◌, length, refl, sym, ap, ◌∙◌, subst, arith}
+use Rattle.rma_io.specs.Known.{StillKnown}
+use Rattle.rma_io.specs.Sink.{AppendsPrefixOf}
 use Rattle.rma_report.specs.ReportText.{report_text}
-use Rattle.rma_report.specs.declared.findings.Finding.{Finding}
-use Rattle.rma_report.specs.declared.findings.Findings.{Findings}
+use Rattle.rma_report.specs.declared.finding.Finding.{Finding}
+use Rattle.rma_report.specs.declared.finding.Findings.{Findings}
 use Rattle.rma_stream.specs.Findings.{AreFindings}
 use Rattle.rma_audit.specs.Answers.{Run, Judges, Says, WritesReport, report}
-use Rattle.rma_audit.specs.Runs.{HasJudged, HasWritten, text_of}
+use Rattle.rma_audit.specs.inside.Runs.{HasJudged, HasWritten, text_of}
 use Rattle.rma_audit.specs.Words.{IsAudit}
 use Rattle.rma_audit.specs.declared.status.Status.{Status}
 use Rattle.rma_audit.specs.declared.status.Status.TheVariants as status
@@ -27,12 +29,14 @@ module _ (run : Run) (names texts : List (List ℕ)) (findings : Findings) (word
     taken = judged.taken;
     one_log_a_name = judged.one_log_a_name;
     all_taken = judged.all_taken;
-    told = judged.told;
+    one_a_log = judged.one_a_log;
+    read = judged.read;
+    bytes = judged.bytes;
     findings = subst (λ them. AreFindings texts them) is judged.found;
   }
 
-  writes : (found : List Finding) → findings.list ≡ found → StillTold (λ old new. new ≡ old ++ text_of findings) run.output_before.written run.output.written → WritesReport run texts found
-  writes found is told = subst (λ t. StillTold (λ old new. new ≡ old ++ t) run.output_before.written run.output.written) (text_is ∙ ap (report texts) is) told
+  writes : (found : List Finding) → findings.list ≡ found → StillKnown (λ old new. new ≡ old ++ text_of findings) run.output_before.written run.output.written → WritesReport run texts found
+  writes found is known = subst (λ t. StillKnown (λ old new. new ≡ old ++ t) run.output_before.written run.output.written) (text_is ∙ ap (report texts) is) known
 
   -- what each answer says then
   pub says : (answer : Status) → HasWritten answer findings run.output_before run.output → Says answer run
@@ -40,6 +44,15 @@ module _ (run : Run) (names texts : List (List ℕ)) (findings : Findings) (word
   says status.Findings h = (names, texts, findings.list, judges _ refl, h.0, writes _ refl h.1)
   says status.Usage h = absurd h
   says (status.ReadFault recorded) h = absurd h
-  says status.WriteFault h = (names, texts, findings.list, judges _ refl, h.0, subst (λ t. StillTold (AppendsFrontOf t) run.output_before.written run.output.written) text_is h.1)
+  says status.WriteFault h = (names, texts, findings.list, judges _ refl, h.0, subst (λ t. StillKnown (AppendsPrefixOf t) run.output_before.written run.output.written) text_is h.1)
   says (status.TooLarge bytes) h = absurd h
   says status.Memory h = absurd h
+
+-- a list without an item is empty
+pub is_none : (found : List Finding) → (length found == 0) ≡ true → found ≡ []
+is_none [] empty = refl
+is_none (finding ∷ found) empty = let none : length (finding ∷ found) ≡ 0 = eqb-true _ _ empty in absurd (omega arith)
+
+-- and one with an item is not
+pub is_some_finding : (found : List Finding) → (length found == 0) ≡ false → found ≡ [] → ⊥
+is_some_finding found some none = false≢true (sym some ∙ ap (λ (it : List Finding). length it == 0) none)

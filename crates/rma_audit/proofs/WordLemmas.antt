@@ -6,8 +6,8 @@ use Rattle.rma_audit.specs.Words.{IsAudit, IsName}
 
 module _ {W : Type 0} (text : W → List ℕ) where
   -- what holds of each text holds of what the text is read from
-  All-texts : (P : List ℕ → Type 0) (ws : List W) → All P (map text ws) → All (λ w. P (text w)) ws
-  All-texts P ws h k d below = subst P (get_or-map text ws k d (text d) below) (h k (text d) (omega (arith, length-map ws text)))
+  All_texts : (P : List ℕ → Type 0) (ws : List W) → All P (map text ws) → All (λ w. P (text w)) ws
+  All_texts P ws h k d below = subst P (get_or-map text ws k d (text d) below) (h k (text d) (omega (arith, length-map ws text)))
 
   -- the words of an audit, read off what holds them
   pub audits : (all : List W) (verb : W) (names : List W) → all ≡ verb ∷ names → text verb ≡ codes "audit" → 1 ≤ length names → length names ≤ 64 → All (λ n. IsName (text n)) names → IsAudit (map text all) (map text names)
@@ -25,4 +25,4 @@ module _ {W : Type 0} (text : W → List ℕ) where
       let heads : text verb ≡ codes "audit" = cc in
       let tails : map text names ≡ given = cc in
       let same : length names ≡ length given = sym (length-map names text) ∙ ap length tails in
-      (heads, omega (arith, h.some), omega (arith, h.few), All-texts IsName names (subst (All IsName) (sym tails) h.each))
+      (heads, omega (arith, h.some), omega (arith, h.few), All_texts IsName names (subst (All IsName) (sym tails) h.each))

@@ -1,5 +1,3 @@
 pub mod Words
 pub mod Answers
-pub mod Opening
-pub mod Progress
-pub mod Runs
+pub mod inside

@@ -1,12 +1,17 @@
-//! The command line, the audit of the logs of a run, and the top call.
+//! The top call: the command line, the audit of the logs that it names, and the report.
+//!
+//! [`run`] opens the logs, reads them to their ends, audits them and writes the report; its [`Status`] says how it ended. It is
+//! generic over where logs come from and where the report goes, so the program and a test run the same call. What each answer
+//! says stands in `specs/Answers.antt`, and which words are a command in `specs/Words.antt`.
 #![tactic(auto)]
 
 pub mod laws;
 mod opening;
-pub mod program;
+mod program;
 mod reading;
-pub mod status;
+mod status;
 mod stop;
-#[cfg(test)]
-mod tests;
-mod words;
+mod word;
+
+pub use program::run;
+pub use status::Status;

@@ -1,10 +1,10 @@
 //! Opening the logs of a run.
 ghost use Rattle.std.specs.Prelude.{◌≡◌, ◌^◌, ◌<◌, length, map, string_bytes, OnOk, OnErr, IsErrOf};
-ghost use Rattle.rma_io.specs.Counts.{Rose};
+ghost use Rattle.rma_io.specs.Count.{Rose};
 ghost use Rattle.rma_audit.specs.Answers.{IsFresh, OpensSome};
-ghost use Rattle.rma_audit.specs.Opening.{HasOpened};
+ghost use Rattle.rma_audit.specs.inside.Opening.{HasOpened};
 
-use rma_io::sources::{Logs, OpenFault};
+use rma_io::{Logs, OpenFault};
 
 /// Opens the logs of these names in order, up to the first that is refused.
 pub(crate) fn open_all<L: Logs>(logs: &mut L, names: &[String]) -> Result<(), OpenFault>

@@ -1,20 +1,18 @@
 //! The top call: what the program does with its words, its logs and its output.
 ghost use Rattle.std.specs.Prelude.{◌≡◌, ℕ, ◌≤◌, List, length, map, string_bytes, vec_len, IfOk, IfErr};
 ghost use Rattle.rma_audit.specs.Answers.{IsFresh, Says, WritesNothing};
-ghost use Rattle.rma_audit.specs.Runs.{HasJudged, HasStopped, HasWritten, status_of};
+ghost use Rattle.rma_audit.specs.inside.Runs.{HasJudged, HasStopped, HasWritten, status_of};
 
 use crate::opening::open_all;
 use crate::reading::read_all;
 use crate::status::Status;
 use crate::stop::Stop;
-use crate::words::audit_names;
-use rma_base::allocation::Memory;
+use crate::word::audit_names;
+use rma_base::Memory;
 use rma_base::limits::RANKS;
-use rma_io::sinks::Sink;
-use rma_io::sources::Logs;
-use rma_report::findings::Findings;
-use rma_report::report_texts::write_text;
-use rma_stream::audits::Audit;
+use rma_io::{Logs, Sink};
+use rma_report::{Findings, write_text};
+use rma_stream::Audit;
 use std::alloc::Global;
 
 /// How many bytes are read at once: a piece of every log, and what its book keeps of it, stay in the caches together.

@@ -1,12 +1,13 @@
 //! The loop that reads the logs.
 ghost use Rattle.std.specs.Prelude.{◌≡◌, ◌+◌, ◌<◌, ◌≤◌, length, OnOk, IfOk, IfErr, IfSome, IfNone};
-ghost use Rattle.rma_audit.specs.Progress.{FollowsSource, IsRead, StopsAt};
+ghost use Rattle.rma_audit.specs.inside.Progress.{FollowsSource, StopsAt};
+ghost use Rattle.rma_io.specs.Source.{AreRead};
 
 use crate::stop::Stop;
+use rma_base::Rank;
 use rma_base::limits::BYTES;
-use rma_base::ranks::Rank;
-use rma_io::sources::{Logs, Pull};
-use rma_stream::audits::Audit;
+use rma_io::{Logs, Pull};
+use rma_stream::Audit;
 
 /// Reads all logs to their ends, in whatever pieces they come.
 pub(crate) fn read_all<L: Logs>(
@@ -19,7 +20,7 @@ pub(crate) fn read_all<L: Logs>(
     requires none_taken { (L.source logs.old).taken ≡ 0 }
     requires follows { FollowsSource (L.source logs.old) audit.old }
     ensures follows { OnOk result (FollowsSource (L.source logs.new) audit.new) }
-    ensures read { OnOk result (IsRead (L.source logs.new)) }
+    ensures read { OnOk result (AreRead (L.source logs.new).logs) }
     ensures taken { OnOk result ((L.source logs.new).taken ≤ BYTES) }
     ensures stops { IfErr result (λ stop. StopsAt stop (L.source logs.old) (L.source logs.new)) }
     ensures opened { L.opened logs.new ≡ L.opened logs.old }
@@ -46,7 +47,7 @@ fn read_piece<L: Logs>(
     requires follows { FollowsSource (L.source logs.old) audit.old }
     ensures follows { OnOk result (FollowsSource (L.source logs.new) audit.new) }
     ensures more { IfOk result (λ more. IfSome more (λ so_far. ((L.source logs.new).taken ≡ so_far) × (taken < so_far) × (so_far ≤ BYTES))) }
-    ensures done { IfOk result (λ more. IfNone more (((L.source logs.new).taken ≡ taken) × IsRead (L.source logs.new))) }
+    ensures done { IfOk result (λ more. IfNone more (((L.source logs.new).taken ≡ taken) × AreRead (L.source logs.new).logs)) }
     ensures stops { IfErr result (λ stop. StopsAt stop (L.source logs.old) (L.source logs.new)) }
     ensures faults { (L.source logs.old).faults ≤ (L.source logs.new).faults }
     ensures opened { L.opened logs.new ≡ L.opened logs.old }

@@ -13,7 +13,7 @@ pub enum Status {
     ReadFault { recorded: u64 },
     /// The report could not be written whole.
     WriteFault,
-    /// The logs have more bytes than are allowed; reading stopped after so many.
+    /// The logs have more bytes than are allowed; reading stopped after `bytes`.
     TooLarge { bytes: u64 },
     /// Memory ran out before the first byte was written.
     Memory,

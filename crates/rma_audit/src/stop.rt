@@ -1,26 +1,26 @@
 //! Why the reading of the logs stopped before their ends.
 ghost use Rattle.std.specs.Prelude.{◌≡◌};
 ghost use Rattle.rma_audit.specs.declared.stop.Stop.TheVariants as stops;
-ghost use Rattle.rma_audit.specs.Progress.{stop_of};
+ghost use Rattle.rma_audit.specs.inside.Progress.{stop_of};
 
-use rma_base::allocation;
-use rma_io::sources::OpenFault;
+use rma_base::Memory;
+use rma_io::OpenFault;
 
 /// Why the reading of the logs stopped before their ends.
 #[derive(Clone, Copy, Debug, PartialEq, Eq)]
 pub(crate) enum Stop {
     /// A log could not be opened or read.
     Fault,
-    /// More bytes were taken than are allowed: so many.
+    /// More bytes were taken than are allowed.
     TooLarge { bytes: u64 },
     /// Memory ran out.
     Memory,
 }
 
-impl From<allocation::Memory> for Stop {
+impl From<Memory> for Stop {
     ghost from_gives = { λ _ stop. stop ≡ stops.Memory };
 
-    fn from(_memory: allocation::Memory) -> Stop {
+    fn from(_memory: Memory) -> Stop {
         Stop::Memory
     }
 }

@@ -1,2 +1,4 @@
-pub mod Edges
-pub mod Ends
+pub mod Exit
+pub mod Files
+pub mod Printed
+pub mod inside

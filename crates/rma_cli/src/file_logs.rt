@@ -1,52 +1,95 @@
 //! Files as the logs of a run.
-ghost use Rattle.std.specs.Prelude.{◌≡◌, ◌+◌, ◌^◌, ◌<◌, ◌≤◌, [], ◌∷◌, ◌++◌, vec_len, vec_capacity, length, IfErr, OnOk, OnErr, refl};
-ghost use Rattle.rma_io.specs.Counts.{raised};
+ghost use Rattle.std.specs.Prelude.{◌≡◌, ◌+◌, ◌^◌, ◌<◌, ◌≤◌, [], ◌∷◌, ◌++◌, vec_len, vec_capacity, length, IfErr, OnOk, OnErr};
+ghost use Rattle.std.proofs.Common.{sym, ◌∙◌};
+ghost use Rattle.std.proofs.lemmas.List.{length-map};
+ghost use Rattle.rma_io.specs.Count.{raised};
 ghost use Rattle.std.specs.Io.{ReadsAtMost};
 ghost use Rattle.std.specs.Io.KnownBytes.{ReadConsumes};
-ghost use Rattle.rma_cli.specs.Edges.{no_files};
+ghost use Rattle.rma_cli.specs.Files.{no_files};
 
-use rma_io::sources::{Failed, Logs, OpenFault, Pull, Pulls};
+use rma_io::{Failed, Logs, OpenFault, Pull, Pulls};
 use std::alloc::{AllocError, Global};
 use std::fs;
 use std::io::{ErrorKind, Read};
 use std::marker::Model;
 use std::rt::Files;
 
-/// The most bytes that one turn of a file reads.
-const TURN: usize = 65_536;
+/// The most bytes that one read of a file takes.
+const CHUNK: usize = 65_536;
 
-/// Files that are read in turns, in the order of their names.
+/// An open file.
+#[derive(Drop)]
+struct LogFile<F: Read + Drop> {
+    name: String,
+    file: F,
+}
+
+impl<F: Read + Drop> Model for LogFile<F> {
+    ghost use Rattle.std.specs.Prelude.{string_bytes};
+    ghost use Rattle.rma_cli.specs.Files.{OpenFile};
+
+    ghost Value = { OpenFile };
+
+    ghost view = { λ s. record { name = string_bytes s.name; left = F.remaining s.file } };
+}
+
+impl<F: Read + Drop> LogFile<F> {
+    /// Reads at most one chunk, and counts a read that failed.
+    fn read(&mut self, room: &mut [u8], faults: &mut u64) -> Result<usize, Failed>
+        ensures bound { ReadsAtMost result room.new }
+        ensures bytes { ReadConsumes self.old.left self.new.left result room.new }
+        ensures name { self.new.name ≡ self.old.name }
+        ensures counted { OnErr result (faults.new ≡ raised faults.old 1) }
+        ensures not_counted { OnOk result (faults.new ≡ faults.old) }
+    {
+        let most = room.len().min(CHUNK);
+        match self.file.read(&mut room[..most]) {
+            Ok(len) => Ok(len),
+            Err(_) => {
+                *faults = faults.saturating_add(1);
+                Err(Failed)
+            }
+        }
+    }
+}
+
+/// Files that are read in chunks, one after the other, in the order of their names.
 #[derive(Drop)]
 pub struct FileLogs<R: Files + Drop> {
     system: R,
     alloc: Global,
-    // The name and the open file of each rank.
-    names: Vec<String>,
-    files: Vec<R::File>,
-    // The ranks whose files were not seen to end, in order, and the place of the next turn among them.
-    turns: Vec<u32>,
+    // The open file of each rank.
+    files: Vec<LogFile<R::File>>,
+    // The ranks whose files were not seen to end, in order, and the index of the next one to read.
+    unended: Vec<u32>,
     next: usize,
+    // The name last refused.
     refused: Option<String>,
+    // How many bytes were read of all files.
     taken: u64,
     faults: u64,
 }
 
 impl<R: Files + Drop> Model for FileLogs<R> {
-    ghost use Rattle.std.specs.Prelude.{◌≡◌, ◌<◌, length, map, option_map, string_bytes, All};
-    ghost use Rattle.rma_cli.specs.Edges.{Files};
+    ghost use Rattle.std.specs.Prelude.{◌<◌, length, option_map, string_bytes, All};
+    ghost use Rattle.rma_cli.specs.Files.{Files, logs_of};
+    ghost use Rattle.rma_cli.specs.inside.Files.{OthersEnded};
 
     ghost Value = { Files };
 
     ghost view = { λ s. record {
-      names = map string_bytes s.names.items;
-      unended = s.turns.items;
+      files = s.files.items;
+      unended = s.unended.items;
       refused = option_map string_bytes s.refused;
       taken = s.taken;
       faults = s.faults;
     } };
 
-    ghost invariant = { λ s. (length s.files.items ≡ length s.names.items) × All (λ rank. rank < length s.names.items) s.turns.items
-        × (0 < s.next → s.next < length s.turns.items) };
+    ghost invariant = { λ s. record {
+      ranks : All (λ rank. rank < length s.files.items) s.unended.items;
+      ended : OthersEnded s.unended.items (logs_of s.files.items);
+      next : 0 < s.next → s.next < length s.unended.items;
+    } };
 }
 
 impl<R: Files + Drop> FileLogs<R> {
@@ -57,9 +100,8 @@ impl<R: Files + Drop> FileLogs<R> {
         FileLogs {
             system,
             alloc,
-            names: Vec::new(alloc),
             files: Vec::new(alloc),
-            turns: Vec::new(alloc),
+            unended: Vec::new(alloc),
             next: 0,
             refused: None,
             taken: 0,
@@ -69,6 +111,10 @@ impl<R: Files + Drop> FileLogs<R> {
 }
 
 /// Makes room for one more item.
+///
+/// # Errors
+///
+/// `OpenFault::Memory` where memory ran out.
 fn make_room<T>(items: &mut Vec<T>) -> Result<(), OpenFault>
     ensures items { items.new.items ≡ items.old.items }
     ensures room { OnOk result (vec_len items.new < vec_capacity items.new) }
@@ -80,36 +126,19 @@ fn make_room<T>(items: &mut Vec<T>) -> Result<(), OpenFault>
     }
 }
 
-/// The turn at this place among so many: behind the last one comes the first.
-fn turn_at(place: usize, turns: usize) -> usize
-    ensures there { place < turns → result ≡ place }
-    ensures behind { turns ≤ place → result ≡ 0 }
-    ensures within { 0 < result → result < turns }
+/// The index at which reading goes on: after the last one comes the first.
+fn wrapped(index: usize, len: usize) -> usize
+    ensures there { index < len → result ≡ index }
+    ensures after { len ≤ index → result ≡ 0 }
+    ensures within { 0 < result → result < len }
 {
-    if place < turns { place } else { 0 }
-}
-
-/// Reads at most one turn of a file, and counts a read that failed.
-fn read_turn<F: Read>(file: &mut F, room: &mut [u8], faults: &mut u64) -> Result<usize, Failed>
-    ensures bound { ReadsAtMost result room.new }
-    ensures bytes { ReadConsumes (F.remaining file.old) (F.remaining file.new) result room.new }
-    ensures counted { OnErr result (faults.new ≡ raised faults.old 1) }
-    ensures not_counted { OnOk result (faults.new ≡ faults.old) }
-{
-    let most = room.len().min(TURN);
-    match file.read(&mut room[..most]) {
-        Ok(len) => Ok(len),
-        Err(_) => {
-            *faults = faults.saturating_add(1);
-            Err(Failed)
-        }
-    }
+    if index < len { index } else { 0 }
 }
 
 impl<R: Files + Drop> Pulls for FileLogs<R> {
     ghost use Rattle.std.specs.Prelude.{◌≡◌};
-    ghost use Rattle.rma_cli.specs.Edges.{source_of, opened_of, SawEnds};
-    ghost use Rattle.rma_io.specs.Sources.{IsPulled};
+    ghost use Rattle.rma_cli.specs.Files.{source_of, opened_of, SawEnds};
+    ghost use Rattle.rma_io.specs.Source.{IsPulled};
 
     ghost source = { source_of };
 
@@ -122,51 +151,48 @@ impl<R: Files + Drop> Pulls for FileLogs<R> {
         ensures stays { opened_of self.new ≡ opened_of self.old }
         ensures ends { SawEnds result self.new }
     {
-        while self.next < self.turns.len() {
-            let rank = self.turns[self.next];
+        while self.next < self.unended.len() {
+            let rank = self.unended[self.next];
             let file = &mut self.files[rank as usize];
-            match read_turn(file, room, &mut self.faults)? {
-                0 => {
-                    let _ = self.turns.remove(self.next);
+            match file.read(room, &mut self.faults) {
+                Ok(0) => {
+                    let _ = self.unended.remove(self.next);
                 }
-                len => {
-                    self.next = turn_at(self.next + 1, self.turns.len());
+                Ok(len) => {
+                    self.next = wrapped(self.next + 1, self.unended.len());
                     self.taken += len as u64;
                     return Ok(Pull::Bytes { rank, len });
                 }
+                Err(failed) => return Err(failed),
             }
-            self.next = turn_at(self.next, self.turns.len());
+            self.next = wrapped(self.next, self.unended.len());
         }
         Ok(Pull::Done)
     }
-
-    ghost told_of_each = { λ s. tt };
 }
 
 impl<R: Files + Drop> Logs for FileLogs<R> {
-    ghost use Rattle.rma_cli.specs.Edges.{source_of, opened_of};
-    ghost use Rattle.rma_io.specs.Sources.{IsOpened};
+    ghost use Rattle.rma_cli.specs.Files.{source_of, opened_of, bytes_of};
+    ghost use Rattle.rma_io.specs.Source.{IsOpened};
 
     ghost opened = { opened_of };
 
     fn open(&mut self, name: &str) -> Result<(), OpenFault>
-        requires few { length self.old.names + 1 < 2 ^ 32 }
+        requires few { length self.old.files + 1 < 2 ^ 32 }
         ensures opened { IsOpened (source_of self.old) (opened_of self.old) name.now result (source_of self.new) (opened_of self.new) }
-        ensures unended { OnOk result (self.new.unended ≡ self.old.unended ++ length self.old.names ∷ []) }
+        ensures unended { OnOk result (self.new.unended ≡ self.old.unended ++ length self.old.files ∷ []) }
         ensures kept { OnErr result (self.new.unended ≡ self.old.unended) }
     {
         let Ok(copy) = String::from_str(self.alloc, name) else {
             return Err(OpenFault::Memory);
         };
-        make_room(&mut self.names)?;
         make_room(&mut self.files)?;
-        make_room(&mut self.turns)?;
+        make_room(&mut self.unended)?;
         match fs::open(&self.system, name) {
             Ok(file) => {
-                let rank = self.names.len() as u32;
-                let _ = self.names.push(copy);
-                let _ = self.files.push(file);
-                let _ = self.turns.push(rank);
+                let rank = self.files.len() as u32;
+                let _ = self.files.push(LogFile { name: copy, file });
+                let _ = self.unended.push(rank);
                 Ok(())
             }
             Err(error) if error.kind() == ErrorKind::OutOfMemory => Err(OpenFault::Memory),
@@ -178,7 +204,7 @@ impl<R: Files + Drop> Logs for FileLogs<R> {
         }
     }
 
-    ghost one_log_a_name = { λ s. refl };
+    ghost one_log_a_name = { λ s. length-map s.files bytes_of ∙ sym (length-map s.files (λ file. file.name)) };
 
     ghost pulls_keep = { λ before after kept. kept };
 }
@@ -189,7 +215,7 @@ mod tests {
     use std::process::Abort;
     use std::test::Fail;
 
-    fn next_turn(
+    fn pulled(
         rt: &impl Abort,
         logs: &mut FileLogs<HostRuntime>,
         room: &mut [u8],
@@ -201,31 +227,31 @@ mod tests {
     }
 
     #[test]
-    fn files_are_read_in_turns(rt: HostRuntime) -> Result<(), Fail> {
+    fn files_are_read_chunk_by_chunk_in_turn(rt: HostRuntime) -> Result<(), Fail> {
         fs::write(&rt, "short", "abc")?;
         fs::write(&rt, "empty", "")?;
-        let text = vec![in rt.alloc(); b'x'; TURN + 2]?;
+        let text = vec![in rt.alloc(); b'x'; CHUNK + 2]?;
         fs::write(&rt, "long", text.as_slice())?;
         let mut logs = FileLogs::new(rt, rt.alloc());
         for name in ["short", "empty", "long", "short"] {
-            assert!(rt; logs.names.len() < 4);
+            assert!(rt; logs.files.len() < 4);
             assert_eq!(rt; logs.open(name), Ok(()));
         }
-        assert!(rt; logs.names.len() < 5);
+        assert!(rt; logs.files.len() < 5);
         assert_eq!(rt; logs.open("absent"), Err(OpenFault::Failed));
         assert_eq!(rt; logs.faults, 1);
-        let mut room = vec![in rt.alloc(); b'.'; TURN + 9]?;
-        for (rank, len) in [(0, 3), (2, TURN), (3, 3), (2, 2)] {
-            let pulled = next_turn(&rt, &mut logs, room.as_mut_slice());
-            assert_eq!(rt; pulled, Ok(Pull::Bytes { rank, len }), "at {rank}");
+        let mut room = vec![in rt.alloc(); b'.'; CHUNK + 9]?;
+        for (rank, len) in [(0, 3), (2, CHUNK), (3, 3), (2, 2)] {
+            let answer = pulled(&rt, &mut logs, room.as_mut_slice());
+            assert_eq!(rt; answer, Ok(Pull::Bytes { rank, len }), "at {rank}");
         }
         assert!(rt; room.as_slice().starts_with(b"xxc"));
-        let pulled = next_turn(&rt, &mut logs, room.as_mut_slice());
-        assert_eq!(rt; pulled, Ok(Pull::Done));
-        assert!(rt; logs.names.len() < 5);
+        let answer = pulled(&rt, &mut logs, room.as_mut_slice());
+        assert_eq!(rt; answer, Ok(Pull::Done));
+        assert!(rt; logs.files.len() < 5);
         assert_eq!(rt; logs.open("."), Ok(()));
-        let pulled = next_turn(&rt, &mut logs, room.as_mut_slice());
-        assert_eq!(rt; pulled, Err(Failed));
+        let answer = pulled(&rt, &mut logs, room.as_mut_slice());
+        assert_eq!(rt; answer, Err(Failed));
         assert_eq!(rt; logs.faults, 2);
         Ok(())
     }

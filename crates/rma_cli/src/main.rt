@@ -1,37 +1,30 @@
-//! The auditor as a program: it reads the logs that its words name, writes the report to standard output, and
-//! ends with the number of the answer.
+//! The auditor as a program: it reads the logs that its words name, writes the report to standard output, and ends with
+//! the number of the answer.
+//!
+//! [`FileLogs`] are the files as the logs of a run, and [`StandardOutput`] takes the report. What they promise of the bytes is
+//! said in the words of the kit's readers and writers, of which those of the operating system are one kind.
 #![tactic(auto)]
 
-mod ends;
+mod exit;
 mod file_logs;
 mod standard_output;
+mod word;
 
-use ends::{complain, exit_number};
+use exit::{complain, exit_number};
 use file_logs::FileLogs;
-use rma_audit::program::run;
-use rma_audit::status::Status;
+use rma_audit::{Status, run};
 use standard_output::StandardOutput;
-use std::env;
-use std::io::ErrorKind;
 use std::process::ExitCode;
+use word::words_given;
 
-/// The words behind the program's name. One that is not UTF-8 makes a faulty command line.
-fn words_given(rt: HostRuntime) -> Result<Vec<String>, Status> {
-    match env::args(&rt) {
-        Ok(args) => args.skip(1).collect(rt.alloc()).map_err(|_| Status::Memory),
-        Err(error) if error.kind() == ErrorKind::OutOfMemory => Err(Status::Memory),
-        Err(_) => Err(Status::Usage),
-    }
-}
-
-/// What the words of the command line come to.
+/// The answer to the words of the command line.
 fn answer(rt: HostRuntime) -> Status {
-    let words = match words_given(rt) {
+    let words = match words_given(&rt, rt.alloc()) {
         Ok(words) => words,
         Err(status) => return status,
     };
     let mut logs = FileLogs::new(rt, rt.alloc());
-    let mut output = StandardOutput::new(rt.stdout());
+    let mut output = StandardOutput::new(rt.stdout(), rt);
     run(rt.alloc(), words.as_slice(), &mut logs, &mut output)
 }
 

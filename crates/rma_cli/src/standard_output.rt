@@ -1,110 +1,166 @@
 //! Standard output as a sink.
-ghost use Rattle.std.specs.Prelude.{◌≡◌, OnOk, OnErr, length};
-ghost use Rattle.rma_io.specs.Counts.{raised};
+ghost use Rattle.std.specs.Prelude.{◌≡◌, ◌≤◌, OnOk, OnErr, length, take};
+ghost use Rattle.std.specs.Io.KnownBytes.{Appends};
+ghost use Rattle.rma_io.specs.Count.{raised};
+ghost use Rattle.rma_cli.specs.Printed.{unprinted, AppendsPiece};
 
-use rma_io::sinks::Sink;
-use rma_io::sources::Failed;
+use rma_io::{Failed, Sink};
+use std::io::{ErrorKind, Write};
 use std::marker::Model;
+use std::time::{Clock, Duration};
+
+/// How often one put waits for an output that is not ready.
+const WAITS: u32 = 10_000;
+
+/// How long one such wait is, in milliseconds.
+const WAIT: u64 = 1;
 
 /// An output of the process, with how many bytes it took. It keeps no buffer: what a put answers is true of the bytes
 /// themselves.
 #[derive(Drop)]
-pub struct StandardOutput<P: Print + Drop> {
-    output: P,
+pub struct StandardOutput<W: Write + Drop, C: Clock + Drop> {
+    output: W,
+    clock: C,
+    // How many bytes were written by the puts that did not fail.
     taken: u64,
     faults: u64,
 }
 
-impl<P: Print + Drop> Model for StandardOutput<P> {
-    ghost use Rattle.rma_cli.specs.Edges.{Printed};
+impl<W: Write + Drop, C: Clock + Drop> Model for StandardOutput<W, C> {
+    ghost use Rattle.rma_cli.specs.Printed.{Printed};
 
     ghost Value = { Printed };
 
-    ghost view = { λ s. record { taken = s.taken; faults = s.faults } };
+    ghost view = { λ s. record { written = W.contents s.output; taken = s.taken; faults = s.faults } };
 }
 
-impl<P: Print + Drop> StandardOutput<P> {
+impl<W: Write + Drop, C: Clock + Drop> StandardOutput<W, C> {
     /// The output, which took nothing yet.
-    pub fn new(output: P) -> Self
-        ensures { result ≡ record { taken = 0; faults = 0 } }
+    pub fn new(output: W, clock: C) -> Self
+        ensures { result ≡ unprinted (W.contents output) }
     {
         StandardOutput {
             output,
+            clock,
             taken: 0,
             faults: 0,
         }
     }
 }
 
-impl<P: Print + Drop> Sink for StandardOutput<P> {
-    ghost use Rattle.rma_cli.specs.Edges.{output_of};
-    ghost use Rattle.rma_io.specs.Sinks.{IsPut};
+/// Whether a write that failed so may go well a little later.
+fn may_pass(kind: ErrorKind) -> bool {
+    matches!(kind, ErrorKind::WouldBlock | ErrorKind::Interrupted)
+}
+
+/// Writes the piece as far as the output takes it, and answers how many bytes it took.
+fn write_on<W: Write, C: Clock>(output: &mut W, clock: &C, piece: &[u8]) -> usize
+    ensures within { result ≤ length piece.now }
+    ensures bytes { Appends (W.contents output.old) (W.contents output.new) (take result piece.now) }
+{
+    let mut written = 0;
+    let mut waits = 0;
+    while written < piece.len() && waits < WAITS {
+        match output.write(&piece[written..]) {
+            Ok(0) => break,
+            Ok(len) => written += len,
+            Err(error) if may_pass(error.kind()) => {
+                waits += 1;
+                clock.sleep(Duration::from_millis(WAIT));
+            }
+            Err(_) => break,
+        }
+    }
+    written
+}
+
+impl<W: Write + Drop, C: Clock + Drop> Sink for StandardOutput<W, C> {
+    ghost use Rattle.rma_cli.specs.Printed.{output_of};
+    ghost use Rattle.rma_io.specs.Sink.{IsPut};
 
     ghost output = { output_of };
 
     fn put(&mut self, piece: &[u8]) -> Result<(), Failed>
         ensures put { IsPut (output_of self.old) piece.now result (output_of self.new) }
+        ensures written { AppendsPiece piece.now result self.old.written self.new.written }
         ensures taken { OnOk result (self.new.taken ≡ raised self.old.taken (length piece.now)) }
         ensures refused { OnErr result (self.new.taken ≡ self.old.taken) }
     {
-        match self.output.write_all(piece) {
-            Ok(()) => {
-                self.taken = self.taken.saturating_add(piece.len() as u64);
-                Ok(())
-            }
-            Err(_) => {
-                self.faults = self.faults.saturating_add(1);
-                Err(Failed)
-            }
+        let written = write_on(&mut self.output, &self.clock, piece);
+        if written < piece.len() {
+            self.faults = self.faults.saturating_add(1);
+            return Err(Failed);
         }
+        self.taken = self.taken.saturating_add(piece.len() as u64);
+        Ok(())
     }
 }
 
 #[cfg(test)]
 mod tests {
     use super::*;
-    use std::cell::Cell;
-    use std::fmt::Display;
     use std::io;
 
-    /// An output that takes so many bytes.
+    /// An output that takes at most two bytes at once, `room` bytes in all, and is not ready `waits` times.
     #[derive(Drop)]
     struct Narrow {
-        room: Cell<usize>,
+        room: usize,
+        waits: u32,
     }
 
-    impl Print for Narrow {
-        fn print<D: Display + Drop>(&self, _value: D) -> io::Result<()> {
-            Ok(())
-        }
-
-        fn println<D: Display + Drop>(&self, _value: D) -> io::Result<()> {
-            Ok(())
-        }
-
-        fn write_all(&self, bytes: &[u8]) -> io::Result<()> {
-            match self.room.get().checked_sub(bytes.len()) {
-                Some(room) => {
-                    self.room.set(room);
-                    Ok(())
-                }
-                None => Err(io::Error::from(io::ErrorKind::StorageFull)),
+    impl Write for Narrow {
+        fn write(&mut self, bytes: &[u8]) -> io::Result<usize> {
+            if self.waits > 0 {
+                self.waits -= 1;
+                return Err(io::Error::from(ErrorKind::WouldBlock));
             }
+            if self.room == 0 {
+                return Err(io::Error::from(ErrorKind::StorageFull));
+            }
+            let len = bytes.len().min(self.room).min(2);
+            self.room -= len;
+            Ok(len)
+        }
+
+        fn flush(&mut self) -> io::Result<()> {
+            Ok(())
+        }
+    }
+
+    /// A clock that stands still.
+    #[derive(Drop)]
+    struct Still;
+
+    impl Clock for Still {
+        fn monotonic(&self) -> io::Result<Duration> {
+            Ok(Duration::ZERO)
+        }
+
+        fn since_1970(&self) -> io::Result<Duration> {
+            Ok(Duration::ZERO)
         }
     }
 
     #[test]
-    fn a_failed_write_is_answered_and_counted(rt: HostRuntime) {
-        let mut output = StandardOutput::new(Narrow { room: Cell::new(9) });
+    fn a_put_waits_for_its_output_and_answers_what_it_took(rt: HostRuntime) {
+        let narrow = Narrow { room: 9, waits: 3 };
+        let mut output = StandardOutput::new(narrow, Still);
         for (piece, wanted, taken, faults) in [
-            ("report 1\n", Ok(()), 9, 0),
-            ("more", Err(Failed), 9, 1),
-            ("", Ok(()), 9, 1),
-            ("x", Err(Failed), 9, 2),
+            ("report 1", Ok(()), 8, 0),
+            ("more", Err(Failed), 8, 1),
+            ("", Ok(()), 8, 1),
+            ("x", Err(Failed), 8, 2),
         ] {
             assert_eq!(rt; output.put(piece.as_bytes()), wanted, "at {piece:?}");
             assert_eq!(rt; output.taken, taken, "at {piece:?}");
             assert_eq!(rt; output.faults, faults, "at {piece:?}");
         }
+        let never = Narrow {
+            room: 9,
+            waits: WAITS + 1,
+        };
+        let mut output = StandardOutput::new(never, Still);
+        assert_eq!(rt; output.put(b"x"), Err(Failed));
+        assert_eq!(rt; output.put(b"x"), Ok(()));
     }
 }

@@ -1,5 +1,5 @@
 use Rattle.std.proofs.Common.{map, take, string_bytes}
-use Rattle.rma_audit.specs.Opening.{HasOpened}
+use Rattle.rma_audit.specs.inside.Opening.{HasOpened}
 use Rattle.rma_audit.proofs.opening.open_all.Given as goal
 
 -- the names so far were opened

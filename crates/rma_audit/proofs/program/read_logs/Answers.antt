@@ -1,8 +1,8 @@
 use Rattle.std.proofs.Common.{length, ap, sym, ◌∙◌, subst, arith}
 use Rattle.std.proofs.lemmas.Result.{err_from_is_err_and}
-use Rattle.rma_io.specs.Sources.{Opened}
-use Rattle.rma_stream.specs.Feeding.{HaveBooks}
-use Rattle.rma_audit.proofs.RunLemmas.{opens_none, told_whole}
+use Rattle.rma_io.specs.Source.{Opened}
+use Rattle.rma_stream.specs.inside.Feeding.{HaveBooks}
+use Rattle.rma_audit.proofs.RunLemmas.{opens_none}
 use Rattle.rma_audit.proofs.program.read_logs.Goals as goal
 
 pub returns-in_err-room-clause-stopped : goal.returns-in_err-room-clause-stopped
@@ -17,7 +17,6 @@ returns-in_err-audit-clause-stopped g c =
 
 pub returns-clause-judged : goal.returns-clause-judged
 returns-clause-judged g c =
-    let source = g.L.Pulls.source c.read_all.new.logs in
     let follows = c.in_ok-read_all.ensures.follows in
     let texts = follows.0 in
     let taken = follows.1 in
@@ -30,7 +29,9 @@ returns-clause-judged g c =
         taken = c.in_ok-read_all.ensures.taken;
         one_log_a_name = taken.one_a_log ∙ g.met.L.Logs.one_log_a_name c.read_all.new.logs ∙ ap length in_order;
         all_taken = taken.all_taken;
-        told = told_whole texts source.tapes c.in_ok-read_all.ensures.read taken.told;
+        one_a_log = sym taken.one_a_log;
+        read = c.in_ok-read_all.ensures.read;
+        bytes = taken.bytes;
         ranks = found.0;
         lines = found.1;
         found = found.2;

@@ -1,6 +1,6 @@
 use Rattle.std.proofs.Common.{◌≡◌, ◌≤◌, ◌-◌}
-use Rattle.rma_base.specs.declared.limits.TheConstants.{BYTES}
-use Rattle.rma_audit.specs.Progress.{FollowsSource}
+use Rattle.rma_base.specs.Limits.{byte_limit}
+use Rattle.rma_audit.specs.inside.Progress.{FollowsSource}
 use Rattle.rma_audit.proofs.reading.read_all.Given as goal
 
 -- the books were fed what was taken
@@ -9,9 +9,9 @@ invariant-pieces g l =
     let source = g.L.Pulls.source in
     FollowsSource (source l.logs) l.audit
     × ((source l.logs).taken ≡ l.taken)
-    × (l.taken ≤ BYTES)
+    × (l.taken ≤ byte_limit)
     × ((source l.fn.logs).faults ≤ (source l.logs).faults)
     × (g.L.Logs.opened l.logs ≡ g.L.Logs.opened l.fn.logs)
 
 abbrev pub decreases-pieces : goal.decreases-pieces
-decreases-pieces g l = BYTES - l.taken
+decreases-pieces g l = byte_limit - l.taken

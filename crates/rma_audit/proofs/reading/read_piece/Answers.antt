@@ -1,5 +1,5 @@
-use Rattle.std.proofs.Common.{take}
-use Rattle.rma_stream.specs.Feeding.{with_piece}
+use Rattle.std.proofs.Common.{length, take}
+use Rattle.rma_stream.specs.inside.Feeding.{with_piece}
 use Rattle.rma_audit.proofs.ProgressLemmas.{taken_more}
 use Rattle.rma_audit.proofs.reading.read_piece.Goals as goal
 
@@ -14,5 +14,5 @@ returns-in_ok-feed-in-Ok-Bytes-clause-follows g c =
     let pulled = rw c.in-Ok-Bytes.field-0-is at c.in-Ok-Bytes.ensures.pulled in (
       with_piece texts rank (take len room),
       taken_more (source c.args.logs.now) (source c.pull.new.self) room rank len c.args.audit.now c.feed.new.self texts pulled so_far
-          (c.in_ok-feed-in-Ok-Bytes.ensures.text (source c.args.logs.now).logs texts so_far.read),
+          (c.in_ok-feed-in-Ok-Bytes.ensures.text (length (source c.args.logs.now).logs) texts so_far.read),
     )

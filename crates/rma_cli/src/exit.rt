@@ -1,13 +1,13 @@
 //! How the program ends: its exit number, and its line on standard error.
 ghost use Rattle.std.specs.Prelude.{◌≡◌};
-ghost use Rattle.rma_cli.specs.Ends.{number_of};
+ghost use Rattle.rma_cli.specs.Exit.{exit_number_of};
 
-use rma_audit::status::Status;
+use rma_audit::Status;
 use std::io;
 
 /// The exit number of an answer.
 pub fn exit_number(status: Status) -> u8
-    ensures { result ≡ number_of status }
+    ensures { result ≡ exit_number_of status }
 {
     match status {
         Status::Clean => 0,

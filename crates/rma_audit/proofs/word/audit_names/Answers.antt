@@ -1,6 +1,6 @@
 use Rattle.std.proofs.Common.{◌≡◌, string_bytes, sym, ◌∙◌, true, false}
 use Rattle.rma_audit.proofs.WordLemmas.{audits, audited}
-use Rattle.rma_audit.proofs.words.audit_names.Goals as goal
+use Rattle.rma_audit.proofs.word.audit_names.Goals as goal
 
 pub returns-then-is_audit : goal.returns-then-is_audit
 returns-then-is_audit c =

@@ -1,0 +1,44 @@
+//! The words of the command line.
+use rma_audit::Status;
+use std::alloc::Global;
+use std::env::{Env, FillError};
+
+/// The room that is tried first for a word, in bytes.
+const ROOM: usize = 256;
+
+/// The words after the program's name, which is not read.
+///
+/// # Errors
+///
+/// `Status::Usage` where a word is not UTF-8, and `Status::Memory` where memory ran out.
+pub fn words_given<R: Env>(rt: &R, alloc: Global) -> Result<Vec<String>, Status> {
+    let mut words = Vec::new(alloc);
+    for index in 1..usize::MAX {
+        let Some(word) = word_at(rt, alloc, index)? else {
+            break;
+        };
+        if words.push(word).is_err() {
+            return Err(Status::Memory);
+        }
+    }
+    Ok(words)
+}
+
+/// The word at this index, if there is one, in room that doubles until the word fits.
+fn word_at<R: Env>(rt: &R, alloc: Global, index: usize) -> Result<Option<String>, Status> {
+    let mut size = ROOM;
+    for _ in 0..usize::BITS {
+        let Ok(mut room) = vec![in alloc; 0u8; size] else {
+            return Err(Status::Memory);
+        };
+        match rt.arg(index, &mut room) {
+            Ok(len) => {
+                room.truncate(len);
+                return String::from_utf8(room).map(Some).map_err(|_| Status::Usage);
+            }
+            Err(FillError::NotPresent) => return Ok(None),
+            Err(FillError::TooLong) => size = size.saturating_mul(2),
+        }
+    }
+    Err(Status::Memory)
+}
