@@ -1,0 +1,91 @@
+"""The checks of the documents: that what they name is there.
+
+    crates    each crate of crates.txt has its row in the tables of README.md and docs/DESIGN.md, in the order of crates.txt
+    edits     each must-fail edit of a crate is named in the section of docs/CLAIMS.md that has the crate in its title, in the
+              last column, and each that is named there is one
+    files     each file of a crate that docs/DESIGN.md, docs/RULES-OF-MPI.md, docs/CLAIMS.md or CONTRIBUTING.md names is there
+    links     each file that a document links to is there
+"""
+import glob
+import os
+import re
+
+from cases import TOP
+
+TEST_CRATES = re.compile(r"rma_\w+_tests$")
+
+
+def text_of(name):
+    with open(f"{TOP}/{name}", encoding="utf-8") as file:
+        return file.read()
+
+
+def crates():
+    return re.findall(r"^(\w+)(?: \w+)?:", text_of("crates.txt"), re.M)
+
+
+def crates_have_their_rows():
+    wanted = [it for it in crates() if not TEST_CRATES.match(it)]
+    for name in ("README.md", "docs/DESIGN.md"):
+        found = [it for it in re.findall(r"^\| `(rma_\w+)` \|", text_of(name), re.M) if it in wanted]
+        if found != wanted:
+            return f"{name} has the rows {' '.join(found)}, and the crates are {' '.join(wanted)}"
+    return None
+
+
+def edits_of(crate):
+    return {os.path.basename(it).removesuffix(".edit") for it in glob.glob(f"{TOP}/crates/{crate}/must-fail/*.edit")}
+
+
+def edits_named_in(section):
+    rows = [line.strip().strip("|").split("|") for line in section.splitlines() if line.startswith("|")]
+    return {it for row in rows for it in re.findall(r"`(\w[\w-]*)`", row[-1]) if not it.startswith("rma_")}
+
+
+def edits_are_named():
+    named = {}
+    for section in re.split(r"^## ", text_of("docs/CLAIMS.md"), flags=re.M)[1:]:
+        title = re.search(r"`(rma_\w+)", section.partition("\n")[0])
+        if title:
+            named.setdefault(title[1], set()).update(edits_named_in(section))
+    found = []
+    for crate in crates():
+        here, there = named.get(crate, set()), edits_of(crate)
+        found += [f"{crate}: {it} is not named" for it in sorted(there - here)]
+        found += [f"{crate}: {it} is not there" for it in sorted(here - there)]
+    return "; ".join(found) or None
+
+
+def files_are_there():
+    """A path is written whole, and names of files of the same folder may follow it: `rma_lex/specs/Line.antt`, `Text.antt`."""
+    found = []
+    for name in ("docs/DESIGN.md", "docs/RULES-OF-MPI.md", "docs/CLAIMS.md", "CONTRIBUTING.md"):
+        folder = "crates"
+        for path in re.findall(r"`([\w/]+\.(?:antt|rt)|rma_\w+/specs/)`", text_of(name)):
+            if path in ("lib.rt", "Lib.antt"):
+                continue
+            if "/" in path:
+                path = f"crates/{path.removeprefix('crates/')}"
+                folder = os.path.dirname(path)
+            else:
+                path = f"{folder}/{path}"
+            if not os.path.exists(f"{TOP}/{path}"):
+                found.append(f"{name} names {path}")
+    return "; ".join(found) or None
+
+
+def links_lead_somewhere():
+    for path in sorted(glob.glob(f"{TOP}/*.md") + glob.glob(f"{TOP}/*/*.md")):
+        name = os.path.relpath(path, TOP)
+        for link in re.findall(r"\]\(([^)#]+)\)", text_of(name)):
+            if not os.path.exists(f"{TOP}/{os.path.dirname(name)}/{link}"):
+                return f"{name} links to {link}"
+    return None
+
+
+CHECKS = (
+    ("documents: crates have their rows", crates_have_their_rows),
+    ("documents: edits are named", edits_are_named),
+    ("documents: files are there", files_are_there),
+    ("documents: links lead somewhere", links_lead_somewhere),
+)
