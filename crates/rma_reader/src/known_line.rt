@@ -1,71 +1,54 @@
-//! What a text states.
-ghost use Rattle.std.specs.Prelude.{◌≡◌, IfOk, true};
+//! What the words of a line state.
+ghost use Rattle.std.specs.Prelude.{◌≡◌, IfOk, None, true};
 ghost use Rattle.rma_parse.specs.Lines.{states};
 
-use rma_base::{Memory, Site};
-use rma_parse::{Event, Stated};
+use rma_base::Memory;
+use rma_parse::Event;
 use std::alloc::Global;
 use std::marker::Model;
 
-/// The text of a line, or of a line without its site, and what it states.
+/// The words of a line without its site, and the event that they state.
 #[derive(Drop)]
 pub(crate) struct KnownLine {
-    text: Vec<u8>,
+    words: Vec<u8>,
     event: Event,
-    site: Option<Site>,
 }
 
 impl Model for KnownLine {
+    ghost use Rattle.std.specs.Prelude.{None};
     ghost use Rattle.rma_parse.specs.Lines.{states};
     ghost use Rattle.rma_reader.specs.inside.Known.{Known};
 
     ghost Value = { Known };
 
-    ghost view = { λ line. record { text = line.text.items; stated = record { event = line.event; site = line.site } } };
+    ghost view = { λ line. record { words = line.words.items; event = line.event } };
 
-    ghost invariant = { λ line. states line.text.items (record { event = line.event; site = line.site }) };
+    ghost invariant = { λ line. states line.words.items (record { event = line.event; site = None }) };
 }
 
 impl KnownLine {
-    /// The line of this text, which states this.
-    pub(crate) fn new(alloc: Global, text: &[u8], stated: Stated) -> Result<KnownLine, Memory>
-        requires { states text.now stated }
-        ensures { IfOk result (λ line. line ≡ record { text = text.now; stated = stated }) }
+    /// The line of these words, which state this event.
+    pub(crate) fn new(alloc: Global, words: &[u8], event: Event) -> Result<KnownLine, Memory>
+        requires { states words.now (record { event = event; site = None }) }
+        ensures { IfOk result (λ line. line ≡ record { words = words.now; event = event }) }
     {
-        let text = Vec::from_slice(alloc, text)?;
-        let Stated { event, site } = stated;
-        Ok(KnownLine { text, event, site })
+        let words = Vec::from_slice(alloc, words)?;
+        Ok(KnownLine { words, event })
     }
 
-    /// Whether this is its text.
+    /// Whether these are its words.
     #[inline]
-    pub(crate) fn has_text(&self, text: &[u8]) -> bool
-        ensures { result ≡ true → self.now.text ≡ text.now }
+    pub(crate) fn has_words(&self, words: &[u8]) -> bool
+        ensures { result ≡ true → self.now.words ≡ words.now }
     {
-        self.text.as_slice() == text
+        self.words.as_slice() == words
     }
 
-    /// What it states, shared. It takes no memory.
+    /// The event, shared. It takes no memory.
     #[inline]
-    pub(crate) fn stated(&self) -> Result<Stated, Memory>
-        ensures { IfOk result (λ stated. states self.now.text stated) }
+    pub(crate) fn event(&self) -> Result<Event, Memory>
+        ensures { IfOk result (λ event. states self.now.words (record { event = event; site = None })) }
     {
-        let event = self.event.copy()?;
-        let site = copied(&self.site)?;
-        Ok(Stated { event, site })
-    }
-}
-
-/// The same site, if there is one. It takes no memory.
-#[inline]
-pub(crate) fn copied(site: &Option<Site>) -> Result<Option<Site>, Memory>
-    ensures { IfOk result (λ copy. copy ≡ site.now) }
-{
-    match site {
-        Some(site) => match site.copy() {
-            Ok(site) => Ok(Some(site)),
-            Err(memory) => Err(memory),
-        },
-        None => Ok(None),
+        self.event.copy()
     }
 }

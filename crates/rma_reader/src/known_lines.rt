@@ -1,10 +1,10 @@
-//! The texts that a log repeats.
-ghost use Rattle.std.specs.Prelude.{IfOk, IfSome};
+//! The lines that a log repeats.
+ghost use Rattle.std.specs.Prelude.{◌≡◌, IfOk, IfSome, None};
 ghost use Rattle.rma_parse.specs.Lines.{states};
 
 use crate::known_line::KnownLine;
 use rma_base::Memory;
-use rma_parse::Stated;
+use rma_parse::Event;
 use std::alloc::Global;
 
 /// How many lines are known at most.
@@ -13,13 +13,13 @@ const SLOTS: usize = 1_024;
 /// A slot of the table.
 #[derive(Drop)]
 struct Slot {
-    // The key of the text that came last to this slot and was not known here.
+    // The key of the words that came last to this slot and were not known here.
     key: u64,
     // The line that is known here.
     line: Option<KnownLine>,
 }
 
-/// The texts that a log repeats, each in the slot that its key gives.
+/// The lines that a log repeats, each in the slot that the key of its words gives.
 #[derive(Drop)]
 pub(crate) struct KnownLines {
     alloc: Global,
@@ -36,10 +36,10 @@ impl KnownLines {
         Ok(KnownLines { alloc, slots })
     }
 
-    /// What this text states, whose key this is, if it is known.
+    /// The event that these words state, whose key this is, if they are known.
     #[inline]
-    pub(crate) fn stated(&self, key: u64, text: &[u8]) -> Result<Option<Stated>, Memory>
-        ensures { IfOk result (λ known. IfSome known (λ stated. states text.now stated)) }
+    pub(crate) fn event(&self, key: u64, words: &[u8]) -> Result<Option<Event>, Memory>
+        ensures { IfOk result (λ event. IfSome event (λ event. states words.now (record { event = event; site = None }))) }
     {
         match self.slots.get(slot_of(key)) {
             Some(
@@ -47,13 +47,13 @@ impl KnownLines {
                     line: Some(line),
                     ..
                 },
-            ) if line.has_text(text) => Ok(Some(line.stated()?)),
+            ) if line.has_words(words) => Ok(Some(line.event()?)),
             _ => Ok(None),
         }
     }
 
-    /// Whether a text of this key came last to its slot without being known there; it did now. A text that comes once is not
-    /// kept, and takes no memory.
+    /// Whether words of this key came last to their slot without being known there; they did now. A line that comes once is
+    /// not kept, and takes no memory.
     pub(crate) fn comes_again(&mut self, key: u64) -> bool {
         match self.slots.get_mut(slot_of(key)) {
             Some(slot) => {
@@ -65,11 +65,11 @@ impl KnownLines {
         }
     }
 
-    /// Keeps the line of this text, which states this, in place of the one that was known in its slot.
-    pub(crate) fn keep(&mut self, key: u64, text: &[u8], stated: Stated) -> Result<(), Memory>
-        requires { states text.now stated }
+    /// Keeps the line of these words, which state this event, in place of the one that was known in its slot.
+    pub(crate) fn keep(&mut self, key: u64, words: &[u8], event: Event) -> Result<(), Memory>
+        requires { states words.now (record { event = event; site = None }) }
     {
-        let line = KnownLine::new(self.alloc, text, stated)?;
+        let line = KnownLine::new(self.alloc, words, event)?;
         if let Some(slot) = self.slots.get_mut(slot_of(key)) {
             slot.line = Some(line);
         }

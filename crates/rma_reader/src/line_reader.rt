@@ -1,11 +1,10 @@
 //! Reading the lines of one log.
-ghost use Rattle.std.specs.Prelude.{option_map};
+ghost use Rattle.std.specs.Prelude.{◌≡◌, None, option_map};
 ghost use Rattle.rma_parse.specs.Lines.{reading, site_of, states};
 ghost use Rattle.rma_parse.specs.Steps.{Gives};
-ghost use Rattle.rma_reader.specs.inside.Split.{stated_at};
+ghost use Rattle.rma_reader.specs.inside.Split.{IsSplit, stated_at};
 
 use crate::key::key_of;
-use crate::known_line::copied;
 use crate::known_lines::KnownLines;
 use crate::known_sites::KnownSites;
 use crate::site_split::split_site;
@@ -18,10 +17,7 @@ use std::marker::Model;
 #[derive(Drop)]
 pub struct LineReader {
     alloc: Global,
-    // Lines, by their whole texts.
     lines: KnownLines,
-    // Lines without their sites, which repeat where sites change.
-    words: KnownLines,
     sites: KnownSites,
 }
 
@@ -37,7 +33,6 @@ impl LineReader {
         Ok(LineReader {
             alloc,
             lines: KnownLines::new(alloc)?,
-            words: KnownLines::new(alloc)?,
             sites: KnownSites::new(alloc),
         })
     }
@@ -54,50 +49,32 @@ impl LineReader {
         if line.first() == Some(&b'#') {
             return parse_line(self.alloc, line);
         }
-        let key = key_of(line);
-        match self.lines.stated(key, line) {
-            Ok(Some(stated)) => Ok(Some(stated)),
-            Ok(None) => self.read_new(key, line),
-            Err(Memory) => Err(ParseError::Memory),
-        }
-    }
-
-    // What a line states that is not known, of which this is the key.
-    #[inline(never)]
-    fn read_new(&mut self, key: u64, line: &[u8]) -> Result<Option<Stated>, ParseError>
-        ensures { Gives result (reading line.now) }
-    {
-        let Some(stated) = self.read_split(line)? else {
-            return Ok(None);
-        };
-        match self.remember(key, line, &stated) {
-            Ok(()) => Ok(Some(stated)),
-            Err(Memory) => Err(ParseError::Memory),
-        }
-    }
-
-    // Keeps the line, where it comes for the second time.
-    fn remember(&mut self, key: u64, line: &[u8], stated: &Stated) -> Result<(), Memory>
-        requires { states line.now stated.now }
-    {
-        if !self.lines.comes_again(key) {
-            return Ok(());
-        }
-        let event = stated.event.copy()?;
-        let site = copied(&stated.site)?;
-        self.lines.keep(key, line, Stated { event, site })
-    }
-
-    // What the line states, by its words and its site.
-    fn read_split(&mut self, line: &[u8]) -> Result<Option<Stated>, ParseError>
-        ensures { Gives result (reading line.now) }
-    {
         let (words, site) = split_site(line);
-        match self.words_of(words) {
+        let key = key_of(words);
+        match self.lines.event(key, words) {
+            Ok(Some(event)) => self.with_site(event, site),
+            Ok(None) => self.read_new(key, line, words, site),
+            Err(Memory) => Err(ParseError::Memory),
+        }
+    }
+
+    // What the line of these words and this site states, where the words are not known.
+    #[inline(never)]
+    fn read_new(
+        &mut self,
+        key: u64,
+        line: &[u8],
+        words: &[u8],
+        site: Option<&[u8]>,
+    ) -> Result<Option<Stated>, ParseError>
+        requires { IsSplit line.now words.now (option_map (λ text. text.now) site) }
+        ensures { Gives result (reading line.now) }
+    {
+        match parse_line(self.alloc, words) {
             Ok(Some(stated)) => {
                 let Stated { event, site: own } = stated;
                 match own {
-                    None => self.with_site(event, site),
+                    None => self.read_event(key, words, event, site),
                     Some(_) => parse_line(self.alloc, line),
                 }
             }
@@ -106,41 +83,32 @@ impl LineReader {
         }
     }
 
-    // What the words of a line state.
-    fn words_of(&mut self, words: &[u8]) -> Result<Option<Stated>, ParseError>
-        ensures { Gives result (reading words.now) }
+    // What is stated where the words of a line state this event and were not known, and this is the text of its site.
+    fn read_event(
+        &mut self,
+        key: u64,
+        words: &[u8],
+        event: Event,
+        site: Option<&[u8]>,
+    ) -> Result<Option<Stated>, ParseError>
+        requires { states words.now (record { event = event; site = None }) }
+        ensures { Gives result (stated_at event (option_map (λ text. text.now) site.entry)) }
     {
-        let key = key_of(words);
-        match self.words.stated(key, words) {
-            Ok(Some(stated)) => Ok(Some(stated)),
-            Ok(None) => self.new_words(key, words),
+        match self.remember(key, words, &event) {
+            Ok(()) => self.with_site(event, site),
             Err(Memory) => Err(ParseError::Memory),
         }
     }
 
-    // What the words of a line state that are not known, of which this is the key.
-    fn new_words(&mut self, key: u64, words: &[u8]) -> Result<Option<Stated>, ParseError>
-        ensures { Gives result (reading words.now) }
+    // Keeps the line of these words, where they come for the second time.
+    fn remember(&mut self, key: u64, words: &[u8], event: &Event) -> Result<(), Memory>
+        requires { states words.now (record { event = event.now; site = None }) }
     {
-        let Some(stated) = parse_line(self.alloc, words)? else {
-            return Ok(None);
-        };
-        match self.remember_words(key, words, &stated) {
-            Ok(()) => Ok(Some(stated)),
-            Err(Memory) => Err(ParseError::Memory),
-        }
-    }
-
-    // Keeps the words, where they come for the second time.
-    fn remember_words(&mut self, key: u64, words: &[u8], stated: &Stated) -> Result<(), Memory>
-        requires { states words.now stated.now }
-    {
-        if !self.words.comes_again(key) {
+        if !self.lines.comes_again(key) {
             return Ok(());
         }
-        let event = stated.event.copy()?;
-        let site = copied(&stated.site)?;
-        self.words.keep(key, words, Stated { event, site })
+        let event = event.copy()?;
+        self.lines.keep(key, words, event)
     }
 
     // What is stated where the words of a line state this event, and this is the text of its site.

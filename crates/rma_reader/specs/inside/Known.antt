@@ -1,8 +1,8 @@
--- What is known of a text.
+-- What is known of the words of a line.
 use Rattle.std.specs.Prelude.{ℕ, List}
-use Rattle.rma_parse.specs.declared.event.Stated.{Stated}
+use Rattle.rma_parse.specs.declared.event.Event.{Event}
 
--- the text of a line, or of a line without its site, and what it states
+-- the words of a line without its site, and the event that they state
 pub record Known : Type 0 where
-  pub text : List ℕ
-  pub stated : Stated
+  pub words : List ℕ
+  pub event : Event
