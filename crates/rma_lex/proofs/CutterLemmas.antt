@@ -1,10 +1,9 @@
 -- What a cutter represents, through each of its calls.
-use Rattle.std.proofs.Common.{◌≡◌, ◌≢◌, ℕ, ◌+◌, ◌-◌, ◌<◌, ◌≤◌, Bool, true, false, List, [], ◌∷◌, ◌++◌, length, take, drop, get_or, ltb, Some, Result, refl, sym, ap, subst, ◌∙◌, arith, inl, inr, ⊎_elim, append_assoc, length-append}
+use Rattle.std.proofs.Common.{◌≡◌, ◌≢◌, ℕ, ◌+◌, ◌-◌, ◌<◌, ◌≤◌, Bool, true, false, List, [], ◌∷◌, ◌++◌, length, take, drop, get_or, ltb, Some, refl, sym, ap, subst, ◌∙◌, arith, inl, inr, ⊎_elim, append_assoc, length-append}
 use Rattle.std.specs.Prelude.{slice_get, Contains}
 use Rattle.std.proofs.lemmas.Bool.{false≢true, lt-ltb, le-ltb}
-use Rattle.std.proofs.lemmas.List.{append-nil, length-drop, length-take, take_rest, take-append-drop, drop-drop, drop-take, drop_more, drop_all, take_all, get_or-drop, get_or-take, get_or_default}
+use Rattle.std.proofs.lemmas.List.{append-nil, length-drop, length-take, take-append-drop, drop-drop, drop-take, drop_more, drop_all, take_all, get_or-drop, get_or-take, get_or_default, get_or_at, drop_at, take_at}
 use Rattle.rma_base.specs.Limits.{line_limit}
-use Rattle.rma_base.specs.declared.form_reason.FormReason.{FormReason}
 use Rattle.rma_lex.specs.Line.{lines}
 use Rattle.rma_lex.specs.Text.{text_of}
 use Rattle.rma_lex.specs.Checked.{checked_lines}
@@ -12,9 +11,6 @@ use Rattle.rma_lex.specs.Cutting.{Cutting, Represents, HasNoLine, CutsOff, Takes
 use Rattle.rma_lex.specs.inside.LineFeed.{NoFeed, IsLineAt}
 use Rattle.rma_lex.proofs.LineLemmas.{Plain, Plain_from_Contains, Plain_left}
 use Rattle.rma_lex.proofs.CheckLemmas.{checked_lines_at, checked_lines_last, checked_lines_long, length_checked_lines}
-
-pub Represents_empty : Represents (record { fed = 0; handed = 0; rest = []; closed = false }) []
-Represents_empty = record { fed = refl; done = []; handed = refl; lines_left = λ more ends. refl }
 
 pub Represents_fed : (cutting : Cutting) (text piece : List ℕ) → cutting.closed ≡ false → Represents cutting text
     → Represents (record cutting { fed = cutting.fed + length piece; rest = cutting.rest ++ piece }) (text ++ piece)
@@ -28,22 +24,16 @@ Represents_fed cutting text piece goes_on represents = record {
       ∙ ap (λ rest. represents.done ++ checked_lines rest) (sym (append_assoc cutting.rest piece more));
 }
 
-pub Represents_closed : (cutting : Cutting) (text : List ℕ) → Represents cutting text → Represents (record cutting { closed = true }) text
-Represents_closed cutting text represents = record {
-  fed = represents.fed;
-  done = represents.done;
-  handed = represents.handed;
-  lines_left = λ more ends. represents.lines_left more (λ _. ends refl);
-}
-
 module _ (cutting : Cutting) (text : List ℕ) (represents : Represents cutting text) where
+  -- what is kept has the lines of the text after those that were handed out
+  pub lines_left_are : (more : List ℕ) → (cutting.closed ≡ true → more ≡ []) → checked_lines (cutting.rest ++ more) ≡ drop cutting.handed (checked_lines (text ++ more))
+  lines_left_are more ends = sym (ap (drop cutting.handed) (represents.lines_left more ends) ∙ drop_at represents.done (checked_lines (cutting.rest ++ more)) cutting.handed represents.handed)
+
   -- the lines that were handed out and those of what is kept are those of the text
   pub length_Represents : cutting.handed + length (lines cutting.rest) ≡ length (lines text)
   length_Represents =
-      let them = represents.lines_left [] (λ _. refl) in
-      let same : checked_lines text ≡ represents.done ++ checked_lines cutting.rest =
-      ap checked_lines (sym (append-nil text)) ∙ them ∙ ap (λ rest. represents.done ++ checked_lines rest) (append-nil cutting.rest) in
-      omega (arith, ap length same, length-append represents.done (checked_lines cutting.rest), represents.handed, length_checked_lines text, length_checked_lines cutting.rest)
+      let them = ap length (rw (append-nil text, append-nil cutting.rest) at (represents.lines_left [] (λ _. refl))) in
+      omega (arith, them, length-append represents.done (checked_lines cutting.rest), represents.handed, length_checked_lines text, length_checked_lines cutting.rest)
 
   -- at the end all lines were handed out
   pub handed_all : HasNoLine cutting → cutting.closed ≡ true → cutting.handed ≡ length (lines text)
@@ -52,16 +42,12 @@ module _ (cutting : Cutting) (text : List ℕ) (represents : Represents cutting 
   -- while the text goes on, the lines that were handed out stay as they are
   pub handed_stay : (more : List ℕ) → cutting.closed ≡ false → take cutting.handed (checked_lines (text ++ more)) ≡ take cutting.handed (checked_lines text)
   handed_stay more goes_on =
-      let ends = λ (m : List ℕ). λ (closed : cutting.closed ≡ true). absurd {A = m ≡ []} (false≢true (sym goes_on ∙ closed)) in
-      first (checked_lines (text ++ more)) (checked_lines (cutting.rest ++ more)) (represents.lines_left more (ends more))
-      ∙ sym (ap (λ t. take cutting.handed (checked_lines t)) (sym (append-nil text)) ∙ first (checked_lines (text ++ [])) (checked_lines (cutting.rest ++ [])) (represents.lines_left [] (ends [])))
+      first more ∙ sym (first []) ∙ ap (λ t. take cutting.handed (checked_lines t)) (append-nil text)
     where
-      take_done : (done later : List (Result (List ℕ) FormReason)) → take (length done) (done ++ later) ≡ done
-      take_done [] later = refl
-      take_done (line ∷ done) later = ap (λ them. line ∷ them) (take_done done later)
-
-      first : (them later : List (Result (List ℕ) FormReason)) → them ≡ represents.done ++ later → take cutting.handed them ≡ represents.done
-      first them later is = ap (take cutting.handed) is ∙ ap (λ n. take n (represents.done ++ later)) (sym represents.handed) ∙ take_done represents.done later
+      first : (m : List ℕ) → take cutting.handed (checked_lines (text ++ m)) ≡ represents.done
+      first m =
+          ap (take cutting.handed) (represents.lines_left m (λ closed. absurd (false≢true (sym goes_on ∙ closed))))
+          ∙ take_at represents.done (checked_lines (cutting.rest ++ m)) cutting.handed represents.handed
 
   -- the first bytes of a line that goes on and is too long, one more than a line may have
   pub Represents_shortened : (n : ℕ) → n ≡ line_limit + 1 → n ≤ length cutting.rest → ¬ Contains cutting.rest 10 → Represents (record cutting { rest = take n cutting.rest }) text
@@ -119,66 +105,42 @@ module _ (cutting : Cutting) (line : List ℕ) (ended : Bool) (left : List ℕ) 
   pub some_line : ¬ HasNoLine cutting
   some_line none =
       ⊎_elim (λ (e : (ended ≡ true) × (cutting.rest ≡ line ++ 10 ∷ left)).
-      none.0 (length line, omega (arith, ap length e.1, length-append line (10 ∷ left)), ap (λ rest. get_or rest (length line) 10) e.1 ∙ at_end line))
+      none.0 (length line, omega (arith, ap length e.1, length-append line (10 ∷ left)), ap (λ rest. get_or rest (length line) 10) e.1 ∙ get_or_at line 10 left 10 (length line) refl))
       (λ (e : (ended ≡ false) × (cutting.closed ≡ true) × (cutting.rest ≡ line) × (line ≢ []) × (left ≡ [])). e.3 (sym e.2 ∙ none.1 e.1)) cuts.cut
-    where
-      at_end : (line : List ℕ) → get_or (line ++ 10 ∷ left) (length line) 10 ≡ 10
-      at_end [] = refl
-      at_end (byte ∷ bytes) = at_end bytes
 
 pub Represents_taken : (before after : Cutting) (line : List ℕ) (ended : Bool) (text : List ℕ) → TakesLine before line ended after → Represents before text → Represents after text
 Represents_taken before after line ended text takes represents =
     subst (λ c. Represents c text) (sym takes.1) (Represents_next before line ended after.rest takes.0 text represents)
 
 -- ---- the fields of a cutter
+module _ (items : List ℕ) (start : ℕ) where
+  -- no line feed from the start on
+  no_feed_left : NoFeed items start (length items) → ¬ Contains (drop start items) 10
+  no_feed_left none c =
+      let within : start + c.0 < length items = omega (arith, c.1, length-drop start items) in
+      none (start + c.0) (omega arith) within (get_or_default items (start + c.0) 0 10 within ∙ sym (get_or-drop start items c.0 10) ∙ c.2)
+
+  -- where no line feed is left, none is found
+  pub NoFeed_left : ¬ Contains (drop start items) 10 → NoFeed items start (length items)
+  NoFeed_left none place low high feed =
+      let there : start + (place - start) ≡ place = omega arith in
+      none (place - start, omega (arith, length-drop start items), get_or-drop start items (place - start) 10 ∙ ap (λ i. get_or items i 10) there ∙ get_or_default items place 10 0 high ∙ feed)
+
+  -- it left bytes out
+  pub Represents_cut : (fed handed : ℕ) (closed : Bool) (text : List ℕ) (end : ℕ) → end ≡ start + (line_limit + 1) → end ≤ length items → NoFeed items start (length items)
+      → Represents (record { fed = fed; handed = handed; rest = drop start items; closed = closed }) text
+      → Represents (record { fed = fed; handed = handed; rest = drop start (take end items); closed = closed }) text
+  Represents_cut fed handed closed text end is within none represents =
+      rw (is, drop-take start (line_limit + 1) items) (Represents_shortened _ text represents (line_limit + 1) refl (omega (arith, length-drop start items)) (no_feed_left none))
+
 module _ (before : Cutting) (items : List ℕ) (fed handed start : ℕ) (closed : Bool)
     (same : ◌≡◌ {A = Cutting} (record { fed = fed; handed = handed; rest = drop start items; closed = closed }) before) where
   abbrev cutting : Cutting
   cutting = record { fed = fed; handed = handed; rest = drop start items; closed = closed }
 
-  rest_is : before.rest ≡ drop start items
-  rest_is = sym (ap (λ c. c.rest) same)
-
-  -- no line feed from the start on
-  no_feed_left : NoFeed items start (length items) → ¬ Contains before.rest 10
-  no_feed_left none c =
-      let within : c.0 < length (drop start items) = subst (λ rest. c.0 < length rest) rest_is c.1 in
-      let long = length-drop start items in
-      none (start + c.0) (omega arith) (omega arith)
-      (get_or_default items (start + c.0) 0 10 (omega arith) ∙ sym (get_or-drop start items c.0 10) ∙ ap (λ rest. get_or rest c.0 10) (sym rest_is) ∙ c.2)
-
-  -- where no line feed is left, none is found
-  pub NoFeed_left : (shown : List ℕ) → shown ≡ items → ¬ Contains before.rest 10 → NoFeed shown start (length shown)
-  NoFeed_left shown reads none = subst (λ t. NoFeed t start (length t)) (sym reads) (λ place low high feed.
-      let there : start + (place - start) ≡ place = omega arith in
-      none (
-        place - start,
-        subst (λ rest. place - start < length rest) (sym rest_is) (omega (arith, length-drop start items)),
-        ap (λ rest. get_or rest (place - start) 10) rest_is ∙ get_or-drop start items (place - start) 10 ∙ ap (λ i. get_or items i 10) there
-            ∙ get_or_default items place 10 0 high ∙ feed,
-      ))
-
   -- no line feed from the start on, and nothing there at the end
   pub HasNoLine_from : NoFeed items start (length items) → (closed ≡ true → start ≡ length items) → HasNoLine before
-  HasNoLine_from none ended =
-      (no_feed_left none, λ e. rest_is ∙ drop_all start items (omega (arith, ended (ap (λ c. c.closed) same ∙ e))))
-
-  -- it was fed a piece
-  pub Represents_grown : (kept new piece text : List ℕ) (moved : ℕ) → moved ≡ 0 → kept ≡ drop start items → new ≡ kept ++ piece → before.closed ≡ false → Represents before text
-      → Represents (record { fed = fed + length piece; handed = handed; rest = drop moved new; closed = closed }) (text ++ piece)
-  Represents_grown kept new piece text moved at_front left grown goes_on represents =
-      subst (λ rest. Represents (record { fed = fed + length piece; handed = handed; rest = rest; closed = closed }) (text ++ piece))
-      (sym (ap (λ n. drop n new) at_front ∙ grown ∙ ap (λ k. k ++ piece) left))
-      (Represents_fed cutting text piece (ap (λ c. c.closed) same ∙ goes_on) (subst (λ c. Represents c text) (sym same) represents))
-
-  -- it left bytes out
-  pub Represents_cut : (new shown text : List ℕ) (moved end n : ℕ) → n ≡ line_limit + 1 → end ≡ start + n → end ≤ length items → moved ≡ start → new ≡ take end items → shown ≡ items
-      → NoFeed shown start (length shown) → Represents before text → Represents (record { fed = fed; handed = handed; rest = drop moved new; closed = closed }) text
-  Represents_cut new shown text moved end n more end_is within moved_is new_is reads none represents =
-      let plain = subst (λ rest. ¬ Contains rest 10) rest_is (no_feed_left (subst (λ t. NoFeed t start (length t)) reads none)) in
-      subst (λ rest. Represents (record { fed = fed; handed = handed; rest = rest; closed = closed }) text)
-      (sym (ap (λ k. drop k new) moved_is ∙ ap (drop start) (new_is ∙ ap (λ k. take k items) end_is) ∙ drop-take start n items))
-      (Represents_shortened cutting text (subst (λ c. Represents c text) (sym same) represents) n more (omega (arith, length-drop start items)) plain)
+  HasNoLine_from none ended = subst HasNoLine same (no_feed_left items start none, λ e. drop_all start items (omega (arith, ended e)))
 
   -- it hands out the line that ends at an index
   pub TakesLine_at : (shown : List ℕ) (end next : ℕ) → shown ≡ items → IsLineAt items closed start end next
@@ -217,11 +179,3 @@ module _ (before : Cutting) (items : List ℕ) (fed handed start : ℕ) (closed 
                   drop_all next items (omega (arith, at.1, at.2)),
                 )) is.ended;
           }
-
-  -- the lines of what it keeps
-  pub count_tail : (shown : List ℕ) (count : ℕ) → shown ≡ items → count ≡ length (lines (take (length shown - start) (drop start shown))) → count ≡ length (lines (drop start items))
-  count_tail shown count reads counts = counts ∙ ap (λ t. length (lines t)) (take_rest shown start ∙ ap (drop start) reads)
-
-  pub count_all : (count : ℕ) (text : List ℕ) → count ≡ length (lines (drop start items)) → Represents before text → handed + count ≡ length (lines text)
-  count_all count text counts represents =
-      ap (λ n. handed + n) counts ∙ ap (λ c. c.handed + length (lines c.rest)) same ∙ length_Represents before text represents

@@ -3,6 +3,7 @@ pub mod CheckLemmas
 pub mod CutterLemmas
 pub mod TextLemmas
 pub mod MaskLemmas
+pub mod MarkLemmas
 pub mod FeedLemmas
 pub mod CleanLemmas
 pub mod BlankLemmas

@@ -1,6 +1,7 @@
 //! The blanks of a line as the bits of a mask, found up to 64 bytes at a time.
 ghost use Rattle.std.specs.Prelude.{◌≡◌, ◌+◌, ◌<◌, ◌≤◌, length};
-ghost use Rattle.rma_lex.specs.inside.Blank.{MarksBlanks, MarksBetween};
+ghost use Rattle.rma_lex.specs.inside.Blank.{blank_at};
+ghost use Rattle.rma_lex.specs.inside.Mask.{Marks};
 ghost use Rattle.rma_lex.specs.Field.{is_blank};
 
 use std::simd::prelude::*;
@@ -16,7 +17,7 @@ pub(crate) fn is_blank(byte: u8) -> bool
 #[inline]
 pub(crate) fn blanks_of_block(line: &[u8], from: usize) -> u64
     requires { from + 64 ≤ length line.now }
-    ensures { MarksBlanks line.now from result }
+    ensures { Marks (blank_at line.now) from result from (from + 64) }
 {
     let bytes = u8x64::from_slice(&line[from..]);
     (bytes.simd_eq(u8x64::splat(b' ')) | bytes.simd_eq(u8x64::splat(b'\t'))).to_bitmask()
@@ -26,7 +27,7 @@ pub(crate) fn blanks_of_block(line: &[u8], from: usize) -> u64
 #[inline]
 pub(crate) fn blanks_of_short_line(line: &[u8]) -> u64
     requires { length line.now < 64 }
-    ensures { MarksBlanks line.now 0 result }
+    ensures { Marks (blank_at line.now) 0 result 0 64 }
 {
     let after = u64::MAX << line.len();
     if line.len() < 32 {
@@ -39,7 +40,7 @@ pub(crate) fn blanks_of_short_line(line: &[u8]) -> u64
 #[inline(never)]
 fn blanks_of_few(line: &[u8]) -> u64
     requires { length line.now < 32 }
-    ensures { MarksBetween line.now 0 (length line.now) result }
+    ensures { Marks (blank_at line.now) 0 result 0 (length line.now) }
 {
     if line.len() < 8 {
         blanks_one_by_one(line)
@@ -55,7 +56,7 @@ fn blanks_of_few(line: &[u8]) -> u64
 fn blanks_of_32(line: &[u8], from: usize) -> u64
     requires within { from + 32 ≤ length line.now }
     requires low { from ≤ 32 }
-    ensures { MarksBetween line.now from (from + 32) result }
+    ensures { Marks (blank_at line.now) 0 result from (from + 32) }
 {
     let bytes = u8x32::from_slice(&line[from..]);
     (bytes.simd_eq(u8x32::splat(b' ')) | bytes.simd_eq(u8x32::splat(b'\t'))).to_bitmask() << from
@@ -66,7 +67,7 @@ fn blanks_of_32(line: &[u8], from: usize) -> u64
 fn blanks_of_16(line: &[u8], from: usize) -> u64
     requires within { from + 16 ≤ length line.now }
     requires low { from ≤ 32 }
-    ensures { MarksBetween line.now from (from + 16) result }
+    ensures { Marks (blank_at line.now) 0 result from (from + 16) }
 {
     let bytes = u8x16::from_slice(&line[from..]);
     (bytes.simd_eq(u8x16::splat(b' ')) | bytes.simd_eq(u8x16::splat(b'\t'))).to_bitmask() << from
@@ -77,7 +78,7 @@ fn blanks_of_16(line: &[u8], from: usize) -> u64
 fn blanks_of_8(line: &[u8], from: usize) -> u64
     requires within { from + 8 ≤ length line.now }
     requires low { from ≤ 32 }
-    ensures { MarksBetween line.now from (from + 8) result }
+    ensures { Marks (blank_at line.now) 0 result from (from + 8) }
 {
     let bytes = u8x8::from_slice(&line[from..]);
     (bytes.simd_eq(u8x8::splat(b' ')) | bytes.simd_eq(u8x8::splat(b'\t'))).to_bitmask() << from
@@ -86,7 +87,7 @@ fn blanks_of_8(line: &[u8], from: usize) -> u64
 /// The blanks of a line of fewer than 64 bytes, looked at one by one: bit k is for index k.
 fn blanks_one_by_one(line: &[u8]) -> u64
     requires { length line.now < 64 }
-    ensures { MarksBetween line.now 0 (length line.now) result }
+    ensures { Marks (blank_at line.now) 0 result 0 (length line.now) }
 {
     let mut mask = 0;
     for (k, byte) in line.iter().enumerate() {

@@ -1,7 +1,8 @@
 //! The edges of a line: the positions where a field begins, and those before which one has ended.
 ghost use Rattle.std.specs.Prelude.{◌≡◌, ℕ, ◌+◌, ◌%◌, ◌^◌, ◌<◌, ◌≤◌, length};
 ghost use Rattle.std.specs.Int.{bit_at};
-ghost use Rattle.rma_lex.specs.inside.Edge.{IsNextEdge, MarksEdges};
+ghost use Rattle.rma_lex.specs.inside.Edge.{is_edge, IsNextEdge};
+ghost use Rattle.rma_lex.specs.inside.Mask.{Marks};
 
 use crate::blank::{blanks_of_block, blanks_of_short_line, is_blank};
 use crate::mask::{lowest, without_lowest};
@@ -85,7 +86,7 @@ fn edges_of_block(line: &[u8], from: usize, skipped: usize) -> u64
     requires inside { 0 < from }
     requires within { from + 64 ≤ length line.now }
     requires some { skipped < 64 }
-    ensures { MarksEdges line.now from skipped result }
+    ensures { Marks (is_edge line.now) from result (from + skipped) (from + 64) }
 {
     let before = u64::from(is_blank(line[from - 1]));
     edges_between(blanks_of_block(line, from), before) & (u64::MAX << skipped)

@@ -1,7 +1,8 @@
 //! What the lines of a text are, in other words.
-ghost use Rattle.std.specs.Prelude.{◌≡◌, ℕ, List, [], ◌∷◌, ◌++◌, ◌≤◌, ◌==◌, length, take, count_by, All, Contains, if◌then◌else◌};
+ghost use Rattle.std.specs.Prelude.{◌≡◌, ℕ, List, [], ◌∷◌, ◌++◌, ◌≤◌, ◌==◌, true, length, take, count_by, All, Contains, if◌then◌else◌};
 ghost use Rattle.rma_lex.specs.Line.{lines, joined, has_open_end};
 ghost use Rattle.rma_lex.specs.Checked.{checked_lines};
+ghost use Rattle.rma_lex.specs.Cutting.{Cutting, Represents};
 
 /// The lines of a text are the one list of lines without line feeds that makes the text, once each has its line
 /// feed. Where the text does not end in one, that is the text and one line feed more.
@@ -16,4 +17,12 @@ pub fn lines_make_the_text()
 pub fn checked_lines_stay()
     ensures as_many { (text : List ℕ) → length (checked_lines text) ≡ length (lines text) }
     ensures stay { (n : ℕ) (text more : List ℕ) → n ≤ count_by (λ byte. byte == 10) text → take n (checked_lines (text ++ more)) ≡ take n (checked_lines text) }
+{}
+
+/// The text that a cutter represents and the number of lines that it handed out determine all that it hands out from then
+/// on: two such cutters were fed as many bytes, and however the text goes on, if it still may, what is left for them are
+/// the same lines, good or bad.
+pub fn text_determines_what_is_left()
+    ensures fed { (one other : Cutting) (text : List ℕ) → Represents one text → Represents other text → one.fed ≡ other.fed }
+    ensures left { (one other : Cutting) (text more : List ℕ) → Represents one text → Represents other text → one.handed ≡ other.handed → one.closed ≡ other.closed → (one.closed ≡ true → more ≡ []) → checked_lines (one.rest ++ more) ≡ checked_lines (other.rest ++ more) }
 {}

@@ -1,10 +1,11 @@
 //! The line feeds of a text, found a block of 64 bytes at a time and handed out one by one.
 //!
 //! The same search looks at every byte, so that a line of bytes of texts alone needs no second look.
-ghost use Rattle.std.specs.Prelude.{◌≡◌, ◌↔◌, ℕ, ◌+◌, ◌<◌, ◌≤◌, List, length, drop, take, true, false, IsTrue, IfNone, IfSome};
+ghost use Rattle.std.specs.Prelude.{◌≡◌, ◌↔◌, ℕ, ◌+◌, ◌<◌, ◌≤◌, List, length, drop, take, true, false, IsTrue, IfNone, IfSome, slice_index};
 ghost use Rattle.std.specs.List.{list_all};
 ghost use Rattle.rma_lex.specs.inside.LineFeed.{NoFeed, IsFirstFeed, IsLineAt, MarksFeeds};
-ghost use Rattle.rma_lex.specs.inside.Clean.{is_clean_byte, IsClean, MarksClean};
+ghost use Rattle.rma_lex.specs.inside.Clean.{is_clean_byte, IsClean};
+ghost use Rattle.rma_lex.specs.inside.Mask.{Marks};
 
 use crate::mask::{lowest, without_lowest};
 use crate::text::is_text;
@@ -126,7 +127,7 @@ impl LineFeeds {
         self.base = self.seen;
         self.mask = feeds_of_tail(text, self.base);
         self.seen = text.len();
-        if !all_clean(&text[self.base..]) {
+        if !is_clean_tail(text, self.base) {
             self.doubtful = self.seen;
         }
     }
@@ -213,7 +214,7 @@ fn is_clean_block(text: &[u8], from: usize) -> bool
 #[inline]
 fn clean_of_block(text: &[u8], from: usize) -> u64
     requires { from + 64 ≤ length text.now }
-    ensures { MarksClean text.now from result }
+    ensures { Marks (λ place. is_clean_byte (slice_index text.now place)) from result from (from + 64) }
 {
     let bytes = u8x64::from_slice(&text[from..]);
     let tabs = bytes.simd_eq(u8x64::splat(b'\t')).to_bitmask();
@@ -221,6 +222,14 @@ fn clean_of_block(text: &[u8], from: usize) -> u64
     let from_space = bytes.simd_ge(u8x64::splat(b' ')).to_bitmask();
     let to_tilde = bytes.simd_le(u8x64::splat(b'~')).to_bitmask();
     tabs | from_space & to_tilde | feeds
+}
+
+/// Whether the bytes from an index on are all bytes of texts or line feeds.
+fn is_clean_tail(text: &[u8], from: usize) -> bool
+    requires { from ≤ length text.now }
+    ensures { result ≡ true → IsClean text.now from (length text.now) }
+{
+    all_clean(&text[from..])
 }
 
 /// Whether the bytes are all bytes of texts or line feeds.

@@ -1,7 +1,7 @@
 //! The fields of a line, one by one.
-ghost use Rattle.std.specs.Prelude.{◌≡◌, ◌<◌, ◌^◌, length, if◌then◌else◌};
+ghost use Rattle.std.specs.Prelude.{◌≡◌, ◌<◌, ◌^◌, length};
 ghost use Rattle.std.specs.Iterator.{YieldsFirstBy, item_count};
-ghost use Rattle.rma_lex.specs.inside.Blank.{blank_bit};
+ghost use Rattle.rma_lex.specs.inside.Blank.{blank_at};
 ghost use Rattle.rma_lex.specs.Field.{fields};
 ghost use Rattle.rma_lex.specs.Token.{field_of};
 
@@ -26,8 +26,8 @@ pub struct TokenIter<'a> {
 }
 
 impl<'a> Model for TokenIter<'a> {
-    ghost use Rattle.std.specs.Prelude.{List, ◌≡◌, ◌<◌, drop, length};
-    ghost use Rattle.rma_lex.specs.inside.Blank.{blank_bit};
+    ghost use Rattle.std.specs.Prelude.{List, ◌≡◌, ◌<◌, drop, false, length};
+    ghost use Rattle.rma_lex.specs.inside.Blank.{blank_at};
     ghost use Rattle.rma_lex.specs.Field.{Field, fields_from};
     ghost use Rattle.rma_lex.specs.inside.Reached.{Reaches};
 
@@ -35,7 +35,7 @@ impl<'a> Model for TokenIter<'a> {
 
     ghost view = { λ tokens. fields_from tokens.edges.place (drop tokens.edges.place tokens.edges.line.now) };
 
-    ghost invariant = { λ tokens. Reaches tokens.edges × (tokens.edges.place < length tokens.edges.line.now → blank_bit tokens.edges.line.now tokens.edges.place ≡ 0) };
+    ghost invariant = { λ tokens. Reaches tokens.edges × (tokens.edges.place < length tokens.edges.line.now → blank_at tokens.edges.line.now tokens.edges.place ≡ false) };
 }
 
 /// The fields of the line, in order.
@@ -54,7 +54,7 @@ pub fn tokens(line: &[u8]) -> TokenIter<'_>
 /// Whether no field begins at the beginning of the line.
 #[inline]
 fn begins_blank(line: &[u8]) -> bool
-    ensures { (if result then 1 else 0) ≡ blank_bit line.now 0 }
+    ensures { result ≡ blank_at line.now 0 }
 {
     match line.first() {
         Some(byte) => is_blank(*byte),

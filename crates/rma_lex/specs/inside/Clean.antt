@@ -1,6 +1,5 @@
 -- Bytes that need no second look.
-use Rattle.std.specs.Prelude.{◌≡◌, ◌↔◌, ℕ, ◌+◌, ◌<◌, ◌≤◌, ◌==◌, ◌||◌, Bool, true, List, slice_index}
-use Rattle.std.specs.Int.{bit_at}
+use Rattle.std.specs.Prelude.{◌≡◌, ℕ, ◌<◌, ◌≤◌, ◌==◌, ◌||◌, Bool, true, List, slice_index}
 use Rattle.rma_lex.specs.Text.{is_text_byte}
 
 -- a byte of a text, or a line feed
@@ -10,7 +9,3 @@ is_clean_byte byte = is_text_byte byte || byte == 10
 -- all bytes from one index up to another are such bytes
 abbrev pub IsClean : List ℕ → ℕ → ℕ → Type 0
 IsClean text from to = (place : ℕ) → from ≤ place → place < to → is_clean_byte (slice_index text place) ≡ true
-
--- bit k of the mask is set where the k-th of 64 bytes, from 0, is such a byte
-abbrev pub MarksClean : List ℕ → ℕ → ℕ → Type 0
-MarksClean text from mask = (k : ℕ) → k < 64 → (bit_at mask k ≡ 1) ↔ (is_clean_byte (slice_index text (from + k)) ≡ true)

@@ -1,5 +1,5 @@
 -- Bits of a mask.
-use Rattle.std.specs.Prelude.{◌≡◌, ◌≢◌, ℕ, ◌<◌}
+use Rattle.std.specs.Prelude.{◌≡◌, ◌≢◌, ◌↔◌, ℕ, ◌+◌, ◌<◌, ◌≤◌, Bool, true}
 use Rattle.std.specs.Int.{bit_at}
 
 -- the bit is set, and none below it
@@ -11,3 +11,7 @@ pub record IsLowestBit (mask low : ℕ) : Type 0 where
 pub record DropsBit (mask bit left : ℕ) : Type 0 where
   pub dropped : bit_at left bit ≡ 0
   pub kept : (k : ℕ) → k ≢ bit → bit_at left k ≡ bit_at mask k
+
+-- the marks are the places from one up to another that pass a test: bit k is for the place `base + k`
+abbrev pub Marks : (ℕ → Bool) → ℕ → ℕ → ℕ → ℕ → Type 0
+Marks test base mask from to = (k : ℕ) → (bit_at mask k ≡ 1) ↔ ((from ≤ base + k) × (base + k < to) × (test (base + k) ≡ true))

@@ -1,11 +1,6 @@
 use Rattle.std.proofs.Common.{arith}
-use Rattle.std.specs.Simd.Lanes.{chunk}
-use Rattle.std.proofs.lemmas.Simd.{length-chunk}
-use Rattle.rma_lex.proofs.BlankLemmas.{blank_lanes, MarksBetween_lanes}
+use Rattle.rma_lex.proofs.BlankLemmas.{Marks_blanks_moved}
 use Rattle.rma_lex.proofs.blank.blanks_of_32.Goals as goal
 
 pub returns : goal.returns
-returns c =
-    let line = c.args.line.now in
-    let from = c.args.from in
-    MarksBetween_lanes line from 32 _ c.requires.within (omega arith) (blank_lanes (chunk from 32 line) 32 (length-chunk from 32 line c.requires.within) (omega arith))
+returns c = Marks_blanks_moved c.args.line.now c.args.from 32 c.requires.within (omega arith)

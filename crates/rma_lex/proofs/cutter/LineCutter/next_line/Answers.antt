@@ -1,20 +1,14 @@
 use Rattle.std.proofs.Common.{◌≡◌, ◌+◌, true, Some, refl, sym, ap, subst, ◌∙◌, length, ℕ, drop}
 use Rattle.rma_lex.specs.Cutting.{Cutting, Represents}
-use Rattle.rma_lex.specs.inside.LineFeed.{NoFeed, IsLineAt}
-use Rattle.rma_lex.specs.inside.Found.{Knows}
 use Rattle.rma_lex.proofs.CutterLemmas.{TakesLine_at, HasNoLine_from, Represents_taken, slice_get_next, handed_all, some_line}
 use Rattle.rma_lex.proofs.CleanLemmas.{clean_line}
 use Rattle.rma_lex.proofs.cutter.LineCutter.next_line.Goals as goal
 
 pub checked-requires : goal.checked-requires
 checked-requires c =
-    let inside = c.self.inside in
-    let start = inside.feeds.start in
-    let end = c.in-Some.end in
-    let new = c.next_end.new.self in
-    let is = subst (λ t. IsLineAt t inside.closed start end new.start) c.deref.ensures.value c.in-Some.ensures.some in
-    let knows = subst (λ t. Knows new t) c.deref.ensures.value c.in-Some.ensures.knows in
-    clean_line new inside.text.items c.deref-in-Some.result.now start end inside.closed knows c.deref-in-Some.ensures.value is
+    let is = rw c.deref.ensures.value at c.in-Some.ensures.some in
+    let knows = rw c.deref.ensures.value at c.in-Some.ensures.knows in
+    rw c.deref-in-Some.ensures.value (clean_line c.next_end.new.self c.self.inside.text.items c.self.inside.feeds.start c.in-Some.end c.self.inside.closed knows is)
 
 pub returns-in-Some : goal.returns-in-Some
 returns-in-Some c =
@@ -23,7 +17,7 @@ returns-in-Some c =
     let start = inside.feeds.start in
     let end = c.in-Some.end in
     let next = c.next_end.new.self.start in
-    let is = subst (λ t. IsLineAt t inside.closed start end next) c.deref.ensures.value c.in-Some.ensures.some in
+    let is = rw c.deref.ensures.value at c.in-Some.ensures.some in
     let takes = TakesLine_at before inside.text.items inside.fed inside.handed start inside.closed c.self.view_is c.deref-in-Some.result.now end next c.deref-in-Some.ensures.value is in (
       (refl, λ _. tt, record { line = record { line = _; ended = _; takes = takes; content_is = c.checked.ensures.content }; text = λ text represents. Represents_taken _ _ _ _ text takes represents }),
       record {
@@ -39,7 +33,7 @@ pub returns-in-None : goal.returns-in-None
 returns-in-None c =
     let inside = c.self.inside in
     let start = inside.feeds.start in
-    let none = subst (λ t. NoFeed t start (length t)) c.deref.ensures.value c.in-None.ensures.none.0 in
+    let none = rw c.deref.ensures.value at c.in-None.ensures.none.0 in
     let ended = λ (e : inside.closed ≡ true). c.in-None.ensures.none.1 e ∙ ap length c.deref.ensures.value in
     let empty = HasNoLine_from c.args.self.now inside.text.items inside.fed inside.handed start inside.closed c.self.view_is none ended in
     let with_start = λ (at : ℕ). let cutting : Cutting = record { fed = inside.fed; handed = inside.handed; rest = drop at inside.text.items; closed = inside.closed } in cutting in
