@@ -1,18 +1,14 @@
-use Rattle.std.proofs.Common.{◌≡◌, List, [], length, ◌∙◌, sym, ap, subst, arith}
+use Rattle.std.proofs.Common.{◌<◌, length, arith}
 use Rattle.std.proofs.lemmas.Bool.Decides.{nat_tests}
 use Rattle.std.proofs.lemmas.List.{nil_from_length}
-use Rattle.rma_bytes.specs.declared.run.Run.{Run}
-use Rattle.rma_bytes.specs.Runs.{HasByte, IsCanonical}
-use Rattle.rma_bytes.proofs.IndexLemmas.{no_byte}
+use Rattle.rma_bytes.proofs.IndexLemmas.{first_byte}
 use Rattle.rma_bytes.proofs.runs.Runs.is_empty.Goals as goal
 
 pub returns-clause-bytes : goal.returns-clause-bytes
-returns-clause-bytes c = (
-  λ yes b has. (let zero : length c.self.inside.runs.items ≡ 0 = grind (arith, nat_tests) in
-      let none : c.args.self.now ≡ [] = sym c.self.view_is ∙ nil_from_length c.self.inside.runs.items zero in
-      subst (λ (l : List Run). HasByte l b) none has),
-  λ none. (let empty : c.self.inside.runs.items ≡ [] =
-      c.self.view_is ∙ no_byte c.args.self.now (subst IsCanonical c.self.view_is c.self.invariant) none in
-      let zero : length c.self.inside.runs.items ≡ 0 = ap length empty in
-      grind (arith, nat_tests)),
+returns-clause-bytes c = rw (← c.self.view_is) (
+  λ yes b has. rw (nil_from_length c.self.inside.runs.items (grind (arith, nat_tests))) at has,
+  λ none.
+      let no_byte : 0 < length c.self.inside.runs.items → ⊥ =
+      λ some. (let byte = first_byte c.self.inside.runs.items c.self.invariant some in none byte.0 byte.1) in
+      grind (arith, nat_tests),
 )
