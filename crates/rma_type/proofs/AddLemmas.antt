@@ -1,21 +1,8 @@
 -- A datatype more in a table.
-use Rattle.std.proofs.Common.{◌≡◌, ℕ, zero, suc, ◌<◌, ◌^◌, ◌+◌, List, [], ◌∷◌, ◌++◌, fold, length, slice_get, slice_index_or, Some, inl, inr, ⊎_elim, ◌⊎◌, refl, sym, ap, subst, ◌∙◌, arith}
-use Rattle.std.proofs.lemmas.List.{length-map, map-append, get_or_append_left, get_or_at, length_push}
-use Rattle.std.proofs.lemmas.List.Sums.{fold_push}
+use Rattle.std.proofs.Common.{◌≡◌, ℕ, zero, suc, ◌<◌, ◌^◌, ◌+◌, List, [], ◌∷◌, ◌++◌, fold, length, slice_get, Some, inl, inr, ⊎_elim, ◌⊎◌, refl, sym, ap, ◌∙◌, arith}
+use Rattle.rma_type.proofs.Words.{length-map, map-append, get_or_append_left, get_or_at, length_push, fold_push, Basic, signature, SigRun, TypeId, HasSignature, Kept, Inside, Origin, Typemap, typemaps, typemap_of, with_typemap, id_of, IsKept, IsTable, origins_of}
 use Rattle.std.specs.Prelude.{Vec}
 use Rattle.std.specs.declared.alloc.Global.{Global}
-use Rattle.rma_datatype.specs.declared.basic.Basic.{Basic}
-use Rattle.rma_typemap.specs.Bounds.{signature}
-use Rattle.rma_type.specs.declared.sig_run.SigRun.{SigRun}
-use Rattle.rma_type.specs.declared.id.TypeId.{TypeId}
-use Rattle.rma_type.specs.inside.SignatureSource.{HasSignature}
-use Rattle.rma_type.specs.declared.table.Kept.{Kept}
-use Rattle.rma_type.specs.declared.table.TypeTable.TheInside.{Inside}
-use Rattle.rma_type.specs.declared.origin.Origin.{Origin}
-use Rattle.rma_typemap.specs.Typemap.{Typemap}
-use Rattle.rma_type.specs.Table.{typemaps, typemap_of, with_typemap}
-use Rattle.rma_type.specs.Names.{id_of}
-use Rattle.rma_type.specs.inside.Kept.{IsKept, IsTable, origins_of}
 use Rattle.rma_type.proofs.TableLemmas.{Each}
 
 abbrev Live : Type 0
@@ -46,18 +33,12 @@ pub HasSignature_stays : (old new : Signatures) (basics : List Basic) (i : ℕ) 
 HasSignature_stays old new basics i stay h = record { runs = h.runs; at = stay i h.runs h.at; represents = h.represents }
 
 pub IsTable_same : (t u : Inside) → u.types.items ≡ t.types.items → u.live.entries ≡ t.live.entries → StayIn t.signatures.items u.signatures.items → IsTable t → IsTable u
-IsTable_same t u e f stay h =
-    let P : List Kept → Type 0 = λ items. Each (λ parts n kept. IsKept parts n kept.origin kept.summary) items in
-    let G : List Kept → Type 0 = λ items. Each (λ parts n kept. HasSignature u.signatures.items (signature parts) kept.signature) items in
-    let Q : Live → Type 0 = λ live. AllWithin t.types.items live in
-    let R : List Kept → Type 0 = λ items. AllWithin items u.live.entries in
-    let S : List Kept → Type 0 = λ items. length items < 2 ^ 32 in
-    record {
-      each = subst P (sym e) h.each;
-      signed = subst G (sym e) (λ n kept at. HasSignature_stays t.signatures.items u.signatures.items _ kept.signature stay (h.signed n kept at));
-      ids = subst R (sym e) (subst Q (sym f) h.ids);
-      small = subst S (sym e) h.small;
-    }
+IsTable_same t u e f stay h = record {
+  each = rw e h.each;
+  signed = rw e (λ n kept at. HasSignature_stays t.signatures.items u.signatures.items _ kept.signature stay (h.signed n kept at));
+  ids = rw (e, f) h.ids;
+  small = rw e h.small;
+}
 
 length_typemaps_from : (maps : List Typemap) (os : List Origin) → length (fold with_typemap maps os) ≡ length maps + length os
 length_typemaps_from maps [] = omega arith
@@ -83,19 +64,10 @@ Each_push F items kept new each n k at =
     let count = length-map items (λ (x : Kept). x.origin) in
     let maps = length_typemaps os in
     let pushed : origins_of (items ++ kept ∷ []) ≡ os ++ kept.origin ∷ [] = map-append (λ (x : Kept). x.origin) items (kept ∷ []) in
-    let shape = ap typemaps pushed ∙ typemaps_push os kept.origin in
-    let Q : List Typemap → Type 0 = λ ms. F (slice_index_or ms n []) n k in
-    let R : Typemap → Type 0 = λ parts. F parts n k in
-    subst Q (sym shape)
+    rw (pushed, typemaps_push os kept.origin)
     (⊎_elim
-    (λ p.
-    let within = p.0 in
-    subst R (sym (get_or_append_left (typemaps os) (typemap_of (typemaps os) kept.origin ∷ []) [] n (omega arith))) (each n k p.1))
-    (λ q.
-    let here : length (typemaps os) ≡ n = maps ∙ count ∙ sym q.0 in
-    let S : ℕ → Type 0 = λ m. F (typemap_of (typemaps os) kept.origin) m k in
-    let T : Kept → Type 0 = λ x. F (typemap_of (typemaps os) kept.origin) (length items) x in
-    subst R (sym (get_or_at (typemaps os) (typemap_of (typemaps os) kept.origin) [] [] n here)) (subst S (sym q.0) (subst T (sym q.1) new)))
+    (λ p. let within = p.0 in rw (get_or_append_left (typemaps os) (typemap_of (typemaps os) kept.origin ∷ []) [] n (omega arith)) (each n k p.1))
+    (λ q. rw (get_or_at (typemaps os) (typemap_of (typemaps os) kept.origin) [] [] n (maps ∙ count ∙ sym q.0), q.0, q.1) new)
     (slice_get_push items kept n k at))
 
 pub IsTable_added : (t u : Inside) (kept : Kept) (id : TypeId) → IsTable t → length t.types.items + 1 < 2 ^ 32 →
@@ -110,12 +82,10 @@ IsTable_added t u kept id h room e number live new stay signed =
     let long = ap length e ∙ length_push items kept in
     let F : Typemap → ℕ → Kept → Type 0 = λ parts n k. IsKept parts n k.origin k.summary in
     let G : Typemap → ℕ → Kept → Type 0 = λ parts n k. HasSignature u.signatures.items (signature parts) k.signature in
-    let P : List Kept → Type 0 = λ xs. Each F xs in
-    let Q : List Kept → Type 0 = λ xs. Each G xs in
     let before : Each G items = λ n k at. HasSignature_stays t.signatures.items u.signatures.items _ k.signature stay (h.signed n k at) in
     record {
-      each = subst P (sym e) (Each_push F items kept new h.each);
-      signed = subst Q (sym e) (Each_push G items kept signed before);
+      each = rw e (Each_push F items kept new h.each);
+      signed = rw e (Each_push G items kept signed before);
       ids = λ name other at. ⊎_elim (λ p. let n = ap (λ (i : TypeId). i.0) p in omega arith) (λ q. let lt = h.ids name other q in omega arith) (live name other at);
       small = omega arith;
     }

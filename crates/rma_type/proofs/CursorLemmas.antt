@@ -1,13 +1,7 @@
 -- Places in copies of runs, and what begins with what.
-use Rattle.std.proofs.Common.{◌≡◌, ◌≢◌, ℕ, zero, suc, ◌+◌, ◌-◌, ◌*◌, ◌<◌, ◌≤◌, ◌↔◌, List, [], ◌∷◌, ◌++◌, length, get_or, drop, replicate, Option, Some, None, refl, sym, ap, subst, ◌∙◌, arith}
-use Rattle.std.proofs.lemmas.List.{append-nil, append_assoc, replicate-append-replicate}
-use Rattle.rma_datatype.specs.declared.basic.Basic.{Basic}
-use Rattle.rma_typemap.specs.Signature.{copies}
+use Rattle.std.proofs.Common.{◌≡◌, ◌≢◌, ℕ, zero, suc, ◌+◌, ◌-◌, ◌*◌, ◌<◌, ◌≤◌, ◌↔◌, List, [], ◌∷◌, ◌++◌, length, get_or, drop, replicate, Option, Some, None, refl, sym, ap, ◌∙◌, arith}
+use Rattle.rma_type.proofs.Words.{append-nil, append_assoc, replicate-append-replicate, Basic, copies, SigRun, Cursor, basics_of, spread, BeginsWith, rest_from, rest_at, IsCursor, append_cancel_left}
 use Rattle.rma_typemap.proofs.SignatureLemmas.{copies_zero, copies_suc, copies_nil, copies_replicate}
-use Rattle.rma_type.specs.declared.sig_run.SigRun.{SigRun}
-use Rattle.rma_type.specs.declared.prefix.Cursor.{Cursor}
-use Rattle.rma_type.specs.Signature.{basics_of, spread, BeginsWith}
-use Rattle.rma_type.specs.inside.Cursor.{rest_from, rest_at, IsCursor}
 use Rattle.rma_type.proofs.RunLemmas.{no_run}
 
 -- ---- what follows from a cursor on
@@ -34,39 +28,27 @@ rest_again [] next more past some there = absurd (omega arith)
 rest_again (run ∷ runs) next zero past some there = absurd (omega arith)
 rest_again (run ∷ runs) next (suc more) past some there =
     let one_less : suc more - 1 ≡ more = omega arith in
-    ap (λ n. basics_of run ++ (spread runs ++ copies n (spread (run ∷ runs)))) one_less
-    ∙ sym (append_assoc (basics_of run) (spread runs) (copies more (spread (run ∷ runs))))
-    ∙ sym (copies_suc more (spread (run ∷ runs)))
-    ∙ sym (rest_past (run ∷ runs) next (suc more) past)
+    rw (rest_past (run ∷ runs) next (suc more) past, copies_suc more (spread (run ∷ runs)), one_less) (sym (append_assoc (basics_of run) (spread runs) (copies more (spread (run ∷ runs)))))
 
 pub rest_of_one : (runs : List SigRun) (count : ℕ) → length runs ≡ 1 →
     replicate (count * (get_or runs 0 no_run).count) (get_or runs 0 no_run).basic ++ rest_from runs 1 0 ≡ copies count (spread runs)
 rest_of_one [] count h = absurd (omega arith)
 rest_of_one (run ∷ []) count h =
-    ap (λ xs. replicate (count * run.count) run.basic ++ xs) (copies_zero (spread (run ∷ [])))
-    ∙ append-nil (replicate (count * run.count) run.basic)
-    ∙ sym (copies_replicate count run.count run.basic)
-    ∙ ap (copies count) (sym (append-nil (basics_of run)))
+    rw (copies_zero (spread (run ∷ [])), append-nil (replicate (count * run.count) run.basic), append-nil (basics_of run)) (sym (copies_replicate count run.count run.basic))
 rest_of_one (run ∷ other ∷ runs) count h = absurd (omega arith)
 
 pub part_left : (shared left : ℕ) (basic : Basic) (rest : List Basic) → shared ≤ left →
     replicate left basic ++ rest ≡ replicate shared basic ++ (replicate (left - shared) basic ++ rest)
 part_left shared left basic rest h =
     let all : left ≡ shared + (left - shared) = omega arith in
-    ap (λ n. replicate n basic ++ rest) all
-    ∙ ap (λ xs. xs ++ rest) (sym (replicate-append-replicate shared (left - shared) basic))
-    ∙ append_assoc (replicate shared basic) (replicate (left - shared) basic) rest
+    ap (λ n. replicate n basic ++ rest) all ∙ rw (← replicate-append-replicate shared (left - shared) basic) (append_assoc (replicate shared basic) (replicate (left - shared) basic) rest)
 
 -- ---- what begins with what
-
-same_after : (n : ℕ) (basic : Basic) (xs ys : List Basic) → replicate n basic ++ xs ≡ replicate n basic ++ ys → xs ≡ ys
-same_after zero basic xs ys e = e
-same_after (suc n) basic xs ys e = same_after n basic xs ys cc
 
 pub begins_after : (n : ℕ) (basic : Basic) (whole prefix : List Basic) →
     BeginsWith (replicate n basic ++ whole) (replicate n basic ++ prefix) ↔ BeginsWith whole prefix
 begins_after n basic whole prefix = (
-  λ h. (h.0, same_after n basic whole (prefix ++ h.0) (h.1 ∙ append_assoc (replicate n basic) prefix h.0)),
+  λ h. (h.0, append_cancel_left (replicate n basic) whole (prefix ++ h.0) (h.1 ∙ append_assoc (replicate n basic) prefix h.0)),
   λ h. (h.0, ap (λ xs. replicate n basic ++ xs) h.1 ∙ sym (append_assoc (replicate n basic) prefix h.0)),
 )
 
@@ -91,17 +73,13 @@ module _ (whole prefix : List SigRun) where
 
   pub ends_early : (there sought : Option Cursor) (wanted : Cursor) → there ≡ None → sought ≡ Some wanted → IsCursor sought → RestBegins there sought → ⊥
   ends_early there sought wanted none some cursor h =
-      let P : Option Cursor → Type 0 = λ o. RestBegins o sought in
-      let Q : Option Cursor → Type 0 = λ o. RestBegins None o in
-      nothing_begins wanted.left wanted.basic (rest_from prefix wanted.next wanted.more) (subst IsCursor some cursor) (subst Q some (subst P none h))
+      nothing_begins wanted.left wanted.basic (rest_from prefix wanted.next wanted.more) (rw some at cursor) (rw (none, some) at h)
 
   pub goes_other : (there sought : Option Cursor) (found wanted : Cursor) → there ≡ Some found → sought ≡ Some wanted → IsCursor there → IsCursor sought → found.basic ≢ wanted.basic →
       RestBegins there sought → ⊥
   goes_other there sought found wanted is some p q other h =
-      let P : Option Cursor → Type 0 = λ o. RestBegins o sought in
-      let Q : Option Cursor → Type 0 = λ o. RestBegins (Some found) o in
       begins_other found.left wanted.left found.basic wanted.basic (rest_from whole found.next found.more) (rest_from prefix wanted.next wanted.more)
-      (subst IsCursor is p) (subst IsCursor some q) other (subst Q some (subst P is h))
+      (rw is at p) (rw some at q) other (rw (is, some) at h)
 
   pub goes_on : (there sought later_there later_sought : Option Cursor) (found wanted : Cursor) (shared : ℕ) → there ≡ Some found → sought ≡ Some wanted → found.basic ≡ wanted.basic →
       rest_at whole (Some found) ≡ replicate shared found.basic ++ rest_at whole later_there →
@@ -111,11 +89,7 @@ module _ (whole prefix : List SigRun) where
       let left = ap (rest_at whole) is ∙ e in
       let right = ap (rest_at prefix) some ∙ f ∙ ap (λ b. replicate shared b ++ rest_at prefix later_sought) (sym same) in
       let steps = begins_after shared found.basic (rest_at whole later_there) (rest_at prefix later_sought) in
-      let P : List Basic → Type 0 = λ xs. BeginsWith xs (rest_at prefix sought) in
-      let Q : List Basic → Type 0 = λ ys. BeginsWith (replicate shared found.basic ++ rest_at whole later_there) ys in
-      (λ h. steps.0 (subst Q right (subst P left h)), λ h. subst P (sym left) (subst Q (sym right) (steps.1 h)))
+      (λ h. steps.0 (rw (left, right) at h), λ h. rw (left, right) (steps.1 h))
 
   pub is_through : (there sought : Option Cursor) → sought ≡ None → RestBegins there sought
-  is_through there sought none =
-      let P : Option Cursor → Type 0 = λ o. RestBegins there o in
-      subst P (sym none) (begins_with_nothing (rest_at whole there))
+  is_through there sought none = rw none (begins_with_nothing (rest_at whole there))

@@ -1,29 +1,10 @@
 -- Tables of basic datatypes.
 use Rattle.std.proofs.Common.{◌≡◌, ℕ, zero, suc, ◌+◌, ◌<◌, ◌≤◌, pos, Bool, true, false, not, List, [], ◌∷◌, ◌++◌, map, length, take, get_or, nat_eq, Option, Some, None, if◌then◌else◌, refl, sym, ap, ◌∙◌, arith}
-use Rattle.std.specs.List.{list_all}
+use Rattle.rma_type.proofs.Words.{list_all, map-append, length-map, length-take-le, take_more, element_limit, Basic, basic_word, SignedChar, TypeId, Summary, Inside, Origin, element, entry_count, is_all_in_space, summary, Table, id_of, IsKept, table_of, IsWithBasic, words_from, table_of_basics, words_differ, not-true, list_all_at}
 use Rattle.std.specs.Cmp.Lexicographic.{pointwise}
-use Rattle.std.proofs.lemmas.List.{map-append, length-map, length-take-le, take_more}
-use Rattle.rma_base.specs.Limits.{element_limit}
 use Rattle.indexmap.specs.IndexMap.{insert_entry}
-use Rattle.rma_datatype.specs.declared.basic.Basic.{Basic}
-use Rattle.rma_datatype.specs.Basic.{basic_word}
-use Rattle.rma_datatype.specs.declared.basic.Basic.TheVariants.{SignedChar}
-use Rattle.rma_type.specs.declared.id.TypeId.{TypeId}
-use Rattle.rma_typemap.specs.declared.summary.Summary.{Summary}
-use Rattle.rma_type.specs.declared.table.TypeTable.TheInside.{Inside}
-use Rattle.rma_type.specs.declared.table.Kept.{Kept}
-use Rattle.rma_type.specs.declared.origin.Origin.{Origin}
 use Rattle.rma_type.specs.declared.origin.Origin.TheVariants as origin
-use Rattle.rma_typemap.specs.Typemap.{element}
-use Rattle.rma_typemap.specs.Bounds.{entry_count}
-use Rattle.rma_typemap.specs.Space.{is_all_in_space}
-use Rattle.rma_typemap.specs.inside.Summary.{summary}
-use Rattle.rma_type.specs.Table.{Table}
-use Rattle.rma_type.specs.Names.{id_of}
-use Rattle.rma_type.specs.inside.Kept.{IsKept, origins_of, table_of}
-use Rattle.rma_type.specs.inside.Put.{IsWithBasic}
-use Rattle.rma_type.specs.FirstTable.{words_from, table_of_basics}
-use Rattle.rma_type.specs.inside.Words.{words_differ}
+use Rattle.std.proofs.lemmas.Bool.{true_from_ne_false}
 use Rattle.rma_base.proofs.NameLemmas.{and_left, and_right}
 
 -- ---- one element
@@ -45,14 +26,9 @@ IsKept_single b n o e = record { summary_is = e; in_space = single_in_space b; f
 abbrev table : List Origin → List Bool → List (List ℕ × TypeId) → Table
 table origins committed live = record { origins = origins; committed = committed; live = live }
 
-abbrev numbered : ℕ → TypeId
-numbered n = record { 0 = n }
-
 pub table_of_empty : (t : Inside) → t.types.items ≡ [] → t.live.entries ≡ [] → table_of t ≡ table_of_basics []
 unfolding table_of_basics
-table_of_empty t e f =
-    ap (λ (ks : List Kept). table (origins_of ks) (map (λ (k : Kept). k.committed) ks) t.live.entries) e
-    ∙ ap (λ live. table [] [] live) f
+table_of_empty t e f = rw (e, f)
 
 -- ---- one more basic datatype
 
@@ -74,30 +50,20 @@ words_from_push n (x ∷ xs) b id e = ap (λ es. (basic_word x, record { 0 = n }
 pub table_of_basics_push : (old new : Table) (bs : List Basic) (b : Basic) → old ≡ table_of_basics bs → id_of (words_from 0 bs) (basic_word b) ≡ None → IsWithBasic old new b → new ≡ table_of_basics (bs ++ b ∷ [])
 unfolding table_of_basics
 table_of_basics_push old new bs b e fresh h =
-    let origins : new.origins ≡ map origin.Basic (bs ++ b ∷ []) =
-    h.origins ∙ ap (λ (t : Table). t.origins ++ origin.Basic b ∷ []) e ∙ sym (map-append origin.Basic bs (b ∷ [])) in
-    let committed : new.committed ≡ map (λ (x : Basic). true) (bs ++ b ∷ []) =
-    h.commits ∙ ap (λ (t : Table). t.committed ++ true ∷ []) e ∙ sym (map-append (λ (x : Basic). true) bs (b ∷ [])) in
+    let origins : new.origins ≡ map origin.Basic (bs ++ b ∷ []) = rw (h.origins, e, map-append origin.Basic bs (b ∷ [])) in
+    let committed : new.committed ≡ map (λ (x : Basic). true) (bs ++ b ∷ []) = rw (h.commits, e, map-append (λ (x : Basic). true) bs (b ∷ [])) in
     let id : TypeId = record { 0 = length old.origins } in
     let number : id.0 ≡ 0 + length bs = ap (λ (t : Table). length t.origins) e ∙ length-map bs origin.Basic ∙ omega arith in
     let live : new.live ≡ words_from 0 (bs ++ b ∷ []) =
     h.entries ∙ ap (λ (t : Table). insert_entry (pointwise nat_eq) t.live (basic_word b) id) e
     ∙ insert_fresh (words_from 0 bs) (basic_word b) id fresh
     ∙ sym (words_from_push 0 bs b id number) in
-    ap (λ os. table os new.committed new.live) origins
-    ∙ ap (λ cs. table (map origin.Basic (bs ++ b ∷ [])) cs new.live) committed
-    ∙ ap (λ es. table (map origin.Basic (bs ++ b ∷ [])) (map (λ (x : Basic). true) (bs ++ b ∷ [])) es) live
+    let all : table new.origins new.committed new.live ≡ table_of_basics (bs ++ b ∷ []) = rw (origins, committed, live) in all
 
 -- ---- words that differ
 
-not_true : (a : Bool) → not a ≡ true → a ≡ false
-not_true true h = sym h
-not_true false h = refl
-
 holds_at : (p : Basic → Bool) (bs : List Basic) (i : ℕ) (d : Basic) → list_all p bs ≡ true → i < length bs → p (get_or bs i d) ≡ true
-holds_at p [] i d h lt = absurd (omega arith)
-holds_at p (b ∷ bs) zero d h lt = and_left (p b) (list_all p bs) h
-holds_at p (b ∷ bs) (suc i) d h lt = holds_at p bs i d (and_right (p b) (list_all p bs) h) (omega arith)
+holds_at p bs i d h lt = true_from_ne_false (p (get_or bs i d)) (λ e. let none = list_all_at p bs i d lt e in cc)
 
 pub word_is_fresh : (n : ℕ) (bs : List Basic) (i : ℕ) (d : Basic) → words_differ bs ≡ true → i < length bs → id_of (words_from n (take i bs)) (basic_word (get_or bs i d)) ≡ None
 word_is_fresh n [] i d h lt = absurd (omega arith)
@@ -106,9 +72,8 @@ word_is_fresh n (b ∷ bs) (suc i) d h lt =
     let differ = λ (later : Basic). not (pointwise nat_eq (basic_word later) (basic_word b)) in
     let at = get_or bs i d in
     let other : pointwise nat_eq (basic_word at) (basic_word b) ≡ false =
-    not_true (pointwise nat_eq (basic_word at) (basic_word b)) (holds_at differ bs i d (and_left (list_all differ bs) (words_differ bs) h) (omega arith)) in
-    ap (λ (t : Bool). if t then Some (numbered n) else id_of (words_from (n + 1) (take i bs)) (basic_word at)) other
-    ∙ word_is_fresh (n + 1) bs i d (and_right (list_all differ bs) (words_differ bs) h) (omega arith)
+    not-true (pointwise nat_eq (basic_word at) (basic_word b)) (holds_at differ bs i d (and_left (list_all differ bs) (words_differ bs) h) (omega arith)) in
+    rw other (word_is_fresh (n + 1) bs i d (and_right (list_all differ bs) (words_differ bs) h) (omega arith))
 
 pub length_basics : (bs : List Basic) (i : ℕ) → i ≤ length bs → length (table_of_basics (take i bs)).origins ≡ i
 unfolding table_of_basics

@@ -1,25 +1,9 @@
 -- The old datatypes of a constructor.
-use Rattle.std.proofs.Common.{◌≡◌, ℕ, zero, suc, ◌<◌, ◌*◌, List, [], ◌∷◌, All, length, get_or, map, Option, Some, None, is_some, true, refl, sym, ap, ◌∙◌, arith}
-use Rattle.std.specs.List.{cons_option}
-use Rattle.std.proofs.lemmas.Bool.{false≢true}
-use Rattle.rma_datatype.specs.declared.make.Member.{Member}
-use Rattle.rma_datatype.specs.declared.make.Make.{Make}
-use Rattle.rma_datatype.specs.declared.make.Make.TheVariants.{Contiguous, Vector, Hvector, Indexed, Hindexed, IndexedBlock, Struct, Resized, Subarray}
-use Rattle.rma_type.specs.declared.id.TypeId.{TypeId}
-use Rattle.rma_type.specs.declared.origin.Origin.{Origin}
-use Rattle.rma_type.specs.declared.origin.Origin.TheVariants.{Derived}
-use Rattle.rma_typemap.specs.Typemap.{Typemap}
-use Rattle.rma_typemap.specs.Bounds.{entry_count}
-use Rattle.rma_typemap.specs.Constructors.{constructed}
-use Rattle.rma_typemap.specs.inside.Counts.{copies_of, IsCounted}
-use Rattle.rma_typemap.specs.inside.Summary.{summary, struct_of}
-use Rattle.rma_type.specs.inside.Members.{with_summaries, all_entries}
-use Rattle.rma_type.specs.Names.{id_of, old_names, old_types_of, all_live}
-use Rattle.rma_type.specs.Table.{typemaps, typemap_in, ComesAfter}
-use Rattle.rma_type.specs.inside.Made.{typemap_of_new}
+use Rattle.std.proofs.Common.{◌≡◌, ℕ, suc, ◌<◌, ◌*◌, List, [], ◌∷◌, All, length, get_or, map, Option, Some, None, is_some, true, refl, sym, ap, ◌∙◌, arith}
+use Rattle.rma_type.proofs.Words.{cons_option, false≢true, Member, Make, Struct, TypeId, Origin, Derived, Typemap, entry_count, constructed, copies_of, IsCounted, summary, struct_of, with_summaries, all_entries, id_of, old_names, old_types_of, all_live, typemaps, typemap_in, ComesAfter, typemap_of_new, All-cons, All-nil}
 use Rattle.rma_base.proofs.NameLemmas.{and_left, and_right}
 use Rattle.rma_type.proofs.CheckLemmas.{HasOneOld}
-use Rattle.rma_typemap.proofs.EntryLemmas.{entry_count_constructed}
+use Rattle.rma_typemap.proofs.SignatureLemmas.{entry_count_constructed}
 use Rattle.rma_type.proofs.StructLemmas.{entry_count_struct, summary_struct}
 
 abbrev Live : Type 0
@@ -36,14 +20,10 @@ length_old_types_of live (name ∷ names) h =
 
 one_before : (n : ℕ) (found : Option TypeId) (ids : List TypeId) → ((id : TypeId) → found ≡ Some id → id.0 < n) → All (λ id. id.0 < n) ids → All (λ id. id.0 < n) (cons_option found ids)
 one_before n None ids one rest = rest
-one_before n (Some id) ids one rest = each
-  where
-    each : (k : ℕ) (d : TypeId) → k < length (id ∷ ids) → (get_or (id ∷ ids) k d).0 < n
-    each zero d within = one id refl
-    each (suc k) d within = rest k d (omega arith)
+one_before n (Some id) ids one rest = All-cons (λ (i : TypeId). i.0 < n) id ids (one id refl) rest
 
 old_types_of_before : (n : ℕ) (live : Live) → ((name : List ℕ) (id : TypeId) → id_of live name ≡ Some id → id.0 < n) → (names : List (List ℕ)) → All (λ id. id.0 < n) (old_types_of live names)
-old_types_of_before n live stand [] = λ k d within. absurd (omega arith)
+old_types_of_before n live stand [] = All-nil (λ (i : TypeId). i.0 < n)
 old_types_of_before n live stand (name ∷ names) = one_before n (id_of live name) (old_types_of live names) (λ id at. stand name id at) (old_types_of_before n live stand names)
 
 pub ComesAfter_found : (n : ℕ) (live : Live) (constructor : Make) → ((name : List ℕ) (id : TypeId) → id_of live name ≡ Some id → id.0 < n) → all_live live (old_names constructor) ≡ true →
@@ -54,25 +34,11 @@ ComesAfter_found n live constructor stand all = (length_old_types_of live (old_n
 
 pub one_name : (constructor : Make) → HasOneOld constructor → length (old_names constructor) ≡ 1
 one_name (Struct members) one = absurd one
-one_name (Contiguous count old) one = refl
-one_name (Vector count len stride old) one = refl
-one_name (Hvector count len stride old) one = refl
-one_name (Indexed old blocks) one = refl
-one_name (Hindexed old blocks) one = refl
-one_name (IndexedBlock len old displacements) one = refl
-one_name (Resized old low extent) one = refl
-one_name (Subarray order old dimensions) one = refl
+one_name _ one = refl
 
 pub has_one_old : (constructor : Make) → ((members : List Member) → constructor ≡ Struct members → ⊥) → HasOneOld constructor
 has_one_old (Struct members) other = other members refl
-has_one_old (Contiguous count old) other = tt
-has_one_old (Vector count len stride old) other = tt
-has_one_old (Hvector count len stride old) other = tt
-has_one_old (Indexed old blocks) other = tt
-has_one_old (Hindexed old blocks) other = tt
-has_one_old (IndexedBlock len old displacements) other = tt
-has_one_old (Resized old low extent) other = tt
-has_one_old (Subarray order old dimensions) other = tt
+has_one_old _ other = tt
 
 only_one : (maps : List Typemap) (old_types : List TypeId) (d : TypeId) → length old_types ≡ 1 → map (typemap_in maps) old_types ≡ typemap_in maps (get_or old_types 0 d) ∷ []
 only_one maps [] d e = absurd (omega arith)

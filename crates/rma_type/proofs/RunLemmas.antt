@@ -1,15 +1,9 @@
 -- Runs of equal basic datatypes.
-use Rattle.std.proofs.Common.{◌≡◌, ◌≢◌, ℕ, zero, suc, ◌+◌, ◌*◌, ◌<◌, ◌≤◌, List, [], ◌∷◌, ◌++◌, length, get_or, set, take, replicate, refl, sym, ap, subst, ◌∙◌, arith}
-use Rattle.std.proofs.lemmas.List.{append-nil, append_assoc, replicate-append-replicate, length-append, length-replicate, take_more}
+use Rattle.std.proofs.Common.{◌≡◌, ◌≢◌, ℕ, zero, suc, ◌+◌, ◌*◌, ◌<◌, ◌≤◌, List, [], ◌∷◌, ◌++◌, length, get_or, set, take, refl, sym, ap, ◌∙◌, arith}
+use Rattle.rma_type.proofs.Words.{append-nil, append_assoc, replicate-append-replicate, length-append, length-replicate, take_more, length-flat_map-take, Basic, SignedChar, copies, SigRun, basics_of, spread, BeginsOther, AreRuns}
 use Rattle.std.proofs.lemmas.List.Concat.{flat_map-append}
-use Rattle.std.proofs.lemmas.List.Folds.{length-flat_map-take}
 use Rattle.std.proofs.Math.Nat.{mul-le-mul_left}
-use Rattle.rma_datatype.specs.declared.basic.Basic.{Basic}
-use Rattle.rma_datatype.specs.declared.basic.Basic.TheVariants.{SignedChar}
-use Rattle.rma_typemap.specs.Signature.{copies}
 use Rattle.rma_typemap.proofs.SignatureLemmas.{copies_one, copies_nil, copies_add}
-use Rattle.rma_type.specs.declared.sig_run.SigRun.{SigRun}
-use Rattle.rma_type.specs.Signature.{basics_of, spread, BeginsOther, AreRuns}
 
 -- what is read where there is no run
 abbrev pub no_run : SigRun
@@ -44,20 +38,16 @@ run_is_short (run ∷ runs) (suc i) d lt = let rest = run_is_short runs i d (ome
 
 longer : (last run new : SigRun) → last.basic ≡ run.basic → new.basic ≡ last.basic → new.count ≡ last.count + run.count → basics_of new ≡ basics_of last ++ basics_of run
 longer last run new same basic count =
-    ap (λ n. replicate n new.basic) count ∙ ap (λ b. replicate (last.count + run.count) b) basic
-    ∙ sym (replicate-append-replicate last.count run.count last.basic)
-    ∙ ap (λ b. basics_of last ++ replicate run.count b) same
+    rw (count, basic, ← same) (sym (replicate-append-replicate last.count run.count last.basic))
 
 pub spread_merged : (items : List SigRun) (i : ℕ) (last run new : SigRun) → suc i ≡ length items → last ≡ get_or items i last → last.basic ≡ run.basic →
     new.basic ≡ last.basic → new.count ≡ last.count + run.count → spread (set items i new) ≡ spread items ++ basics_of run
 spread_merged [] i last run new end is same basic count = absurd (omega arith)
 spread_merged (x ∷ []) zero last run new end is same basic count =
-    append-nil (basics_of new) ∙ longer last run new same basic count ∙ ap (λ y. basics_of y ++ basics_of run) is
-    ∙ ap (λ xs. xs ++ basics_of run) (sym (append-nil (basics_of x)))
+    rw (append-nil (basics_of new), append-nil (basics_of x), longer last run new same basic count) (ap (λ y. basics_of y ++ basics_of run) is)
 spread_merged (x ∷ y ∷ items) zero last run new end is same basic count = absurd (omega arith)
 spread_merged (x ∷ items) (suc i) last run new end is same basic count =
-    ap (λ xs. basics_of x ++ xs) (spread_merged items i last run new (omega arith) is same basic count)
-    ∙ sym (append_assoc (basics_of x) (spread items) (basics_of run))
+    rw (spread_merged items i last run new (omega arith) is same basic count) (sym (append_assoc (basics_of x) (spread items) (basics_of run)))
 
 begins_set : (basic : Basic) (items : List SigRun) (i : ℕ) (last new : SigRun) → last ≡ get_or items i last → new.basic ≡ last.basic → BeginsOther basic items → BeginsOther basic (set items i new)
 begins_set basic [] i last new is same h = h
@@ -67,8 +57,7 @@ begins_set basic (x ∷ items) (suc i) last new is same h = h
 pub AreRuns_merged : (items : List SigRun) (i : ℕ) (last new : SigRun) → i < length items → last ≡ get_or items i last → new.basic ≡ last.basic → 0 < new.count → AreRuns items → AreRuns (set items i new)
 AreRuns_merged [] i last new lt is same some h = h
 AreRuns_merged (x ∷ items) zero last new lt is same some h =
-    let P : Basic → Type 0 = λ b. BeginsOther b items in
-    (some, subst P (sym (same ∙ ap (λ (r : SigRun). r.basic) is)) h.1, h.2)
+    (some, rw (same ∙ ap (λ (r : SigRun). r.basic) is) h.1, h.2)
 AreRuns_merged (x ∷ items) (suc i) last new lt is same some h =
     (h.0, begins_set x.basic items i last new is same h.1, AreRuns_merged items i last new (omega arith) is same some h.2)
 
@@ -83,7 +72,7 @@ AreRuns_push (x ∷ y ∷ items) run some other h = (h.0, h.1, AreRuns_push (y �
 
 pub spread_more : (runs : List SigRun) (i : ℕ) (d : SigRun) → i < length runs → spread (take (i + 1) runs) ≡ spread (take i runs) ++ basics_of (get_or runs i d)
 spread_more runs i d lt =
-    ap spread (take_more runs i d lt) ∙ spread_append (take i runs) (get_or runs i d ∷ []) ∙ ap (λ xs. spread (take i runs) ++ xs) (spread_one (get_or runs i d))
+    rw (take_more runs i d lt, spread_append (take i runs) (get_or runs i d ∷ []), spread_one (get_or runs i d))
 
 pub spread_more_fits : (runs : List SigRun) (i : ℕ) (d : SigRun) → i < length runs → length (spread (take i runs)) + (get_or runs i d).count ≤ length (spread runs)
 spread_more_fits runs i d lt = omega (arith, length-flat_map-take basics_of runs i d lt, length_basics_of (get_or runs i d))
@@ -95,10 +84,8 @@ one_copy_more k n len lt = let le : k + 1 ≤ n = omega arith in omega (arith, m
 
 pub copies_more : (k : ℕ) (done one : List Basic) → (done ++ copies k one) ++ one ≡ done ++ copies (k + 1) one
 copies_more k done one =
-    append_assoc done (copies k one) one
-    ∙ ap (λ xs. done ++ (copies k one ++ xs)) (sym (copies_one one))
-    ∙ ap (λ xs. done ++ xs) (sym (copies_add k 1 one))
+    rw (append_assoc done (copies k one) one, copies_add k 1 one, copies_one one)
 
 pub no_copies : (n : ℕ) (done : List Basic) (runs : List SigRun) → length runs < 1 → done ≡ done ++ copies n (spread runs)
 no_copies n done runs h =
-    sym (append-nil done) ∙ ap (λ xs. done ++ xs) (sym (copies_nil n)) ∙ ap (λ xs. done ++ copies n xs) (sym (spread_empty runs h))
+    rw (spread_empty runs h, copies_nil n) (sym (append-nil done))

@@ -1,59 +1,29 @@
 -- Signatures of the datatypes of a table.
-use Rattle.std.proofs.Common.{◌≡◌, ℕ, zero, suc, ◌+◌, ◌*◌, ◌/◌, ◌<◌, ◌≤◌, List, [], ◌∷◌, ◌++◌, map, zip, length, get_or, take, slice_get, Some, ◌⊎◌, inl, inr, refl, sym, ap, subst, ◌∙◌, arith}
+use Rattle.std.proofs.Common.{◌≡◌, ℕ, zero, suc, ◌+◌, ◌*◌, ◌/◌, ◌<◌, ◌≤◌, List, [], ◌∷◌, ◌++◌, map, length, get_or, take, slice_get, Some, ◌⊎◌, inl, inr, refl, sym, ap, ◌∙◌, arith}
 use Rattle.std.specs.Prelude.{Vec}
 use Rattle.std.specs.declared.alloc.Global.{Global}
 use Rattle.std.proofs.Math.Nat.{mul-div_cancel}
-use Rattle.std.proofs.lemmas.List.{append-nil, get_or-map, length-map, take_more, take_all}
+use Rattle.rma_type.proofs.Words.{append-nil, length-map, take_more, length-flat_map-take, element_limit, Basic, Member, Make, Struct, Typemap, signature, entry_count, times, copies_of, IsCounted, copies, TypeId, SigRun, Origin, Kept, Inside, Table, typemaps, typemap_in, old_names, typemap_of_new, spread, IsRunsOf, SignatureSource, Shared, Own, HasSignature, IsSourceOf, signature_in, with_signatures, struct_signature, IsTable, table_of, nil_from_length, slice_get_within}
 use Rattle.std.proofs.lemmas.List.Concat.{flat_map-append}
-use Rattle.std.proofs.lemmas.List.Folds.{length-flat_map-take}
-use Rattle.std.proofs.lemmas.Slice.Zip.{get_or-zip, length-zip}
 use Rattle.std.proofs.lemmas.Simd.{map-map}
-use Rattle.rma_base.specs.Limits.{element_limit}
-use Rattle.rma_datatype.specs.declared.basic.Basic.{Basic}
-use Rattle.rma_datatype.specs.declared.make.Member.{Member}
-use Rattle.rma_datatype.specs.declared.make.Make.{Make}
-use Rattle.rma_datatype.specs.declared.make.Make.TheVariants.{Struct}
-use Rattle.rma_typemap.specs.Typemap.{Typemap}
-use Rattle.rma_typemap.specs.Bounds.{signature, entry_count}
-use Rattle.rma_typemap.specs.Constructors.{times}
-use Rattle.rma_typemap.specs.inside.Counts.{copies_of, IsCounted}
-use Rattle.rma_typemap.specs.Signature.{copies}
 use Rattle.rma_typemap.proofs.BoundLemmas.{entry_count_is}
 use Rattle.rma_typemap.proofs.SignatureLemmas.{copies_one, copies_nil, length_copies, length_signature, signature_constructed, signature_members}
-use Rattle.rma_type.specs.declared.id.TypeId.{TypeId}
-use Rattle.rma_type.specs.declared.sig_run.SigRun.{SigRun}
-use Rattle.rma_type.specs.declared.origin.Origin.{Origin}
-use Rattle.rma_type.specs.declared.table.Kept.{Kept}
-use Rattle.rma_type.specs.declared.table.TypeTable.TheInside.{Inside}
-use Rattle.rma_type.specs.Table.{Table, typemaps, typemap_in}
-use Rattle.rma_type.specs.Names.{old_names}
-use Rattle.rma_type.specs.inside.Made.{typemap_of_new}
-use Rattle.rma_type.specs.Signature.{spread, IsRunsOf}
-use Rattle.rma_type.specs.declared.signature_source.SignatureSource.{SignatureSource}
-use Rattle.rma_type.specs.declared.signature_source.SignatureSource.TheVariants.{Shared, Own}
-use Rattle.rma_type.specs.inside.SignatureSource.{HasSignature, IsSourceOf, signature_in, with_signatures, struct_signature}
-use Rattle.rma_type.specs.inside.Kept.{IsTable, table_of}
 use Rattle.rma_type.proofs.CheckLemmas.{HasOneOld}
 use Rattle.rma_type.proofs.OldLemmas.{typemap_of_one, entry_count_of_one}
+use Rattle.rma_type.proofs.MemberLemmas.{length_beside, beside_at}
 use Rattle.rma_type.proofs.TableLemmas.{read_at}
 
 -- ---- the signature of a number
 
-within_by : {X : Type 0} (xs : List X) (i : ℕ) (x : X) → slice_get xs i ≡ Some x → i < length xs
-within_by [] i x at = absurd (cc)
-within_by (y ∷ xs) zero x at = omega arith
-within_by (y ∷ xs) (suc i) x at = let lt = within_by xs i x at in omega arith
-
 pub signed_within : (signatures : List (Vec SigRun Global)) (basics : List Basic) (i : ℕ) → HasSignature signatures basics i → i < length signatures
-signed_within signatures basics i h = within_by signatures i h.runs h.at
+signed_within signatures basics i h = slice_get_within signatures i h.runs h.at
 
 pub signed_at : (signatures : List (Vec SigRun Global)) (basics : List Basic) (i : ℕ) (runs : Vec SigRun Global) → HasSignature signatures basics i → runs ≡ get_or signatures i runs → IsRunsOf basics runs.items
 signed_at signatures basics i runs h is =
     let there = read_at signatures i runs (signed_within signatures basics i h) is in
-    let P : Vec SigRun Global → Type 0 = λ v. IsRunsOf basics v.items in
     let found = h.at in
     let same : h.runs ≡ runs = cc in
-    subst P same h.represents
+    rw same at h.represents
 
 pub signed_once : (signatures : List (Vec SigRun Global)) (a b : List Basic) (i j : ℕ) → i ≡ j → HasSignature signatures a i → HasSignature signatures b j → a ≡ b
 signed_once signatures a b i j e h k =
@@ -70,24 +40,16 @@ module _ (t : Inside) (table : Table) (view : table_of t ≡ table) (holds : IsT
       read_at t.types.items id.0 kept (omega arith) is
 
   pub signed_in : HasSignature t.signatures.items (signature_in table.origins id) kept.signature
-  signed_in =
-      let P : Table → Type 0 = λ u. HasSignature t.signatures.items (signature_in u.origins id) kept.signature in
-      subst P view (holds.signed id.0 kept there)
+  signed_in = rw (← ap (λ (u : Table). u.origins) view) (holds.signed id.0 kept there)
 
   pub signature_is_short : length (signature_in table.origins id) ≤ element_limit
   signature_is_short =
-      let P : Table → Type 0 = λ u. entry_count (typemap_in (typemaps u.origins) id) ≤ element_limit in
-      let few = subst P view (holds.each id.0 kept there).few in
-      omega (arith, length_signature (typemap_in (typemaps table.origins) id), few)
+      rw (← ap (λ (u : Table). u.origins) view, length_signature) (holds.each id.0 kept there).few
 
 -- ---- copies of one old datatype
 
 signature_empty : (m : Typemap) → entry_count m ≡ 0 → signature m ≡ []
-signature_empty m e = none (signature m) (length_signature m ∙ e)
-  where
-    none : (bs : List Basic) → length bs ≡ 0 → bs ≡ []
-    none [] h = refl
-    none (b ∷ bs) h = absurd (omega arith)
+signature_empty m e = nil_from_length (signature m) (length_signature m ∙ e)
 
 copies_of_none : (n : ℕ) (m : Typemap) → entry_count m ≡ 0 → signature m ≡ copies n (signature m)
 copies_of_none n m e = signature_empty m e ∙ sym (copies_nil n) ∙ ap (copies n) (sym (signature_empty m e))
@@ -119,59 +81,36 @@ module _ (origins : List Origin) (constructor : Make) (old_types : List TypeId) 
 pub signature_of_struct : (origins : List Origin) (constructor : Make) (members slice : List Member) (old_types : List TypeId) → constructor ≡ Struct members → slice ≡ members →
     signature (typemap_of_new origins constructor old_types) ≡ struct_signature (with_signatures origins slice old_types)
 signature_of_struct origins constructor members slice old_types is same =
-    ap (λ h. signature (typemap_of_new origins h old_types)) is
-    ∙ signature_members members (map (typemap_in (typemaps origins)) old_types)
-    ∙ ap (λ bs. struct_signature (zip members bs)) (map-map signature (typemap_in (typemaps origins)) old_types)
-    ∙ ap (λ ms. struct_signature (with_signatures origins ms old_types)) (sym same)
+    rw (is, same, signature_members members (map (typemap_in (typemaps origins)) old_types), map-map signature (typemap_in (typemaps origins)) old_types)
 
-module _ (origins : List Origin) (members : List Member) (old_types : List TypeId) (fit : length old_types ≡ length members) where
-  long : length (with_signatures origins members old_types) ≡ length members
-  long =
-      let mapped = length-map old_types (signature_in origins) in
-      let both = length-zip members (map (signature_in origins) old_types) in
-      omega arith
+module _ (origins : List Origin) (members : List Member) (old_types : List TypeId) (fit : length old_types ≡ length members)
+    (i : ℕ) (m : Member) (none : TypeId) (within : i < length members) (is : get_or members i m ≡ m) where
+  inside : i < length (with_signatures origins members old_types)
+  inside = let long = length_beside (signature_in origins) members old_types fit in omega arith
 
-  module _ (i : ℕ) (m : Member) (none : TypeId) (within : i < length members) (is : get_or members i m ≡ m) where
-    inside : i < length (with_signatures origins members old_types)
-    inside = let n = long in omega arith
+  abbrev piece : Member × List Basic → List Basic
+  piece p = copies (times p.0.length) p.1
 
-    abbrev piece : Member × List Basic → List Basic
-    piece p = copies (times p.0.length) p.1
+  pub signature_more : struct_signature (take (i + 1) (with_signatures origins members old_types)) ≡
+      struct_signature (take i (with_signatures origins members old_types)) ++ copies (times m.length) (signature_in origins (get_or old_types i none))
+  signature_more =
+      let all = with_signatures origins members old_types in
+      rw (take_more all i (m, signature_in origins none) inside, flat_map-append piece (take i all) (get_or all i (m, signature_in origins none) ∷ []), beside_at (signature_in origins) members old_types fit i m none within is)
+      (ap (λ xs. struct_signature (take i all) ++ xs) (append-nil (piece (m, signature_in origins (get_or old_types i none)))))
 
-    signature_at : get_or (with_signatures origins members old_types) i (m, signature_in origins none) ≡ (m, signature_in origins (get_or old_types i none))
-    signature_at =
-        let mapped = length-map old_types (signature_in origins) in
-        get_or-zip members (map (signature_in origins) old_types) i (m, signature_in origins none) within (omega arith)
-        ∙ ap (λ (x : Member). (x, get_or (map (signature_in origins) old_types) i (signature_in origins none))) is
-        ∙ ap (λ (bs : List Basic). (m, bs)) (get_or-map (signature_in origins) old_types i none (signature_in origins none) (omega arith))
-
-    pub signature_more : struct_signature (take (i + 1) (with_signatures origins members old_types)) ≡
-        struct_signature (take i (with_signatures origins members old_types)) ++ copies (times m.length) (signature_in origins (get_or old_types i none))
-    signature_more =
-        let before = take i (with_signatures origins members old_types) in
-        ap struct_signature (take_more (with_signatures origins members old_types) i (m, signature_in origins none) inside)
-        ∙ flat_map-append piece before (get_or (with_signatures origins members old_types) i (m, signature_in origins none) ∷ [])
-        ∙ ap (λ xs. struct_signature before ++ xs) (append-nil (piece (get_or (with_signatures origins members old_types) i (m, signature_in origins none))))
-        ∙ ap (λ p. struct_signature before ++ piece p) signature_at
-
-    pub signature_more_fits : length (struct_signature (take i (with_signatures origins members old_types))) + times m.length * length (signature_in origins (get_or old_types i none)) ≤
-        length (struct_signature (with_signatures origins members old_types))
-    signature_more_fits =
-        let le = length-flat_map-take piece (with_signatures origins members old_types) i (m, signature_in origins none) inside in
-        let at = ap (λ p. length (piece p)) signature_at in
-        omega (arith, le, at, length_copies (times m.length) (signature_in origins (get_or old_types i none)))
-
-  pub all_signatures : (i : ℕ) → length members ≤ i → take i (with_signatures origins members old_types) ≡ with_signatures origins members old_types
-  all_signatures i h = let n = long in take_all i (with_signatures origins members old_types) (omega arith)
+  pub signature_more_fits : length (struct_signature (take i (with_signatures origins members old_types))) + times m.length * length (signature_in origins (get_or old_types i none)) ≤
+      length (struct_signature (with_signatures origins members old_types))
+  signature_more_fits =
+      let le = length-flat_map-take piece (with_signatures origins members old_types) i (m, signature_in origins none) inside in
+      let at = ap (λ p. length (piece p)) (beside_at (signature_in origins) members old_types fit i m none within is) in
+      omega (arith, le, at, length_copies (times m.length) (signature_in origins (get_or old_types i none)))
 
 pub signature_of_one_member : (origins : List Origin) (members : List Member) (old_types : List TypeId) (m : Member) (none : TypeId) → length members ≡ 1 → length old_types ≡ 1 → m ≡ get_or members 0 m → times m.length ≡ 1 →
     signature_in origins (get_or old_types 0 none) ≡ struct_signature (with_signatures origins members old_types)
 signature_of_one_member origins [] old_types m none e f is one = absurd (omega arith)
 signature_of_one_member origins (x ∷ []) [] m none e f is one = absurd (omega arith)
 signature_of_one_member origins (x ∷ []) (id ∷ []) m none e f is one =
-    sym (append-nil (copies (times x.length) (signature_in origins id))
-    ∙ ap (λ (y : Member). copies (times y.length) (signature_in origins id)) (sym is)
-    ∙ ap (λ n. copies n (signature_in origins id)) one ∙ copies_one (signature_in origins id))
+    sym (append-nil (copies (times x.length) (signature_in origins id)) ∙ rw (← is, one) (copies_one (signature_in origins id)))
 signature_of_one_member origins (x ∷ []) (id ∷ other ∷ old_types) m none e f is one = absurd (omega arith)
 signature_of_one_member origins (x ∷ y ∷ members) old_types m none e f is one = absurd (omega arith)
 
@@ -180,12 +119,8 @@ signature_of_one_member origins (x ∷ y ∷ members) old_types m none e f is on
 pub shared_signature : (t now : Inside) (table : Table) → table_of t ≡ table → IsTable t → (old : TypeId) (kept : Kept) (basics : List Basic) (source : SignatureSource) (number : ℕ) → now ≡ t →
     IsSourceOf table.origins basics source → source ≡ Shared old → kept ≡ get_or t.types.items old.0 kept → number ≡ kept.signature → HasSignature now.signatures.items basics number
 shared_signature t now table view holds old kept basics source number same signs shared is e =
-    let P : SignatureSource → Type 0 = λ s. IsSourceOf table.origins basics s in
-    let represents = subst P shared signs in
-    let Q : List Basic → Type 0 = λ bs. HasSignature t.signatures.items bs kept.signature in
-    let R : ℕ → Type 0 = λ n. HasSignature t.signatures.items basics n in
-    let S : Inside → Type 0 = λ u. HasSignature u.signatures.items basics number in
-    subst S (sym same) (subst R (sym e) (subst Q represents.1 (signed_in t table view holds old kept represents.0 is)))
+    let represents = rw shared at signs in
+    rw (same, e, ← represents.1) (signed_in t table view holds old kept represents.0 is)
 
 slice_get_pushed : {X : Type 0} (xs : List X) (x : X) → slice_get (xs ++ x ∷ []) (length xs) ≡ Some x
 slice_get_pushed [] x = refl
@@ -194,5 +129,4 @@ slice_get_pushed (y ∷ xs) x = slice_get_pushed xs x
 pub own_signature : (origins : List Origin) (before after : List (Vec SigRun Global)) (runs : Vec SigRun Global) (basics : List Basic) (source : SignatureSource) (number : ℕ) →
     IsSourceOf origins basics source → source ≡ Own runs → after ≡ before ++ runs ∷ [] → number ≡ length before → HasSignature after basics number
 own_signature origins before after runs basics source number signs own e n =
-    let P : SignatureSource → Type 0 = λ s. IsSourceOf origins basics s in
-    record { runs = runs; at = ap (λ xs. slice_get xs number) e ∙ ap (slice_get (before ++ runs ∷ [])) n ∙ slice_get_pushed before runs; represents = subst P own signs }
+    record { runs = runs; at = rw (e, n) (slice_get_pushed before runs); represents = rw own at signs }

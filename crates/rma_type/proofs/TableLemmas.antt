@@ -1,38 +1,23 @@
 -- What a table keeps of a datatype.
-use Rattle.std.proofs.Common.{◌≡◌, ℕ, zero, suc, ◌<◌, ◌≤◌, ◌^◌, List, [], ◌∷◌, length, get_or, slice_get, Some, set, inl, inr, ⊎_elim, ◌⊎◌, refl, sym, ap, subst, ◌∙◌, arith, true, slice_index_or}
-use Rattle.rma_base.specs.Limits.{element_limit, address_limit}
-use Rattle.rma_type.specs.declared.table.Kept.{Kept}
-use Rattle.rma_typemap.specs.declared.summary.Summary.{Summary}
-use Rattle.rma_typemap.specs.inside.Near.{IsNearby, IsSound}
-use Rattle.rma_typemap.specs.Typemap.{Typemap}
-use Rattle.rma_typemap.specs.Bounds.{signature}
-use Rattle.rma_type.specs.inside.SignatureSource.{HasSignature}
-use Rattle.rma_type.specs.inside.Kept.{IsKept, origins_of, IsTable}
-use Rattle.rma_type.specs.declared.table.TypeTable.TheInside.{Inside}
-use Rattle.rma_type.specs.declared.origin.Origin.{Origin}
-use Rattle.rma_type.specs.Table.{typemaps}
+use Rattle.std.proofs.Common.{◌≡◌, ℕ, zero, suc, ◌<◌, ◌≤◌, List, [], ◌∷◌, length, get_or, slice_get, Some, set, inl, inr, ⊎_elim, ◌⊎◌, refl, ap, ◌∙◌, true, slice_index_or}
+use Rattle.rma_type.proofs.Words.{element_limit, address_limit, Kept, IsNearby, IsSound, Typemap, signature, HasSignature, IsKept, origins_of, IsTable, Inside, typemaps, length-set, get_or_from_slice_get, slice_get_read}
 use Rattle.std.specs.Vec.{with_item}
-use Rattle.std.proofs.lemmas.List.{length-set}
+use Rattle.std.proofs.Math.Seq.{map-set_same}
 use Rattle.rma_typemap.proofs.BoundLemmas.{IsSound_summary, entry_count_is}
 use Rattle.rma_typemap.proofs.SpaceLemmas.{IsNearby_in_space}
 
 -- an element that indexing gave
 pub read_at : {X : Type 0} (xs : List X) (i : ℕ) (x : X) → i < length xs → x ≡ get_or xs i x → slice_get xs i ≡ Some x
-read_at [] i x h e = absurd (omega arith)
-read_at (y ∷ ys) zero x h e = ap Some (sym e)
-read_at (y ∷ ys) (suc i) x h e = read_at ys i x (omega arith) e
+read_at xs i x h e = slice_get_read xs (length xs) i x refl h e
 
 pub kept_near : (parts : Typemap) (n : ℕ) (kept : Kept) → IsKept parts n kept.origin kept.summary → IsNearby address_limit kept.summary
-kept_near parts n kept h = subst (IsNearby address_limit) (sym h.summary_is) (IsNearby_in_space parts h.in_space)
+kept_near parts n kept h = rw h.summary_is (IsNearby_in_space parts h.in_space)
 
 pub kept_sound : (parts : Typemap) (n : ℕ) (kept : Kept) → IsKept parts n kept.origin kept.summary → IsSound kept.summary
-kept_sound parts n kept h = subst IsSound (sym h.summary_is) (IsSound_summary parts)
+kept_sound parts n kept h = rw h.summary_is (IsSound_summary parts)
 
 pub kept_few : (parts : Typemap) (n : ℕ) (kept : Kept) → IsKept parts n kept.origin kept.summary → kept.summary.entries ≤ element_limit
-kept_few parts n kept h =
-    let few = h.few in
-    let e = ap (λ (o : Summary). o.entries) h.summary_is in
-    omega (arith, e, entry_count_is parts)
+kept_few parts n kept h = rw (h.summary_is, ← entry_count_is parts) h.few
 
 -- ---- after a write
 
@@ -44,9 +29,7 @@ slice_get_set (x ∷ xs) (suc i) y zero z h = inr h
 slice_get_set (x ∷ xs) (suc i) y (suc n) z h = ⊎_elim (λ p. inl (ap suc p.0, p.1)) (λ q. inr q) (slice_get_set xs i y n z h)
 
 pub origins_of_set : (kept : List Kept) (i : ℕ) (new : Kept) (old : Kept) → slice_get kept i ≡ Some old → new.origin ≡ old.origin → origins_of (set kept i new) ≡ origins_of kept
-origins_of_set [] i new old h e = refl
-origins_of_set (k ∷ ks) zero new old h e = let same : k ≡ old = cc in ap (λ o. o ∷ origins_of ks) (e ∙ ap (λ x. x.origin) (sym same))
-origins_of_set (k ∷ ks) (suc i) new old h e = ap (λ os. k.origin ∷ os) (origins_of_set ks i new old h e)
+origins_of_set kept i new old h e = map-set_same (λ (k : Kept). k.origin) kept i new old (rw (get_or_from_slice_get kept i old old h) e)
 
 -- ---- what holds of each datatype
 
@@ -57,15 +40,8 @@ Each F items = (n : ℕ) (kept : Kept) → slice_get items n ≡ Some kept → F
 pub Each_set : (F : Typemap → ℕ → Kept → Type 0) (items : List Kept) (i : ℕ) (old new : Kept) → slice_get items i ≡ Some old → new.origin ≡ old.origin →
     ((parts : Typemap) (n : ℕ) → F parts n old → F parts n new) → Each F items → Each F (set items i new)
 Each_set F items i old new at same stays each n kept k =
-    let P : List Origin → Type 0 = λ os. F (slice_index_or (typemaps os) n []) n kept in
-    subst P (sym (origins_of_set items i new old at same))
-    (⊎_elim
-    (λ p.
-    let Q : Kept → Type 0 = λ x. F (slice_index_or (typemaps (origins_of items)) n []) n x in
-    let there : slice_get items n ≡ Some old = ap (slice_get items) p.0 ∙ at in
-    subst Q (sym p.1) (stays (slice_index_or (typemaps (origins_of items)) n []) n (each n old there)))
-    (λ q. each n kept q)
-    (slice_get_set items i new n kept k))
+    rw (origins_of_set items i new old at same)
+    (⊎_elim (λ p. rw p.1 (stays _ n (each n old (ap (slice_get items) p.0 ∙ at)))) (λ q. each n kept q) (slice_get_set items i new n kept k))
 
 -- ---- a commit
 
@@ -80,6 +56,6 @@ IsTable_committed t i old h at =
     record {
       each = Each_set (λ parts n kept. IsKept parts n kept.origin kept.summary) items i old (as_committed old) at refl (λ parts n k. k) h.each;
       signed = Each_set (λ parts n kept. HasSignature t.signatures.items (signature parts) kept.signature) items i old (as_committed old) at refl (λ parts n k. k) h.signed;
-      ids = λ name id k. let P : ℕ → Type 0 = λ m. id.0 < m in subst P (sym long) (h.ids name id k);
-      small = let P : ℕ → Type 0 = λ m. m < 2 ^ 32 in subst P (sym long) h.small;
+      ids = λ name id k. rw long (h.ids name id k);
+      small = rw long h.small;
     }

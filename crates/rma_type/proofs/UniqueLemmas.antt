@@ -1,8 +1,6 @@
 -- Runs that represent the same basic datatypes are the same.
 use Rattle.std.proofs.Common.{◌≡◌, ◌≢◌, ℕ, zero, suc, ◌<◌, List, [], ◌∷◌, ◌++◌, replicate, refl, sym, ap, ◌∙◌, arith}
-use Rattle.rma_datatype.specs.declared.basic.Basic.{Basic}
-use Rattle.rma_type.specs.declared.sig_run.SigRun.{SigRun}
-use Rattle.rma_type.specs.Signature.{spread, BeginsOther, AreRuns, IsRunsOf}
+use Rattle.rma_type.proofs.Words.{Basic, SigRun, spread, BeginsOther, AreRuns, IsRunsOf}
 
 -- runs of which the first has another basic datatype do not begin with it
 begins_not : (basic : Basic) (runs : List SigRun) (rest : List Basic) → BeginsOther basic runs → AreRuns runs → spread runs ≡ basic ∷ rest → ⊥

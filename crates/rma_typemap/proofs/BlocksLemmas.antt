@@ -1,20 +1,11 @@
 -- Blocks of elements one after another, moved, and at equal distances.
 use Rattle.std.proofs.Common.{◌≡◌, ◌≢◌, ℕ, suc, ◌+◌, ◌*◌, ℤ, pos, ◌+ℤ◌, ◌*ℤ◌, Bool, true, false, cond, List, [], ◌∷◌, ◌++◌, map, Option, Some, None, refl, ap, ◌∙◌, arith, Decides, ◌≤◌}
-use Rattle.std.specs.Ordering.{int_eq}
-use Rattle.std.proofs.lemmas.Int.{ints}
-use Rattle.std.proofs.lemmas.Bool.Decides.{Decides-int_eq, same_from_decides, Decides-like}
-use Rattle.rma_datatype.specs.declared.basic.Basic.{Basic}
-use Rattle.rma_typemap.specs.declared.blocks.Blocks.{Blocks}
-use Rattle.rma_typemap.specs.Typemap.{start_of, end_of, gap, gaps_after, end_after}
-use Rattle.rma_typemap.specs.inside.Summary.{make_blocks, joined_blocks, moved_blocks, repeated_blocks, blocks_of}
+use Rattle.rma_typemap.proofs.Words.{int_eq, ints, Decides-int_eq, same_from_decides, Decides-like, Basic, Blocks, start_of, end_of, gap, gaps_after, end_after, joined_blocks, moved_blocks, repeated_blocks, blocks_of}
 use Rattle.rma_typemap.proofs.IntegerLemmas.{one_more}
 
 -- an element, moved
 abbrev pub moved_element : ℤ → Basic × ℤ → Basic × ℤ
 moved_element by e = (e.0, by +ℤ e.1)
-
-pub same_blocks : {a b : ℕ} {c d e f : ℤ} → a ≡ b → c ≡ d → e ≡ f → make_blocks a c e ≡ make_blocks b d f
-same_blocks {a} {b} {c} {d} {e} {f} p q r = ap (λ x. make_blocks x c e) p ∙ ap (λ x. make_blocks b x e) q ∙ ap (λ x. make_blocks b d x) r
 
 cancel : (by a b : ℤ) → by +ℤ a ≡ by +ℤ b → a ≡ b
 cancel by a b h = omega (arith, ints)
@@ -42,33 +33,23 @@ end_after_append at (e ∷ xs) ys = end_after_append (end_of e) xs ys
 
 pub blocks_of_append : (xs ys : List (Basic × ℤ)) → blocks_of (xs ++ ys) ≡ joined_blocks (blocks_of xs) (blocks_of ys)
 blocks_of_append [] ys = refl
-blocks_of_append (e ∷ xs) [] =
-    ap Some (same_blocks (gaps_after_append (end_of e) xs [] ∙ omega arith) refl (end_after_append (end_of e) xs []))
-blocks_of_append (e ∷ xs) (f ∷ ys) =
-    ap Some (same_blocks (gaps_after_append (end_of e) xs (f ∷ ys) ∙ omega arith) refl (end_after_append (end_of e) xs (f ∷ ys)))
+blocks_of_append (e ∷ xs) [] = grind (arith, gaps_after_append (end_of e) xs [], end_after_append (end_of e) xs [])
+blocks_of_append (e ∷ xs) (f ∷ ys) = grind (arith, gaps_after_append (end_of e) xs (f ∷ ys), end_after_append (end_of e) xs (f ∷ ys))
 
 pub end_of_moved : (by : ℤ) (e : Basic × ℤ) → end_of (moved_element by e) ≡ by +ℤ end_of e
 end_of_moved by e = omega (arith, ints)
 
 gaps_after_moved : (by at : ℤ) (es : List (Basic × ℤ)) → gaps_after (by +ℤ at) (map (moved_element by) es) ≡ gaps_after at es
 gaps_after_moved by at [] = refl
-gaps_after_moved by at (e ∷ es) =
-    ap (λ n. n + gaps_after (end_of (moved_element by e)) (map (moved_element by) es)) (gap_moved by at (start_of e))
-    ∙ ap (λ p. gap at (start_of e) + gaps_after p (map (moved_element by) es)) (end_of_moved by e)
-    ∙ ap (λ n. gap at (start_of e) + n) (gaps_after_moved by (end_of e) es)
+gaps_after_moved by at (e ∷ es) = cc (gap_moved by at (start_of e), end_of_moved by e, gaps_after_moved by (end_of e) es)
 
 end_after_moved : (by at : ℤ) (es : List (Basic × ℤ)) → end_after (by +ℤ at) (map (moved_element by) es) ≡ by +ℤ end_after at es
 end_after_moved by at [] = refl
-end_after_moved by at (e ∷ es) =
-    ap (λ p. end_after p (map (moved_element by) es)) (end_of_moved by e) ∙ end_after_moved by (end_of e) es
+end_after_moved by at (e ∷ es) = cc (end_of_moved by e, end_after_moved by (end_of e) es)
 
 pub blocks_of_moved : (by : ℤ) (es : List (Basic × ℤ)) → blocks_of (map (moved_element by) es) ≡ moved_blocks by (blocks_of es)
 blocks_of_moved by [] = refl
-blocks_of_moved by (e ∷ es) =
-    ap Some (same_blocks
-    (ap (λ p. gaps_after p (map (moved_element by) es)) (end_of_moved by e) ∙ gaps_after_moved by (end_of e) es)
-    refl
-    (ap (λ p. end_after p (map (moved_element by) es)) (end_of_moved by e) ∙ end_after_moved by (end_of e) es))
+blocks_of_moved by (e ∷ es) = cc (end_of_moved by e, gaps_after_moved by (end_of e) es, end_after_moved by (end_of e) es)
 
 gaps_more : (n g b : ℕ) → g + b + (g + n * (g + b)) ≡ g + suc n * (g + b)
 gaps_more n g b = omega arith
@@ -85,11 +66,7 @@ pub repeated_blocks_more : (n : ℕ) (from stride : ℤ) (a : Option Blocks) →
     joined_blocks (moved_blocks from a) (moved_blocks (from +ℤ stride) (repeated_blocks n stride a)) ≡ moved_blocks from (repeated_blocks (suc n) stride a)
 repeated_blocks_more n from stride None = refl
 repeated_blocks_more n from stride (Some a) =
-    ap Some (same_blocks
-    (ap (λ b. a.gaps + b + (a.gaps + n * (a.gaps + gap a.last (a.first +ℤ stride)))) (gap_more from stride a.last a.first)
-    ∙ gaps_more n a.gaps (gap a.last (a.first +ℤ stride)))
-    refl
-    (last_more n from stride a.last))
+    cc (gap_more from stride a.last a.first, gaps_more n a.gaps (gap a.last (a.first +ℤ stride)), last_more n from stride a.last)
 
 last_one : (from stride last : ℤ) → from +ℤ last ≡ from +ℤ (last +ℤ pos 0 *ℤ stride)
 last_one from stride last = omega (arith, ints)
@@ -99,8 +76,7 @@ gaps_one g b = omega arith
 
 pub repeated_blocks_one : (from stride : ℤ) (a : Option Blocks) → joined_blocks (moved_blocks from a) None ≡ moved_blocks from (repeated_blocks 0 stride a)
 repeated_blocks_one from stride None = refl
-repeated_blocks_one from stride (Some a) =
-    ap Some (same_blocks (gaps_one a.gaps (gap a.last (a.first +ℤ stride))) refl (last_one from stride a.last))
+repeated_blocks_one from stride (Some a) = cc (gaps_one a.gaps (gap a.last (a.first +ℤ stride)), last_one from stride a.last)
 
 pub gap_other : (a b : ℤ) → b ≢ a → gap a b ≡ 1
 unfolding gap

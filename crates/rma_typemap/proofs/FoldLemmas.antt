@@ -1,16 +1,12 @@
 -- One more block, or member, at a loop's step.
-use Rattle.std.proofs.Common.{◌≡◌, ℕ, ◌+◌, ◌*◌, ◌<◌, ◌≤◌, ℤ, List, length, get_or, take, map, sum_by, ap, ◌∙◌, arith}
-use Rattle.std.proofs.lemmas.List.{map_more}
-use Rattle.std.proofs.lemmas.List.Sums.{fold_push, sum_by_more, sum_by_more_le}
-use Rattle.std.proofs.Math.Nat.{mul-le-mul_right}
-use Rattle.rma_typemap.specs.declared.summary.Summary.{Summary}
-use Rattle.rma_typemap.specs.inside.Summary.{with_block, indexed_of, empty_summary}
+use Rattle.std.proofs.Common.{◌≡◌, ℕ, ◌+◌, ◌*◌, ◌<◌, ◌≤◌, ℤ, List, length, get_or, take, map, sum_by, ap, ◌∙◌, arith, sym}
+use Rattle.rma_typemap.proofs.Words.{map_more, fold_push, sum_by_more, sum_by_more_le, mul-le-mul_right, Summary, with_block, indexed_of, empty_summary}
 
 module _ {B : Type 0} (block : B → ℕ × ℤ) (old : Summary) where
-  pub indexed_of_more : (bs : List B) (i : ℕ) (d : B) → i < length bs →
-      indexed_of old (map block (take (i + 1) bs)) ≡ with_block old (indexed_of old (map block (take i bs))) (block (get_or bs i d))
-  indexed_of_more bs i d h =
-      ap (indexed_of old) (map_more block bs i d h) ∙ fold_push (with_block old) empty_summary (map block (take i bs)) (block (get_or bs i d))
+  pub indexed_of_more : (bs : List B) (i : ℕ) (d : B) → i < length bs → (done more : Summary) (n : ℕ) (x : ℤ) → more ≡ with_block old done (n, x) →
+      done ≡ indexed_of old (map block (take i bs)) → n ≡ (block (get_or bs i d)).0 → x ≡ (block (get_or bs i d)).1 → more ≡ indexed_of old (map block (take (i + 1) bs))
+  indexed_of_more bs i d h done more n x step is count at =
+      rw (step, is, count, at) (sym (ap (indexed_of old) (map_more block bs i d h) ∙ fold_push (with_block old) empty_summary (map block (take i bs)) (block (get_or bs i d))))
 
 -- what the blocks so far and the next one have is no more than what all have
 pub few_more : {B : Type 0} (n : B → ℕ) (e limit : ℕ) (bs : List B) (i : ℕ) (d : B) → i < length bs → sum_by n bs * e ≤ limit →

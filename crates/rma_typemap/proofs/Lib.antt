@@ -1,6 +1,6 @@
+pub mod Words
 pub mod IntegerLemmas
 pub mod WideLemmas
-pub mod Steps
 pub mod SpanLemmas
 pub mod BlocksLemmas
 pub mod SummaryLemmas
@@ -11,5 +11,4 @@ pub mod FoldLemmas
 pub mod ArrayLemmas
 pub mod ConstructorLemmas
 pub mod SpaceLemmas
-pub mod EntryLemmas
 pub mod SignatureLemmas

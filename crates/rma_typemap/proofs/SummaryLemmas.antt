@@ -1,17 +1,7 @@
 -- The summary of copies, of one typemap after another, and of copies at equal distances.
-use Rattle.std.proofs.Common.{◌≡◌, ℕ, suc, zero, ◌+◌, ◌*◌, max, ℤ, pos, ◌+ℤ◌, List, [], ◌∷◌, ◌++◌, map, sum_by, Option, Some, None, refl, sym, ap, ◌∙◌, arith}
-use Rattle.std.proofs.lemmas.Int.{ints}
-use Rattle.std.proofs.lemmas.List.{length-append, length-map, map-append}
-use Rattle.std.proofs.lemmas.List.Sums.{sum_by-append, sum_by-cons}
+use Rattle.std.proofs.Common.{◌≡◌, ℕ, suc, max, ℤ, pos, ◌+ℤ◌, List, [], ◌∷◌, ◌++◌, map, sum_by, Option, Some, None, refl, ap, ◌∙◌, arith}
+use Rattle.rma_typemap.proofs.Words.{ints, length-append, length-map, map-append, sum_by-append, sum_by-cons, Basic, basic_size, Span, Blocks, Summary, Typemap, element, lower_mark, upper_mark, copy_at, elements_of, lowers_of, uppers_of, elements, lower_marks, upper_marks, start_of, end_of, alignment_of, span, make_blocks, span_of, intervals, points, summary_of, summary, empty_summary, joined, displaced, with_more, size}
 use Rattle.std.proofs.lemmas.List.Concat.{flat_map-append}
-use Rattle.rma_datatype.specs.declared.basic.Basic.{Basic}
-use Rattle.rma_datatype.specs.Basic.{basic_size}
-use Rattle.rma_typemap.specs.declared.span.Span.{Span}
-use Rattle.rma_typemap.specs.declared.blocks.Blocks.{Blocks}
-use Rattle.rma_typemap.specs.declared.summary.Summary.{Summary}
-use Rattle.rma_typemap.specs.Typemap.{Typemap, element, lower_mark, upper_mark, copy_at, copies_at, elements_of, lowers_of, uppers_of, elements, lower_marks, upper_marks, start_of, end_of, alignment_of}
-use Rattle.rma_typemap.specs.inside.Summary.{span, make_blocks, span_of, intervals, points, summary_of, summary, empty_summary, joined, displaced, with_more, repeated}
-use Rattle.rma_typemap.proofs.Steps.{steps}
 use Rattle.rma_typemap.proofs.SpanLemmas.{span_of_append, span_of_moved, moved_interval, stretched_span_more, stretched_span_one}
 use Rattle.rma_typemap.proofs.BlocksLemmas.{moved_element, end_of_moved, blocks_of_append, blocks_of_moved, repeated_blocks_more, repeated_blocks_one}
 
@@ -41,28 +31,15 @@ summary_of_append es fs ls ms us vs =
 pub elements_append : (m n : Typemap) → elements (m ++ n) ≡ elements m ++ elements n
 elements_append m n = flat_map-append elements_of m n
 
-pub lower_marks_append : (m n : Typemap) → lower_marks (m ++ n) ≡ lower_marks m ++ lower_marks n
-lower_marks_append m n = flat_map-append lowers_of m n
-
-pub upper_marks_append : (m n : Typemap) → upper_marks (m ++ n) ≡ upper_marks m ++ upper_marks n
-upper_marks_append m n = flat_map-append uppers_of m n
-
 pub summary_append : (m n : Typemap) → summary (m ++ n) ≡ joined (summary m) (summary n)
 unfolding summary
-summary_append m n =
-    ap (λ es. summary_of es (lower_marks (m ++ n)) (upper_marks (m ++ n))) (elements_append m n)
-    ∙ ap (λ ls. summary_of (elements m ++ elements n) ls (upper_marks (m ++ n))) (lower_marks_append m n)
-    ∙ ap (λ us. summary_of (elements m ++ elements n) (lower_marks m ++ lower_marks n) us) (upper_marks_append m n)
-    ∙ summary_of_append (elements m) (elements n) (lower_marks m) (lower_marks n) (upper_marks m) (upper_marks n)
+summary_append m n = rw (flat_map-append elements_of m n, flat_map-append lowers_of m n, flat_map-append uppers_of m n) (summary_of_append (elements m) (elements n) (lower_marks m) (lower_marks n) (upper_marks m) (upper_marks n))
 
 -- ---- moved
 
 sum_by_moved : (by : ℤ) (es : List (Basic × ℤ)) → sum_by (λ (e : Basic × ℤ). basic_size e.0) (map (moved_element by) es) ≡ sum_by (λ (e : Basic × ℤ). basic_size e.0) es
 sum_by_moved by [] = refl
-sum_by_moved by (e ∷ es) =
-    sum_by-cons (λ (f : Basic × ℤ). basic_size f.0) (moved_element by e) (map (moved_element by) es)
-    ∙ ap (λ n. basic_size e.0 + n) (sum_by_moved by es)
-    ∙ sym (sum_by-cons (λ (f : Basic × ℤ). basic_size f.0) e es)
+sum_by_moved by (e ∷ es) = simp (sum_by-cons, sum_by_moved by es)
 
 alignment_of_moved : (by : ℤ) (es : List (Basic × ℤ)) → alignment_of (map (moved_element by) es) ≡ alignment_of es
 alignment_of_moved by [] = refl
@@ -70,9 +47,7 @@ alignment_of_moved by (e ∷ es) = ap (max (basic_size e.0)) (alignment_of_moved
 
 intervals_moved : (by : ℤ) (es : List (Basic × ℤ)) → intervals (map (moved_element by) es) ≡ map (moved_interval by) (intervals es)
 intervals_moved by [] = refl
-intervals_moved by (e ∷ es) =
-    ap (λ p. (by +ℤ start_of e, p) ∷ map (λ (f : Basic × ℤ). (start_of f, end_of f)) (map (moved_element by) es)) (end_of_moved by e)
-    ∙ ap (λ xs. (by +ℤ start_of e, by +ℤ end_of e) ∷ xs) (intervals_moved by es)
+intervals_moved by (e ∷ es) = cc (end_of_moved by e, intervals_moved by es)
 
 points_moved : (by : ℤ) (xs : List ℤ) → points (map (λ x. by +ℤ x) xs) ≡ map (moved_interval by) (points xs)
 points_moved by [] = refl
@@ -86,72 +61,34 @@ summary_of_moved by es ls us =
     (ap span_of (points_moved by us) ∙ span_of_moved by (points us))
     (blocks_of_moved by es)
 
-pub elements_copy_at : (by : ℤ) (m : Typemap) → elements (copy_at by m) ≡ map (moved_element by) (elements m)
-elements_copy_at by [] = refl
-elements_copy_at by (element b at ∷ m) = ap (λ es. (b, by +ℤ at) ∷ es) (elements_copy_at by m)
-elements_copy_at by (lower_mark at ∷ m) = elements_copy_at by m
-elements_copy_at by (upper_mark at ∷ m) = elements_copy_at by m
-
-pub lower_marks_copy_at : (by : ℤ) (m : Typemap) → lower_marks (copy_at by m) ≡ map (λ x. by +ℤ x) (lower_marks m)
-lower_marks_copy_at by [] = refl
-lower_marks_copy_at by (element b at ∷ m) = lower_marks_copy_at by m
-lower_marks_copy_at by (lower_mark at ∷ m) = ap (λ xs. (by +ℤ at) ∷ xs) (lower_marks_copy_at by m)
-lower_marks_copy_at by (upper_mark at ∷ m) = lower_marks_copy_at by m
-
-pub upper_marks_copy_at : (by : ℤ) (m : Typemap) → upper_marks (copy_at by m) ≡ map (λ x. by +ℤ x) (upper_marks m)
-upper_marks_copy_at by [] = refl
-upper_marks_copy_at by (element b at ∷ m) = upper_marks_copy_at by m
-upper_marks_copy_at by (lower_mark at ∷ m) = upper_marks_copy_at by m
-upper_marks_copy_at by (upper_mark at ∷ m) = ap (λ xs. (by +ℤ at) ∷ xs) (upper_marks_copy_at by m)
+pub parts_copy_at : (by : ℤ) (m : Typemap) →
+    (elements (copy_at by m) ≡ map (moved_element by) (elements m)) × (lower_marks (copy_at by m) ≡ map (λ x. by +ℤ x) (lower_marks m)) × (upper_marks (copy_at by m) ≡ map (λ x. by +ℤ x) (upper_marks m))
+parts_copy_at by [] = (refl, refl, refl)
+parts_copy_at by (element b at ∷ m) = let rest = parts_copy_at by m in (ap (λ es. (b, by +ℤ at) ∷ es) rest.0, rest.1, rest.2)
+parts_copy_at by (lower_mark at ∷ m) = let rest = parts_copy_at by m in (rest.0, ap (λ xs. (by +ℤ at) ∷ xs) rest.1, rest.2)
+parts_copy_at by (upper_mark at ∷ m) = let rest = parts_copy_at by m in (rest.0, rest.1, ap (λ xs. (by +ℤ at) ∷ xs) rest.2)
 
 pub summary_copy_at : (by : ℤ) (m : Typemap) → summary (copy_at by m) ≡ displaced by (summary m)
 unfolding summary
-summary_copy_at by m =
-    ap (λ es. summary_of es (lower_marks (copy_at by m)) (upper_marks (copy_at by m))) (elements_copy_at by m)
-    ∙ ap (λ ls. summary_of (map (moved_element by) (elements m)) ls (upper_marks (copy_at by m))) (lower_marks_copy_at by m)
-    ∙ ap (λ us. summary_of (map (moved_element by) (elements m)) (map (λ x. by +ℤ x) (lower_marks m)) us) (upper_marks_copy_at by m)
-    ∙ summary_of_moved by (elements m) (lower_marks m) (upper_marks m)
+summary_copy_at by m = let parts = parts_copy_at by m in rw (parts.0, parts.1, parts.2) (summary_of_moved by (elements m) (lower_marks m) (upper_marks m))
 
 -- ---- copies at equal distances
 
-count_more : (n a : ℕ) → a + (a + n * a) ≡ a + suc n * a
-count_more n a = omega arith
-
-count_one : (a : ℕ) → a + 0 ≡ a + 0 * a
-count_one a = omega arith
-
-max_same : (a : ℕ) → max a a ≡ a
-max_same a = omega arith
-
-max_none : (a : ℕ) → max a 0 ≡ a
-max_none a = omega arith
-
 pub one_before : (n : ℕ) (from stride : ℤ) (a : Summary) → joined (displaced from a) (displaced (from +ℤ stride) (with_more n stride a)) ≡ displaced from (with_more (suc n) stride a)
 one_before n from stride a =
-    same_summary _ _ (count_more n a.entries) (count_more n a.size) (max_same a.alignment)
+    same_summary _ _ (omega arith) (omega arith) (omega arith)
     (stretched_span_more n from stride a.bytes) (stretched_span_more n from stride a.lower) (stretched_span_more n from stride a.upper)
     (repeated_blocks_more n from stride a.blocks)
 
 pub one_alone : (from stride : ℤ) (a : Summary) → joined (displaced from a) empty_summary ≡ displaced from (with_more 0 stride a)
 one_alone from stride a =
-    same_summary _ _ (count_one a.entries) (count_one a.size) (max_none a.alignment)
+    same_summary _ _ (omega arith) (omega arith) (omega arith)
     (stretched_span_one from stride a.bytes) (stretched_span_one from stride a.lower) (stretched_span_one from stride a.upper)
     (repeated_blocks_one from stride a.blocks)
 
 pub summary_nil : summary [] ≡ empty_summary
 unfolding summary
 summary_nil = refl
-
-pub summary_steps : (n : ℕ) (from stride : ℤ) (m : Typemap) → summary (copies_at (steps n stride from) m) ≡ displaced from (repeated n stride (summary m))
-summary_steps zero from stride m = summary_nil
-summary_steps (suc zero) from stride m =
-    summary_append (copy_at from m) [] ∙ ap (λ o. joined o (summary [])) (summary_copy_at from m) ∙ ap (joined (displaced from (summary m))) summary_nil
-    ∙ one_alone from stride (summary m)
-summary_steps (suc (suc n)) from stride m =
-    summary_append (copy_at from m) (copies_at (steps (suc n) stride (from +ℤ stride)) m)
-    ∙ ap (λ o. joined o (summary (copies_at (steps (suc n) stride (from +ℤ stride)) m))) (summary_copy_at from m)
-    ∙ ap (joined (displaced from (summary m))) (summary_steps (suc n) (from +ℤ stride) stride m)
-    ∙ one_before n from stride (summary m)
 
 -- ---- one element
 

@@ -33,12 +33,5 @@ IsCounted (Subarray order old dimensions) = list_all is_part dimensions ≡ true
 
 -- the same, where the array is not too large either
 abbrev pub IsSingle : Make → Type 0
-IsSingle (Contiguous count old) = pos 0 ≤ℤ count
-IsSingle (Vector count len stride old) = (pos 0 ≤ℤ count) × (pos 0 ≤ℤ len)
-IsSingle (Hvector count len stride old) = (pos 0 ≤ℤ count) × (pos 0 ≤ℤ len)
-IsSingle (Indexed old blocks) = All (λ b. pos 0 ≤ℤ b.length) blocks
-IsSingle (Hindexed old blocks) = All (λ b. pos 0 ≤ℤ b.length) blocks
-IsSingle (IndexedBlock len old displacements) = pos 0 ≤ℤ len
-IsSingle (Struct members) = ⊥
-IsSingle (Resized old low extent) = Unit {0}
 IsSingle (Subarray order old dimensions) = (list_all is_part dimensions ≡ true) × (whole_of_cuts (cuts_of order dimensions) ≤ address_limit)
+IsSingle other = IsCounted other

@@ -14,7 +14,9 @@ use Rattle.rma_datatype.specs.declared.make.Member.{Member}
 use Rattle.rma_datatype.specs.declared.make.Block.{Block}
 use Rattle.rma_datatype.specs.declared.make.ByteBlock.{ByteBlock}
 use Rattle.rma_typemap.specs.declared.array.Cut.{Cut}
-use Rattle.rma_typemap.specs.Array.{whole_of_cuts}
+use Rattle.rma_datatype.specs.declared.make.Make.{Make}
+use Rattle.rma_datatype.specs.declared.make.Make.TheVariants.{Contiguous, Vector, Hvector, Indexed, Hindexed, IndexedBlock, Struct, Resized, Subarray}
+use Rattle.rma_typemap.specs.Array.{cuts_of, whole_of_cuts}
 use Rattle.rma_typemap.specs.Bounds.{first_of_both, raised_where_there}
 use Rattle.rma_typemap.specs.Constructors.{whole, times}
 use Rattle.rma_typemap.specs.Typemap.{Typemap, elements, lower_marks, upper_marks, start_of, end_of, alignment_of, gap, gaps_after, end_after}
@@ -245,3 +247,15 @@ cut_part extent (c ∷ cs) a =
 -- the part of an array, with the bounds of the whole
 abbrev pub marked_part : ℤ → List Cut → Summary → Summary
 marked_part extent cs a = marked (pos 0) (pos (whole_of_cuts cs) *ℤ extent) (cut_part extent cs a)
+
+-- what a constructor makes of one old datatype with this summary
+abbrev pub built : Make → Summary → Summary
+built (Contiguous count old) a = repeated (times count) (extent_of a) a
+built (Vector count len stride old) a = vector_of (times count) (times len) (stride *ℤ extent_of a) a
+built (Hvector count len stride old) a = vector_of (times count) (times len) stride a
+built (Indexed old blocks) a = indexed_of a (map (block_in_extents (extent_of a)) blocks)
+built (Hindexed old blocks) a = indexed_of a (map block_in_bytes blocks)
+built (IndexedBlock len old displacements) a = indexed_of a (map (block_at (extent_of a) (times len)) displacements)
+built (Struct members) a = empty_summary
+built (Resized old low extent) a = marked low (low +ℤ extent) a
+built (Subarray order old dimensions) a = marked_part (extent_of a) (cuts_of order dimensions) a

@@ -1,7 +1,6 @@
 use Rattle.std.proofs.Common.{rules, refl, sym, ◌∙◌}
-use Rattle.std.proofs.lemmas.Bool.{false≢true}
+use Rattle.rma_type.proofs.Words.{false≢true, the_type}
 use denote.Enum.Bare.{differs_true, differs_false}
-use Rattle.rma_datatype.specs.contracts.basic.Basic.{the_type}
 use Rattle.rma_type.proofs.CursorLemmas.{ends_early, goes_other, goes_on, is_through}
 use Rattle.rma_type.proofs.prefix.begins_with.Goals as goal
 

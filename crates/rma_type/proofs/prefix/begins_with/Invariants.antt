@@ -1,7 +1,5 @@
 use Rattle.std.proofs.Common.{◌↔◌, length}
-use Rattle.rma_typemap.specs.Signature.{copies}
-use Rattle.rma_type.specs.Signature.{spread, BeginsWith}
-use Rattle.rma_type.specs.inside.Cursor.{rest_at, IsCursor}
+use Rattle.rma_type.proofs.Words.{copies, spread, BeginsWith, rest_at, IsCursor}
 use Rattle.rma_type.proofs.prefix.begins_with.Given as goal
 
 abbrev pub invariant-loop-sought : goal.invariant-loop-sought

@@ -1,5 +1,5 @@
 use Rattle.std.proofs.Common.{◌≡◌, ◌*◌, ◌++◌, length, get_or, replicate, ap, ◌∙◌, arith}
-use Rattle.rma_type.specs.inside.Cursor.{rest_from}
+use Rattle.rma_type.proofs.Words.{rest_from}
 use Rattle.rma_type.proofs.RunLemmas.{no_run}
 use Rattle.rma_type.proofs.CursorLemmas.{rest_of_one}
 use Rattle.rma_type.proofs.prefix.first.Goals as goal

@@ -1,4 +1,4 @@
-use Rattle.rma_type.specs.inside.Cursor.{rest_from}
+use Rattle.rma_type.proofs.Words.{rest_from}
 use Rattle.rma_type.proofs.CursorLemmas.{part_left}
 use Rattle.rma_type.proofs.prefix.passed.Goals as goal
 

@@ -1,5 +1,5 @@
 use Rattle.std.proofs.Common.{◌≡◌, ◌<◌, length, arith}
-use Rattle.std.proofs.lemmas.Bool.Decides.{nat_tests}
+use Rattle.rma_type.proofs.Words.{nat_tests}
 use Rattle.rma_type.proofs.RunLemmas.{no_run, run_is_some}
 use Rattle.rma_type.proofs.CursorLemmas.{rest_none, rest_empty, rest_again}
 use Rattle.rma_type.proofs.prefix.run_at.Goals as goal

@@ -1,6 +1,5 @@
-use Rattle.std.proofs.Common.{◌++◌, length, get_or, take, ap, sym, ◌∙◌, arith}
-use Rattle.std.proofs.lemmas.List.{append_assoc, length-append, take_all}
-use Rattle.rma_type.specs.Signature.{basics_of, spread}
+use Rattle.std.proofs.Common.{length, get_or, take, ap, ◌∙◌, arith}
+use Rattle.rma_type.proofs.Words.{append_assoc, length-append, take_all, basics_of, spread}
 use Rattle.rma_type.proofs.RunLemmas.{no_run, run_is_some, spread_more, spread_more_fits}
 use Rattle.rma_type.proofs.signature.append.Goals as goal
 
@@ -21,13 +20,10 @@ loop-run-preserved c =
     let i = c.loop-run.run-index in
     let one = basics_of (get_or runs i no_run) in
     record {
-      same = c.in_ok-push.ensures.same ∙ ap (λ xs. xs ++ one) c.loop-run.invariant.same
-          ∙ append_assoc (spread c.args.done.now.items) (spread (take i runs)) one
-          ∙ ap (λ xs. spread c.args.done.now.items ++ xs) (sym (spread_more runs i no_run c.loop-run-test.true));
+      same = rw (c.in_ok-push.ensures.same, c.loop-run.invariant.same, spread_more runs i no_run c.loop-run-test.true) (append_assoc (spread c.args.done.now.items) (spread (take i runs)) one);
       apart = c.in_ok-push.ensures.apart;
     }
 
 pub returns-clause-same : goal.returns-clause-same
 returns-clause-same c =
-    let i = c.loop-run.run-index in
-    c.loop-run.invariant.same ∙ ap (λ xs. spread c.args.done.now.items ++ spread xs) (take_all i c.args.runs.now c.loop-run-test.false)
+    rw (c.loop-run.invariant.same, take_all c.loop-run.run-index c.args.runs.now c.loop-run-test.false)

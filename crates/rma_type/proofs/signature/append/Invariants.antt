@@ -1,5 +1,5 @@
 use Rattle.std.proofs.Common.{◌≡◌, ◌++◌, take}
-use Rattle.rma_type.specs.Signature.{spread, AreRuns}
+use Rattle.rma_type.proofs.Words.{spread, AreRuns}
 use Rattle.rma_type.proofs.signature.append.Given as goal
 
 abbrev pub invariant-loop-run : goal.invariant-loop-run

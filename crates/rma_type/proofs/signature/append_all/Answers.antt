@@ -1,14 +1,12 @@
 use Rattle.std.proofs.Common.{◌≡◌, ◌++◌, length, ap, sym, ◌∙◌, arith}
-use Rattle.std.proofs.lemmas.List.{length-append, append-nil}
-use Rattle.rma_typemap.specs.Signature.{copies}
+use Rattle.rma_type.proofs.Words.{length-append, append-nil, copies, spread}
 use Rattle.rma_typemap.proofs.SignatureLemmas.{copies_zero, length_copies}
-use Rattle.rma_type.specs.Signature.{spread}
 use Rattle.rma_type.proofs.RunLemmas.{one_copy_more, copies_more}
 use Rattle.rma_type.proofs.signature.append_all.Goals as goal
 
 pub loop-copy-init : goal.loop-copy-init
 loop-copy-init c = record {
-  same = sym (append-nil (spread c.args.done.now.items)) ∙ ap (λ xs. spread c.args.done.now.items ++ xs) (sym (copies_zero (spread c.args.runs.now)));
+  same = rw copies_zero (sym (append-nil (spread c.args.done.now.items)));
   apart = c.requires.done_apart;
 }
 
@@ -25,7 +23,7 @@ loop-copy-preserved c =
     let one = spread c.args.runs.now in
     let k = c.loop-copy._copy in
     record {
-      same = c.in_ok-append.ensures.same ∙ ap (λ xs. xs ++ one) c.loop-copy.invariant.same ∙ copies_more k (spread c.args.done.now.items) one;
+      same = rw (c.in_ok-append.ensures.same, c.loop-copy.invariant.same) (copies_more k (spread c.args.done.now.items) one);
       apart = c.in_ok-append.ensures.apart;
     }
 

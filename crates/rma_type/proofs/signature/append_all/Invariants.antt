@@ -1,6 +1,5 @@
 use Rattle.std.proofs.Common.{◌≡◌, ◌++◌}
-use Rattle.rma_typemap.specs.Signature.{copies}
-use Rattle.rma_type.specs.Signature.{spread, AreRuns}
+use Rattle.rma_type.proofs.Words.{copies, spread, AreRuns}
 use Rattle.rma_type.proofs.signature.append_all.Given as goal
 
 abbrev pub invariant-loop-copy : goal.invariant-loop-copy

@@ -1,4 +1,4 @@
-use Rattle.rma_type.specs.Signature.{spread}
+use Rattle.rma_type.proofs.Words.{spread}
 use Rattle.rma_type.proofs.RunLemmas.{no_copies}
 use Rattle.rma_type.proofs.signature.append_copies.Goals as goal
 

@@ -1,10 +1,6 @@
-use Rattle.std.proofs.Common.{◌≡◌, ◌≢◌, ℕ, suc, ◌-◌, ◌<◌, ◌+◌, List, length, get_or, refl, ap, sym, subst, ◌∙◌, arith, rules}
-use Rattle.std.proofs.lemmas.List.{get_or_default}
+use Rattle.std.proofs.Common.{◌≡◌, ◌≢◌, ℕ, suc, ◌-◌, ◌<◌, ◌+◌, List, length, get_or, refl, ap, sym, ◌∙◌, arith, rules}
+use Rattle.rma_type.proofs.Words.{get_or_default, Basic, the_type, SigRun}
 use denote.Enum.Bare.{same_true, same_false}
-use Rattle.rma_datatype.specs.declared.basic.Basic.{Basic}
-use Rattle.rma_datatype.specs.contracts.basic.Basic.{the_type}
-use Rattle.rma_type.specs.declared.sig_run.SigRun.{SigRun}
-use Rattle.rma_type.specs.Signature.{AreRuns}
 use Rattle.rma_type.proofs.RunLemmas.{spread_merged, AreRuns_merged, AreRuns_push}
 use Rattle.rma_type.proofs.signature.push.Goals as goal
 use Rattle.rma_type.proofs.signature.push.Goals.{else-n-gt0-via-then-n-gt0+else-eq, else-n-gt0-via-else-n-gt0}
@@ -44,9 +40,7 @@ last_differs : (items : List SigRun) (n : ℕ) (last : SigRun) (basic : Basic) �
     (i : ℕ) (d : SigRun) → suc i ≡ length items → (get_or items i d).basic ≢ basic
 last_differs items n last basic number some is other i d end =
     let here : i ≡ n - 1 = omega arith in
-    let P : ℕ → Type 0 = λ k. (get_or items k d).basic ≢ basic in
-    let Q : SigRun → Type 0 = λ r. r.basic ≢ basic in
-    subst P (sym here) (subst Q (is ∙ get_or_default items (n - 1) last d (omega arith)) other)
+    rw (here, ← (is ∙ get_or_default items (n - 1) last d (omega arith))) other
 
 pub returns-clause-apart : goal.returns-clause-apart
 returns-clause-apart c =
@@ -60,5 +54,4 @@ returns-clause-apart c =
           (same_false the_type w.index.result.now.basic run.basic (sym w.eq.ensures ∙ w.if-eq.false))
       | else-n-gt0-via-else-n-gt0 w ↦ λ i d end. absurd (omega (arith, number, w.if-n-gt0.false))
     ] in
-    let P : List SigRun → Type 0 = λ xs. AreRuns xs in
-    subst P (sym c.in_ok-push.ensures.items) (AreRuns_push items run c.requires.some other c.requires.apart)
+    rw c.in_ok-push.ensures.items (AreRuns_push items run c.requires.some other c.requires.apart)

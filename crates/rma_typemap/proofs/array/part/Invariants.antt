@@ -1,8 +1,5 @@
 use Rattle.std.proofs.Common.{◌≡◌, ◌^◌, ◌*◌, ◌+◌, ◌-◌, drop, length, pos, ◌*ℤ◌}
-use Rattle.rma_base.specs.Limits.{address_limit}
-use Rattle.rma_typemap.specs.inside.Near.{IsNearby, IsSound}
-use Rattle.rma_typemap.specs.Array.{cuts_of, whole_of_cuts, part_of_cuts}
-use Rattle.rma_typemap.specs.inside.Summary.{cut_part}
+use Rattle.rma_typemap.proofs.Words.{address_limit, IsNearby, IsSound, cuts_of, whole_of_cuts, part_of_cuts, cut_part}
 use Rattle.rma_typemap.proofs.array.part.Given as goal
 
 abbrev pub invariant-loop-k : goal.invariant-loop-k

@@ -1,5 +1,5 @@
 use Rattle.std.proofs.Common.{◌≡◌, ◌-◌, drop, length}
-use Rattle.rma_typemap.specs.Array.{cuts_of, whole_of_cuts}
+use Rattle.rma_typemap.proofs.Words.{cuts_of, whole_of_cuts}
 use Rattle.rma_typemap.proofs.array.too_large.Given as goal
 
 abbrev pub invariant-loop-k : goal.invariant-loop-k

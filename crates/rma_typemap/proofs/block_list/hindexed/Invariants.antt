@@ -1,8 +1,5 @@
 use Rattle.std.proofs.Common.{◌≡◌, ◌^◌, ◌*◌, take, map, sum_by}
-use Rattle.rma_datatype.specs.declared.make.ByteBlock.{ByteBlock}
-use Rattle.rma_typemap.specs.inside.Near.{IsNearby, IsSound}
-use Rattle.rma_typemap.specs.Constructors.{times}
-use Rattle.rma_typemap.specs.inside.Summary.{indexed_of, block_in_bytes}
+use Rattle.rma_typemap.proofs.Words.{ByteBlock, IsNearby, IsSound, times, indexed_of, block_in_bytes}
 use Rattle.rma_typemap.proofs.block_list.hindexed.Given as goal
 
 abbrev pub invariant-loop-block : goal.invariant-loop-block

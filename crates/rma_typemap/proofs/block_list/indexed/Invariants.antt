@@ -1,8 +1,5 @@
 use Rattle.std.proofs.Common.{◌≡◌, ◌^◌, ◌*◌, take, map, sum_by}
-use Rattle.rma_datatype.specs.declared.make.Block.{Block}
-use Rattle.rma_typemap.specs.inside.Near.{IsNearby, IsSound}
-use Rattle.rma_typemap.specs.Constructors.{times}
-use Rattle.rma_typemap.specs.inside.Summary.{extent_of, indexed_of, block_in_extents}
+use Rattle.rma_typemap.proofs.Words.{Block, IsNearby, IsSound, times, extent_of, indexed_of, block_in_extents}
 use Rattle.rma_typemap.proofs.block_list.indexed.Given as goal
 
 abbrev pub invariant-loop-block : goal.invariant-loop-block

@@ -1,6 +1,5 @@
 use Rattle.std.proofs.Common.{◌≡◌, ◌^◌, ◌*◌, take, map}
-use Rattle.rma_typemap.specs.inside.Near.{IsNearby, IsSound}
-use Rattle.rma_typemap.specs.inside.Summary.{extent_of, indexed_of, block_at}
+use Rattle.rma_typemap.proofs.Words.{IsNearby, IsSound, extent_of, indexed_of, block_at}
 use Rattle.rma_typemap.proofs.block_list.indexed_block.Given as goal
 
 abbrev pub invariant-loop-displacement : goal.invariant-loop-displacement

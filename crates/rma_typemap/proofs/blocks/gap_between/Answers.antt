@@ -1,6 +1,5 @@
 use Rattle.std.proofs.Common.{◌≡◌, sym, ap, arith, of_z}
-use Rattle.std.specs.Int.{w128}
-use Rattle.std.proofs.lemmas.Int.{ints}
+use Rattle.rma_typemap.proofs.Words.{w128, ints}
 use Rattle.rma_typemap.proofs.BlocksLemmas.{gap_same, gap_other}
 use Rattle.rma_typemap.proofs.blocks.gap_between.Goals as goal
 

@@ -1,5 +1,5 @@
 use Rattle.std.proofs.Common.{◌^◌, arith}
-use Rattle.rma_base.specs.Limits.{address_limit}
+use Rattle.rma_typemap.proofs.Words.{address_limit}
 use Rattle.rma_typemap.proofs.WideLemmas.{wide_product}
 use Rattle.rma_typemap.proofs.constructor.subarray.Goals as goal
 

@@ -1,6 +1,5 @@
 use Rattle.std.proofs.Common.{◌≡◌, ◌*◌, ◌^◌, ◌≤◌, take, sum_by}
-use Rattle.rma_datatype.specs.declared.make.ByteBlock.{ByteBlock}
-use Rattle.rma_typemap.specs.Constructors.{times}
+use Rattle.rma_typemap.proofs.Words.{ByteBlock, times}
 use Rattle.rma_typemap.proofs.count.byte_block_copies.Given as goal
 
 abbrev pub invariant-loop-block : goal.invariant-loop-block

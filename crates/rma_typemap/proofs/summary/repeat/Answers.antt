@@ -1,6 +1,5 @@
 use Rattle.std.proofs.Common.{◌≡◌, ◌≢◌, ℕ, zero, suc, ◌-◌, ℤ, refl, ap, ◌∙◌, arith}
-use Rattle.rma_typemap.specs.declared.summary.Summary.{Summary}
-use Rattle.rma_typemap.specs.inside.Summary.{with_more, repeated}
+use Rattle.rma_typemap.proofs.Words.{Summary, with_more, repeated}
 use Rattle.rma_typemap.proofs.WideLemmas.{near_kept, near_more}
 use Rattle.rma_typemap.proofs.summary.repeat.Goals as goal
 

@@ -1,5 +1,5 @@
 use Rattle.std.proofs.Common.{length}
-use Rattle.rma_typemap.specs.Bounds.{signature}
+use Rattle.rma_type.proofs.Words.{signature}
 use Rattle.rma_type.proofs.FirstLemmas.{IsKept_single}
 use Rattle.rma_type.proofs.table.TypeTable.add_basic.Goals as goal
 

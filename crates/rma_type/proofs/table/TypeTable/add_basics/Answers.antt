@@ -1,5 +1,5 @@
 use Rattle.std.proofs.Common.{◌≡◌, length, ap, ◌∙◌, arith}
-use Rattle.rma_type.specs.Table.{Table}
+use Rattle.rma_type.proofs.Words.{Table}
 use Rattle.rma_type.proofs.FirstLemmas.{table_of_basics_more, length_basics}
 use Rattle.rma_type.proofs.table.TypeTable.add_basics.Goals as goal
 

@@ -1,5 +1,5 @@
 use Rattle.std.proofs.Common.{◌≡◌, take}
-use Rattle.rma_type.specs.FirstTable.{table_of_basics}
+use Rattle.rma_type.proofs.Words.{table_of_basics}
 use Rattle.rma_type.proofs.table.TypeTable.add_basics.Given as goal
 
 abbrev pub invariant-loop-basic : goal.invariant-loop-basic

@@ -1,5 +1,5 @@
 use Rattle.std.proofs.Common.{sym, ◌∙◌, ap, is_some, rules}
-use Rattle.rma_type.specs.Refusal.{IsErrorOf, refusal}
+use Rattle.rma_type.proofs.Words.{IsErrorOf, refusal}
 use Rattle.rma_type.proofs.MakeLemmas.{error_unknown, refusal_in_use, refusal_negative, refusal_broken}
 use Rattle.rma_type.proofs.table.TypeTable.check.Goals as goal
 

@@ -1,9 +1,5 @@
-use Rattle.std.proofs.Common.{◌≡◌, slice_get, slice_set, Some, IfSome, set, map, true, refl, sym, ap, subst, ◌∙◌, Option}
-use Rattle.std.proofs.lemmas.List.{map-set}
-use Rattle.rma_type.specs.declared.id.TypeId.{TypeId}
-use Rattle.rma_type.specs.declared.table.Kept.{Kept}
-use Rattle.rma_type.specs.Table.{Table}
-use Rattle.rma_type.specs.Names.{id_of}
+use Rattle.std.proofs.Common.{◌≡◌, slice_get, slice_set, Some, true, refl, sym, ap, ◌∙◌}
+use Rattle.rma_type.proofs.Words.{map-set, Kept, Table, id_of}
 use Rattle.rma_type.proofs.TableLemmas.{read_at, as_committed, IsTable_committed, origins_of_set}
 use Rattle.rma_type.proofs.table.TypeTable.commit.Goals as goal
 
@@ -21,10 +17,8 @@ returns-clause-ok c =
     let items = c.self.inside.types.items in
     let i = c.in-Some.id.0 in
     let old = c.index_mut.result.now in
-    let P : Option TypeId → Type 0 = λ o. IfSome o (λ id. map (λ (k : Kept). k.committed) (set items i (as_committed old)) ≡ slice_set c.args.self.now.committed id.0 true) in
     record {
       origins = origins_of_set items i (as_committed old) old (there c) refl ∙ ap (λ (t : Table). t.origins) c.self.view_is;
       live = ap (λ (t : Table). t.live) c.self.view_is;
-      committed = subst P (sym (sym c.find.ensures.value ∙ c.in-Some.is))
-          (map-set (λ (k : Kept). k.committed) items i (as_committed old) ∙ ap (λ (t : Table). slice_set t.committed i true) c.self.view_is);
+      committed = rw (← c.find.ensures.value, c.in-Some.is) (map-set (λ (k : Kept). k.committed) items i (as_committed old) ∙ ap (λ (t : Table). slice_set t.committed i true) c.self.view_is);
     }

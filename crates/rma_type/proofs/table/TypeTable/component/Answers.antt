@@ -1,5 +1,5 @@
 use Rattle.std.proofs.Common.{◌≡◌, length, arith}
-use Rattle.rma_type.specs.inside.SignatureSource.{signature_in}
+use Rattle.rma_type.proofs.Words.{signature_in}
 use Rattle.rma_type.proofs.ComponentLemmas.{one_component, mixed_component}
 use Rattle.rma_type.proofs.table.TypeTable.component.Goals as goal
 

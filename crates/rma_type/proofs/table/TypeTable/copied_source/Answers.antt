@@ -1,10 +1,6 @@
-use Rattle.std.proofs.Common.{◌≡◌, ◌*◌, ◌/◌, ◌++◌, ⊎_elim, inl, inr, sym, ap, ◌∙◌}
-use Rattle.rma_typemap.specs.declared.summary.Summary.{Summary}
-use Rattle.rma_typemap.specs.Bounds.{entry_count}
-use Rattle.rma_typemap.specs.Signature.{copies}
+use Rattle.std.proofs.Common.{◌≡◌, ◌*◌, ⊎_elim, inl, inr, sym, ap, ◌∙◌}
+use Rattle.rma_type.proofs.Words.{Summary, entry_count, typemaps, typemap_in}
 use Rattle.rma_typemap.proofs.BoundLemmas.{entry_count_is}
-use Rattle.rma_type.specs.Table.{typemaps, typemap_in}
-use Rattle.rma_type.specs.Signature.{spread}
 use Rattle.rma_type.proofs.SourceLemmas.{copies_unchanged, quotient}
 use Rattle.rma_type.proofs.table.TypeTable.copied_source.Goals as goal
 
@@ -20,8 +16,6 @@ returns c n e =
     let one : c.summary.result.now.entries ≡ entry_count parts = ap (λ (o : Summary). o.entries) c.summary.ensures.value ∙ sym (entry_count_is parts) in
     let many = quotient n c.args.entries c.summary.result.now.entries c.if-one-eq0.false (e ∙ ap (λ k. n * k) (sym one)) in
     record {
-      same = c.in_ok-append_copies.ensures.same
-          ∙ ap (λ xs. spread xs ++ copies (c.args.entries / c.summary.result.now.entries) (spread c.signature.result.now)) c.new-runs.ensures.items
-          ∙ ap (λ k. copies k (spread c.signature.result.now)) many ∙ ap (copies n) c.signature.ensures.runs.same;
+      same = rw (c.in_ok-append_copies.ensures.same, c.new-runs.ensures.items, many, c.signature.ensures.runs.same);
       apart = c.in_ok-append_copies.ensures.apart;
     }

@@ -1,12 +1,6 @@
-use Rattle.std.proofs.Common.{◌≡◌, ◌+◌, ◌<◌, ◌&&◌, ⊎_elim, inl, inr, List, [], ◌∷◌, ◌++◌, length, take, true, Option, Some, None, IfSome, is_some, sym, ap, ◌∙◌, arith}
-use Rattle.std.specs.List.{cons_option}
-use Rattle.std.proofs.lemmas.Bool.{false≢true}
-use Rattle.std.proofs.lemmas.List.{map_more, get_or-map, length-map}
+use Rattle.std.proofs.Common.{◌≡◌, ◌+◌, ◌<◌, ⊎_elim, inl, inr, List, [], ◌∷◌, ◌++◌, length, take, true, Option, Some, None, IfSome, is_some, sym, ap, ◌∙◌, arith}
+use Rattle.rma_type.proofs.Words.{cons_option, false≢true, map_more, get_or-map, length-map, list_all-append, list_all_at, Member, TypeId, id_of, member_names}
 use Rattle.std.proofs.lemmas.List.Elements.{filter_map-append}
-use Rattle.std.proofs.lemmas.List.Folds.{list_all-append, list_all_at}
-use Rattle.rma_datatype.specs.declared.make.Member.{Member}
-use Rattle.rma_type.specs.declared.id.TypeId.{TypeId}
-use Rattle.rma_type.specs.Names.{all_live, old_types_of, id_of, member_names}
 use Rattle.rma_type.proofs.table.TypeTable.find_members.Goals as goal
 
 -- a list with what was found at its end
@@ -35,12 +29,7 @@ loop-member-preserved c =
     let names : member_names (take (i + 1) ms) ≡ member_names (take i ms) ++ item.old ∷ [] =
     map_more (λ (m : Member). m.old) ms i item (omega arith) ∙ ap (λ (m : Member). member_names (take i ms) ++ m.old ∷ []) (sym c.member-item.is) in
     record {
-      found = pushed (id_of live item.old) c.push_old_type.new.old_types c.loop-member.old_types c.in_default.ensures.live c.in_default.ensures.ok
-          ∙ ap (λ os. os ++ cons_option (id_of live item.old) []) c.loop-member.invariant.found
-          ∙ sym (filter_map-append (id_of live) (member_names (take i ms)) (item.old ∷ []))
-          ∙ ap (old_types_of live) (sym names);
-      live = ap (all_live live) names
-          ∙ list_all-append (λ name. is_some (id_of live name)) (member_names (take i ms)) (item.old ∷ [])
-          ∙ ap (λ t. t && (is_some (id_of live item.old) && true)) c.loop-member.invariant.live
-          ∙ ap (λ t. t && true) c.in_default.ensures.live;
+      found = rw (names, filter_map-append (id_of live) (member_names (take i ms)) (item.old ∷ []), ← c.loop-member.invariant.found)
+          (pushed (id_of live item.old) c.push_old_type.new.old_types c.loop-member.old_types c.in_default.ensures.live c.in_default.ensures.ok);
+      live = rw (names, list_all-append (λ name. is_some (id_of live name)) (member_names (take i ms)) (item.old ∷ []), c.loop-member.invariant.live, c.in_default.ensures.live);
     }

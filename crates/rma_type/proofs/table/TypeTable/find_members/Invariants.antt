@@ -1,5 +1,5 @@
 use Rattle.std.proofs.Common.{◌≡◌, take, true}
-use Rattle.rma_type.specs.Names.{all_live, old_types_of, member_names}
+use Rattle.rma_type.proofs.Words.{all_live, old_types_of, member_names}
 use Rattle.rma_type.proofs.table.TypeTable.find_members.Given as goal
 
 abbrev pub invariant-loop-member : goal.invariant-loop-member

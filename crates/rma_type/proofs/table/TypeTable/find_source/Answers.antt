@@ -1,18 +1,10 @@
-use Rattle.std.proofs.Common.{length, List, sym, ap, subst, ◌∙◌, arith}
-use Rattle.std.specs.Prelude.{IfOk}
-use Rattle.rma_datatype.specs.declared.basic.Basic.{Basic}
-use Rattle.rma_typemap.specs.inside.Counts.{copies_of}
+use Rattle.std.proofs.Common.{length, ap, ◌∙◌, arith}
+use Rattle.rma_type.proofs.Words.{no_type, copies_of, typemap_of_new}
 use Rattle.rma_typemap.proofs.SignatureLemmas.{length_signature}
-use Rattle.rma_type.specs.declared.id.TypeId.{TypeId}
-use Rattle.rma_type.specs.inside.Made.{typemap_of_new}
-use Rattle.rma_type.specs.inside.SignatureSource.{IsSourceOf}
 use Rattle.rma_type.proofs.CheckLemmas.{IsCounted_checked}
 use Rattle.rma_type.proofs.OldLemmas.{has_one_old}
 use Rattle.rma_type.proofs.SourceLemmas.{signature_of_struct, entries_of_one, signature_of_one}
 use Rattle.rma_type.proofs.table.TypeTable.find_source.Goals as goal
-
-abbrev no_type : TypeId
-no_type = record { 0 = 0 }
 
 pub member_source-requires-clause-few : goal.member_source-requires-clause-few
 member_source-requires-clause-few c =
@@ -25,8 +17,7 @@ member_source-requires-clause-few c =
 pub returns-in-Struct : goal.returns-in-Struct
 returns-in-Struct c =
     let os = c.args.self.now.origins in
-    let P : List Basic → Type 0 = λ bs. IfOk c.member_source.result (IsSourceOf os bs) in
-    subst P (sym (signature_of_struct os c.args.constructor.now c.in-Struct.members c.as_slice.result.now c.args.old_types.now c.in-Struct.is c.as_slice.ensures)) c.member_source.ensures
+    rw (signature_of_struct os c.args.constructor.now c.in-Struct.members c.as_slice.result.now c.args.old_types.now c.in-Struct.is c.as_slice.ensures) c.member_source.ensures
 
 pub returns-in_default : goal.returns-in_default
 returns-in_default c =
@@ -35,6 +26,5 @@ returns-in_default c =
     let old_types = c.args.old_types.now in
     let one = has_one_old constructor c.in_default.not-Struct in
     let counted = IsCounted_checked constructor one c.requires.counts c.requires.parts in
-    let P : List Basic → Type 0 = λ bs. IfOk c.copied_source.result (IsSourceOf os bs) in
-    subst P (sym (signature_of_one os constructor old_types no_type one c.requires.after.0 counted))
+    rw (signature_of_one os constructor old_types no_type one c.requires.after.0 counted)
     (c.copied_source.ensures (copies_of constructor) (c.requires.count ∙ entries_of_one os constructor old_types no_type one c.requires.after.0 counted))

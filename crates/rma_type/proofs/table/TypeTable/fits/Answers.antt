@@ -1,6 +1,5 @@
 use Rattle.std.proofs.Common.{◌≡◌, length, arith}
-use Rattle.std.proofs.lemmas.Bool.Decides.{nat_tests}
-use Rattle.rma_type.specs.inside.SignatureSource.{signature_in}
+use Rattle.rma_type.proofs.Words.{nat_tests, signature_in}
 use Rattle.rma_type.proofs.ComponentLemmas.{no_runs, no_basics, fewer_begin, nothing_begins_all, more_begin_only_where_empty}
 use Rattle.rma_type.proofs.table.TypeTable.fits.Goals as goal
 

@@ -1,12 +1,7 @@
-use Rattle.std.proofs.Common.{◌+◌, sym, ap, ◌∙◌, get_or, arith}
-use Rattle.rma_type.specs.declared.id.TypeId.{TypeId}
-use Rattle.rma_typemap.specs.inside.Summary.{with_member, struct_of}
-use Rattle.rma_type.specs.inside.Members.{summary_in, member_entries}
+use Rattle.std.proofs.Common.{sym, ap, ◌∙◌, arith}
+use Rattle.rma_type.proofs.Words.{no_type, struct_of, summary_in}
 use Rattle.rma_type.proofs.MemberLemmas.{member_more, entries_more, entries_more_le, all_taken}
 use Rattle.rma_type.proofs.table.TypeTable.join_members.Goals as goal
-
-abbrev no_type : TypeId
-no_type = record { 0 = 0 }
 
 pub append_member-done-requires-clause-few : goal.append_member-done-requires-clause-few
 append_member-done-requires-clause-few c =
@@ -21,19 +16,14 @@ loop-i-preserved c =
     let old_types = c.args.old_types.now in
     let i = c.loop-i.i in
     let m = c.index-members-i.result in
-    let old = summary_in os (get_or old_types i no_type) in
     record {
-      value = c.append_member-done.ensures.value
-          ∙ ap (λ o. with_member o (m, old)) c.loop-i.invariant.value
-          ∙ sym (member_more os ms old_types c.requires.fit i m no_type c.loop-i-test.true (sym c.index-members-i.is));
+      value = rw (c.append_member-done.ensures.value, c.loop-i.invariant.value, member_more os ms old_types c.requires.fit i m no_type c.loop-i-test.true (sym c.index-members-i.is));
       near = c.append_member-done.ensures.result_near;
       sound = c.append_member-done.ensures.result_sound;
-      entries = c.append_member-done.ensures.entries
-          ∙ ap (λ n. n + member_entries (m, old)) c.loop-i.invariant.entries
-          ∙ sym (entries_more os ms old_types c.requires.fit i m no_type c.loop-i-test.true (sym c.index-members-i.is));
+      entries = rw (c.append_member-done.ensures.entries, c.loop-i.invariant.entries, entries_more os ms old_types c.requires.fit i m no_type c.loop-i-test.true (sym c.index-members-i.is));
     }
 
 pub returns : goal.returns
 returns c =
     c.loop-i.invariant.value
-    ∙ ap struct_of (all_taken c.args.self.now.origins c.args.members.now c.args.old_types.now c.requires.fit c.loop-i.i (omega arith))
+    ∙ ap struct_of (all_taken (summary_in c.args.self.now.origins) c.args.members.now c.args.old_types.now c.requires.fit c.loop-i.i (omega arith))

@@ -1,7 +1,5 @@
 use Rattle.std.proofs.Common.{◌≡◌, ◌^◌, take}
-use Rattle.rma_typemap.specs.inside.Near.{IsNearby, IsSound}
-use Rattle.rma_typemap.specs.inside.Summary.{struct_of}
-use Rattle.rma_type.specs.inside.Members.{with_summaries, all_entries}
+use Rattle.rma_type.proofs.Words.{IsNearby, IsSound, struct_of, with_summaries, all_entries}
 use Rattle.rma_type.proofs.table.TypeTable.join_members.Given as goal
 
 abbrev pub invariant-loop-i : goal.invariant-loop-i

@@ -1,14 +1,8 @@
 use Rattle.std.proofs.Common.{◌*◌, ap, sym, ◌∙◌, arith}
-use Rattle.rma_type.specs.declared.id.TypeId.{TypeId}
-use Rattle.rma_typemap.specs.declared.summary.Summary.{Summary}
-use Rattle.rma_typemap.specs.inside.Counts.{copies_of}
+use Rattle.rma_type.proofs.Words.{no_type, Summary, copies_of, summary}
 use Rattle.rma_type.proofs.CheckLemmas.{IsCounted_checked, IsSingle_checked}
 use Rattle.rma_type.proofs.OldLemmas.{has_one_old, typemap_of_one, entry_count_of_one, entry_count_of_struct, summary_of_struct}
-use Rattle.rma_typemap.specs.inside.Summary.{summary}
 use Rattle.rma_type.proofs.table.TypeTable.joined.Goals as goal
-
-abbrev no_type : TypeId
-no_type = record { 0 = 0 }
 
 pub join_members-requires-clause-few : goal.join_members-requires-clause-few
 join_members-requires-clause-few c =

@@ -1,6 +1,5 @@
 use Rattle.std.proofs.Common.{ap, ◌∙◌}
-use Rattle.rma_type.specs.Table.{typemaps, typemap_in}
-use Rattle.rma_typemap.specs.inside.Summary.{made_of_summary}
+use Rattle.rma_type.proofs.Words.{typemaps, typemap_in, made_of_summary}
 use Rattle.rma_typemap.proofs.BoundLemmas.{made_of_is}
 use Rattle.rma_type.proofs.table.TypeTable.made.Goals as goal
 

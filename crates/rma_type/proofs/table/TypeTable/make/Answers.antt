@@ -1,11 +1,6 @@
 use Rattle.std.proofs.Common.{◌≡◌, List, sym, ◌∙◌, ap, arith}
-use Rattle.rma_datatype.specs.declared.make.Make.{Make}
-use Rattle.rma_typemap.specs.declared.summary.Summary.{Summary}
-use Rattle.rma_typemap.specs.Bounds.{entry_count}
+use Rattle.rma_type.proofs.Words.{Make, Summary, entry_count, Origin, TypeId, IsMeasured, typemap_of_new}
 use Rattle.rma_typemap.proofs.BoundLemmas.{entry_count_is}
-use Rattle.rma_type.specs.declared.origin.Origin.{Origin}
-use Rattle.rma_type.specs.declared.id.TypeId.{TypeId}
-use Rattle.rma_type.specs.inside.Made.{IsMeasured, typemap_of_new, refusal_of_new}
 use Rattle.rma_type.proofs.MakeLemmas.{refusal_checked}
 use Rattle.rma_type.proofs.table.TypeTable.make.Goals as goal
 
@@ -13,16 +8,13 @@ pub returns-in-Err-clause-fault : goal.returns-in-Err-clause-fault
 returns-in-Err-clause-fault c =
     let t = c.args.self.now in
     let constructor = c.args.constructor.now in
-    refusal_checked t c.args.name.now constructor c.in_ok-old_types.old_types c.in_ok-old_types.ensures.ok
-    ∙ ap (λ (ids : List TypeId). refusal_of_new (typemap_of_new t.origins constructor ids) constructor) (sym c.as_slice.ensures) ∙ c.in-Err.ensures.fault
+    rw (refusal_checked t c.args.name.now constructor c.in_ok-old_types.old_types c.in_ok-old_types.ensures.ok, ← c.as_slice.ensures) c.in-Err.ensures.fault
 
 pub returns-in-Ok-add-clause-taken : goal.returns-in-Ok-add-clause-taken
 returns-in-Ok-add-clause-taken c =
     let t = c.args.self.now in
     let constructor = c.args.constructor.now in
-    let measured = c.in-Ok.ensures.ok in
-    refusal_checked t c.args.name.now constructor c.in_ok-old_types.old_types c.in_ok-old_types.ensures.ok
-    ∙ ap (λ (ids : List TypeId). refusal_of_new (typemap_of_new t.origins constructor ids) constructor) (sym c.as_slice.ensures) ∙ measured.taken
+    rw (refusal_checked t c.args.name.now constructor c.in_ok-old_types.old_types c.in_ok-old_types.ensures.ok, ← c.as_slice.ensures) c.in-Ok.ensures.ok.taken
 
 entries_are : (origins : List Origin) (constructor : Make) (old_types : List TypeId) (made : Summary) → IsMeasured (typemap_of_new origins constructor old_types) constructor made → made.entries ≡ entry_count (typemap_of_new origins constructor old_types)
 entries_are origins constructor old_types made h = ap (λ (o : Summary). o.entries) h.summary_is ∙ sym (entry_count_is (typemap_of_new origins constructor old_types))

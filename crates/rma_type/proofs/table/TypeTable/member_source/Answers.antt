@@ -1,14 +1,8 @@
-use Rattle.std.proofs.Common.{◌≡◌, ◌*◌, ◌++◌, length, get_or, take, sym, ap, ◌∙◌, arith}
-use Rattle.rma_typemap.specs.Constructors.{times}
-use Rattle.rma_typemap.specs.Signature.{copies}
-use Rattle.rma_type.specs.declared.id.TypeId.{TypeId}
-use Rattle.rma_type.specs.Signature.{spread}
-use Rattle.rma_type.specs.inside.SignatureSource.{signature_in, with_signatures, struct_signature}
-use Rattle.rma_type.proofs.SourceLemmas.{signature_more, signature_more_fits, all_signatures, signature_of_one_member}
+use Rattle.std.proofs.Common.{◌≡◌, length, sym, ap, ◌∙◌, arith}
+use Rattle.rma_type.proofs.Words.{no_type, times, struct_signature, signature_in}
+use Rattle.rma_type.proofs.SourceLemmas.{signature_more, signature_more_fits, signature_of_one_member}
+use Rattle.rma_type.proofs.MemberLemmas.{all_taken}
 use Rattle.rma_type.proofs.table.TypeTable.member_source.Goals as goal
-
-abbrev no_type : TypeId
-no_type = record { 0 = 0 }
 
 pub returns : goal.returns
 returns c =
@@ -25,9 +19,7 @@ append_copies-requires-clause-few c =
     let i = c.loop-i.i in
     let member = c.index-members-i.result in
     let fits = signature_more_fits os c.args.members.now c.args.old_types.now c.requires.fit i member no_type c.loop-i-test.true (sym c.index-members-i.is) in
-    let product : c.member_copies-in-loop-i.result * length (spread c.signature.result.now) ≡ times member.length * length (signature_in os (get_or c.args.old_types.now i no_type)) =
-    ap (λ n. n * length (spread c.signature.result.now)) c.member_copies-in-loop-i.ensures ∙ ap (λ xs. times member.length * length xs) c.signature.ensures.runs.same in
-    omega (arith, fits, product, ap length c.loop-i.invariant.same, c.requires.few)
+    rw (c.member_copies-in-loop-i.ensures, c.signature.ensures.runs.same, c.loop-i.invariant.same) (omega (arith, fits, c.requires.few))
 
 pub loop-i-preserved : goal.loop-i-preserved
 loop-i-preserved c =
@@ -35,17 +27,19 @@ loop-i-preserved c =
     let i = c.loop-i.i in
     let member = c.index-members-i.result in
     record {
-      same = c.in_ok-append_copies.ensures.same
-          ∙ ap (λ xs. xs ++ copies c.member_copies-in-loop-i.result (spread c.signature.result.now)) c.loop-i.invariant.same
-          ∙ ap (λ n. struct_signature (take i (with_signatures os c.args.members.now c.args.old_types.now)) ++ copies n (spread c.signature.result.now)) c.member_copies-in-loop-i.ensures
-          ∙ ap (λ xs. struct_signature (take i (with_signatures os c.args.members.now c.args.old_types.now)) ++ copies (times member.length) xs) c.signature.ensures.runs.same
-          ∙ sym (signature_more os c.args.members.now c.args.old_types.now c.requires.fit i member no_type c.loop-i-test.true (sym c.index-members-i.is));
+      same = rw (
+        c.in_ok-append_copies.ensures.same,
+        c.loop-i.invariant.same,
+        c.member_copies-in-loop-i.ensures,
+        c.signature.ensures.runs.same,
+        signature_more os c.args.members.now c.args.old_types.now c.requires.fit i member no_type c.loop-i-test.true (sym c.index-members-i.is),
+      );
       apart = c.in_ok-append_copies.ensures.apart;
     }
 
 pub returns-2 : goal.returns-2
 returns-2 c = record {
   same = c.loop-i.invariant.same
-      ∙ ap struct_signature (all_signatures c.args.self.now.origins c.args.members.now c.args.old_types.now c.requires.fit c.loop-i.i c.loop-i-test.false);
+      ∙ ap struct_signature (all_taken (signature_in c.args.self.now.origins) c.args.members.now c.args.old_types.now c.requires.fit c.loop-i.i c.loop-i-test.false);
   apart = c.loop-i.invariant.apart;
 }

@@ -1,6 +1,5 @@
 use Rattle.std.proofs.Common.{◌≡◌, take}
-use Rattle.rma_type.specs.Signature.{spread, AreRuns}
-use Rattle.rma_type.specs.inside.SignatureSource.{with_signatures, struct_signature}
+use Rattle.rma_type.proofs.Words.{spread, AreRuns, with_signatures, struct_signature}
 use Rattle.rma_type.proofs.table.TypeTable.member_source.Given as goal
 
 abbrev pub invariant-loop-i : goal.invariant-loop-i

@@ -1,5 +1,5 @@
 use Rattle.std.proofs.Common.{◌≡◌, ◌≤◌, ◌*◌, ◌^◌, take}
-use Rattle.rma_type.specs.inside.Members.{with_summaries, all_entries}
+use Rattle.rma_type.proofs.Words.{with_summaries, all_entries}
 use Rattle.rma_type.proofs.table.TypeTable.members_exceed.Given as goal
 
 abbrev pub invariant-loop-i : goal.invariant-loop-i

@@ -1,4 +1,4 @@
-use Rattle.rma_type.specs.FirstTable.{basics}
+use Rattle.rma_type.proofs.Words.{basics}
 use Rattle.rma_type.proofs.table.TypeTable.new.Goals as goal
 
 pub returns-in-Ok : goal.returns-in-Ok

@@ -1,16 +1,7 @@
-use Rattle.std.proofs.Common.{◌+◌, ◌<◌, ◌^◌, length, subst, ◌≡◌, ℕ, true, false, Bool, cond, Option, nat_eq, List, ◌∷◌, [], ◌++◌, Some, ◌⊎◌, inl, inr, refl, sym, ap, ◌∙◌, arith}
+use Rattle.std.proofs.Common.{◌+◌, ◌<◌, ◌^◌, length, ◌≡◌, ℕ, true, false, Bool, cond, Option, nat_eq, List, ◌∷◌, [], ◌++◌, Some, ◌⊎◌, inl, inr, refl, sym, ap, ◌∙◌, arith}
 use Rattle.std.proofs.lemmas.Grind.{common_steps}
 use Rattle.std.specs.Cmp.Lexicographic.{pointwise}
-use Rattle.std.proofs.lemmas.List.{length-map}
-use Rattle.rma_typemap.specs.Bounds.{signature}
-use Rattle.rma_type.specs.declared.id.TypeId.{TypeId}
-use Rattle.rma_type.specs.declared.table.Kept.{Kept}
-use Rattle.rma_type.specs.declared.table.TypeTable.TheInside.{Inside}
-use Rattle.rma_type.specs.declared.origin.Origin.{Origin}
-use Rattle.rma_type.specs.inside.SignatureSource.{HasSignature}
-use Rattle.rma_type.specs.inside.Kept.{IsKept, origins_of}
-use Rattle.rma_type.specs.Table.{Table, typemaps, typemap_of}
-use Rattle.rma_type.specs.Names.{id_of}
+use Rattle.rma_type.proofs.Words.{length-map, signature, TypeId, Kept, Inside, HasSignature, origins_of, Table, typemaps, typemap_of, id_of}
 use Rattle.rma_type.proofs.AddLemmas.{IsTable_same, IsTable_added, StayIn, stay_same, stay_push}
 use Rattle.rma_type.proofs.SourceLemmas.{shared_signature, own_signature}
 use Rattle.rma_type.proofs.table.TypeTable.put.Goals as goal
@@ -87,20 +78,14 @@ invariant_of-self-else-is_err-2 c =
     let only = signed.0 in
     let kept : Kept = record { origin = draft.origin; committed = draft.committed; summary = draft.summary; signature = c.match-source.signature } in
     let old_items = old.types.items in
-    let pushed : c.push.new.self.items ≡ now.types.items ++ kept ∷ [] = grind (arith, common_steps, c.push.ensures.items, c.is_err.ensures.negation) in
-    let items : c.push.new.self.items ≡ old_items ++ kept ∷ [] = pushed ∙ ap (λ xs. xs ++ kept ∷ []) only.0 in
+    let items : c.push.new.self.items ≡ old_items ++ kept ∷ [] = rw (← only.0) (grind (arith, common_steps, c.push.ensures.items, c.is_err.ensures.negation)) in
     let id : TypeId = record { 0 = c.len.result } in
     let origins : origins_of old_items ≡ table.origins = ap (λ (t : Table). t.origins) c.self.view_is in
     let count : length table.origins ≡ length old_items = sym (ap length origins) ∙ length-map old_items (λ (k : Kept). k.origin) in
     let room : length old_items + 1 < 2 ^ 32 = omega (arith, count, c.requires.room) in
     let number : c.len.result ≡ length old_items = c.len.ensures ∙ old.types.ok.0 in
-    let update : (q : List ℕ) → id_of c.insert.new.self.entries q ≡ cond (pointwise nat_eq c.args.name q) (Some id) (id_of now.live.entries q) =
-    λ q. grind (arith, common_steps, c.insert.ensures.updates, c.is_err-2.ensures.negation) in
     let updated : (q : List ℕ) → id_of c.insert.new.self.entries q ≡ cond (pointwise nat_eq c.args.name q) (Some id) (id_of old.live.entries q) =
-    λ q. update q ∙ ap (λ es. cond (pointwise nat_eq c.args.name q) (Some id) (id_of es q)) only.1 in
-    let P : List Origin → Type 0 = λ os. IsKept (typemap_of (typemaps os) draft.origin) (length old_items) draft.origin draft.summary in
-    let Q : ℕ → Type 0 = λ n. IsKept (typemap_of (typemaps table.origins) draft.origin) n draft.origin draft.summary in
-    let R : List Origin → Type 0 = λ os. HasSignature now.signatures.items (signature (typemap_of (typemaps os) draft.origin)) c.match-source.signature in
+    λ q. rw (← only.1) (grind (arith, common_steps, c.insert.ensures.updates, c.is_err-2.ensures.negation)) in
     IsTable_added old (record { types = c.push.new.self; signatures = now.signatures; live = c.insert.new.self }) kept id c.self.invariant room
     items number (λ name other at. found (pointwise nat_eq c.args.name name) id other _ _ (updated name) at)
-    (subst P (sym origins) (subst Q count c.requires.kept)) only.2 (subst R (sym origins) signed.1)
+    (rw (origins, ← count) c.requires.kept) only.2 (rw origins signed.1)

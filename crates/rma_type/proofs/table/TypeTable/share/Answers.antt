@@ -1,6 +1,5 @@
 use Rattle.std.proofs.Common.{◌≡◌, arith}
-use Rattle.std.proofs.lemmas.Bool.Decides.{nat_tests}
-use Rattle.rma_type.specs.inside.SignatureSource.{signature_in}
+use Rattle.rma_type.proofs.Words.{nat_tests, signature_in}
 use Rattle.rma_type.proofs.SourceLemmas.{signed_in, signed_once}
 use Rattle.rma_type.proofs.table.TypeTable.share.Goals as goal
 

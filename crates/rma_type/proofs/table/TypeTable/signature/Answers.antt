@@ -1,7 +1,5 @@
-use Rattle.std.proofs.Common.{length, List, ap, sym, subst, arith}
-use Rattle.rma_type.specs.declared.sig_run.SigRun.{SigRun}
-use Rattle.rma_type.specs.Signature.{IsRunsOf}
-use Rattle.rma_type.specs.inside.SignatureSource.{signature_in}
+use Rattle.std.proofs.Common.{length, ap, arith}
+use Rattle.rma_type.proofs.Words.{IsRunsOf, signature_in}
 use Rattle.rma_type.proofs.SourceLemmas.{signed_in, signed_within, signed_at, signature_is_short}
 use Rattle.rma_type.proofs.table.TypeTable.signature.Goals as goal
 
@@ -16,8 +14,7 @@ represents : (c : goal.After-as_slice) → IsRunsOf (signature_in c.args.self.no
 represents c =
     let t = c.self.inside in
     let basics = signature_in c.args.self.now.origins c.args.id in
-    let P : List SigRun → Type 0 = λ runs. IsRunsOf basics runs in
-    subst P (sym c.as_slice.ensures.value)
+    rw c.as_slice.ensures.value
     (signed_at t.signatures.items basics c.index.result.now.signature c.index-2.result.now
     (signed_in t c.args.self.now c.self.view_is c.self.invariant c.args.id c.index.result.now c.requires c.index.ensures) c.index-2.ensures)
 

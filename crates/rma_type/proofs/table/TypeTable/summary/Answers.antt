@@ -1,9 +1,5 @@
 use Rattle.std.proofs.Common.{◌<◌, length, slice_index_or, [], arith, ap, ◌∙◌}
-use Rattle.std.proofs.lemmas.List.{length-map}
-use Rattle.rma_type.specs.declared.table.Kept.{Kept}
-use Rattle.rma_typemap.specs.inside.Summary.{summary}
-use Rattle.rma_type.specs.Table.{Table, typemaps}
-use Rattle.rma_type.specs.inside.Kept.{IsKept, origins_of}
+use Rattle.rma_type.proofs.Words.{length-map, Kept, summary, Table, typemaps, IsKept, origins_of}
 use Rattle.rma_type.proofs.TableLemmas.{read_at, kept_near, kept_sound, kept_few}
 use Rattle.rma_type.proofs.table.TypeTable.summary.Goals as goal
 

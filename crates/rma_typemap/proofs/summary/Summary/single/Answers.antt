@@ -1,6 +1,5 @@
 use Rattle.std.proofs.Common.{◌≡◌, pos, to_z, of_z, ap, ◌∙◌, arith}
-use Rattle.std.specs.Int.{w128}
-use Rattle.std.proofs.lemmas.Int.{ints}
+use Rattle.rma_typemap.proofs.Words.{w128, ints}
 use Rattle.rma_typemap.proofs.SummaryLemmas.{summary_single}
 use Rattle.rma_typemap.proofs.summary.Summary.single.Goals as goal
 
