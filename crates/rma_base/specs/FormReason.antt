@@ -1,7 +1,7 @@
 -- The words of the reasons of a bad line (the log format of this product).
 use Rattle.std.specs.Prelude.{ℕ, List, codes}
 use Rattle.rma_base.specs.declared.form_reason.FormReason.{FormReason}
-use Rattle.rma_base.specs.declared.form_reason.FormReason.TheVariants.{LineTooLong, BadByte, UnknownVerb, UnknownAssertion, WrongCount, BadNumber, BadName, BadWord, OutOfRange, BadHeader, WrongHeader, AfterEnd, UnknownComm, UnknownWindow, UnknownRequest, UnknownType, NameInUse, RankTooLarge, NotInGroup, WrongWait, NegativeCount, BadSubarray, NotCommitted, OperationNotAllowed, SignatureDiffers, TooManyElements, TooManyBlocks, OutOfSpace, OverlappingType, RequestPending, MissingEnd}
+use Rattle.rma_base.specs.declared.form_reason.FormReason.TheVariants.{LineTooLong, BadByte, UnknownVerb, UnknownAssertion, WrongCount, BadNumber, BadName, BadWord, OutOfRange, BadHeader, WrongHeader, AfterEnd, UnknownComm, UnknownWindow, UnknownRequest, UnknownType, NameInUse, RankTooLarge, NotInGroup, WrongWait, NegativeCount, BadSubarray, NotCommitted, OperationNotAllowed, SignatureDiffers, TooManyElements, TooManyBlocks, OutOfSpace, OverlappingType, RequestPending, MissingEnd, RootNotMember, NotDynamic}
 
 -- the word that the report has for a reason
 abbrev pub form_word : FormReason → List ℕ
@@ -36,3 +36,5 @@ form_word OutOfSpace = codes "out_of_space"
 form_word OverlappingType = codes "overlapping_type"
 form_word RequestPending = codes "request_pending"
 form_word MissingEnd = codes "missing_end"
+form_word RootNotMember = codes "root_not_member"
+form_word NotDynamic = codes "not_dynamic"

@@ -4,5 +4,6 @@ pub mod FormReason
 pub mod Site
 pub mod RankSet
 pub mod Window
+pub mod Version
 pub mod MatchReason
 pub mod inside

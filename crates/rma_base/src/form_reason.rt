@@ -67,6 +67,10 @@ pub enum FormReason {
     RequestPending,
     /// The log ends without `end`.
     MissingEnd,
+    /// The root of a collective is no member of its communicator.
+    RootNotMember,
+    /// Memory is attached to, or detached from, a window that is not dynamic.
+    NotDynamic,
 }
 
 impl FormReason {
@@ -106,6 +110,8 @@ impl FormReason {
             FormReason::OverlappingType => "overlapping_type",
             FormReason::RequestPending => "request_pending",
             FormReason::MissingEnd => "missing_end",
+            FormReason::RootNotMember => "root_not_member",
+            FormReason::NotDynamic => "not_dynamic",
         }
     }
 }

@@ -1,7 +1,7 @@
 //! The plain data that every layer of the auditor speaks of.
 //!
-//! A run has ranks ([`Rank`], [`RankSet`]), and each rank a log of numbered lines ([`LineNo`]), whose calls lie between
-//! points of time ([`Point`]). Lines name things by a [`Name`] and places in the source by a [`Site`]; copies of both share
+//! A run has ranks ([`Rank`], [`RankSet`]), and each rank a log of numbered lines ([`LineNo`]) in one [`Version`] of the
+//! format, whose calls lie between points of time ([`Point`]). Lines name things by a [`Name`] and places in the source by a [`Site`]; copies of both share
 //! one text. What is wrong with a line is a [`FormReason`], and with how calls match a [`MatchReason`], each with its word of
 //! the report. The [`limits`] of one audit stand here alone, in the code as in `specs/Limits.antt`.
 //!
@@ -20,6 +20,7 @@ mod rank;
 mod rank_set;
 mod sequence;
 mod site;
+mod version;
 mod window;
 
 pub use form_reason::FormReason;
@@ -32,4 +33,5 @@ pub use rank::Rank;
 pub use rank_set::{RankSet, RankSetError};
 pub use sequence::Sequence;
 pub use site::Site;
+pub use version::Version;
 pub use window::{AccOps, WinModel};

@@ -1,5 +1,5 @@
 //! Names of communicators, windows, requests and datatypes.
-ghost use Rattle.std.specs.Prelude.{◌≡◌, ◌↔◌, IfOk, IsErrOf, false, nat_eq, length};
+ghost use Rattle.std.specs.Prelude.{◌≡◌, ◌↔◌, IfOk, IsErrOf, true, false, nat_eq, length};
 ghost use Rattle.rma_base.specs.Name.{is_name, begins_name, continues_name};
 ghost use Rattle.std.specs.Cmp.Lexicographic.{pointwise, nat_list_eq_equiv};
 ghost use Rattle.std.specs.Cmp;
@@ -79,9 +79,10 @@ impl Name {
 
     /// The bytes of the name.
     pub fn bytes(&self) -> &[u8]
-        ensures { result.now ≡ self.now }
+        ensures bytes { result.now ≡ self.now }
+        ensures form { is_name self.now ≡ true }
     {
-        self.text().as_bytes()
+        self.text.as_str().as_bytes()
     }
 
     /// A name with the same bytes.

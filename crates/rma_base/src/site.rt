@@ -1,5 +1,5 @@
 //! Sites: where in the source of the program a call stands, as the recorder wrote it.
-ghost use Rattle.std.specs.Prelude.{◌≡◌, ◌↔◌, IfOk, IsErrOf, false};
+ghost use Rattle.std.specs.Prelude.{◌≡◌, ◌↔◌, IfOk, IsErrOf, true, false};
 ghost use Rattle.rma_base.specs.Site.{is_site, is_site_byte};
 ghost use Rattle.std.specs.List.{list_all};
 
@@ -56,9 +56,10 @@ impl Site {
 
     /// The bytes of the site.
     pub fn bytes(&self) -> &[u8]
-        ensures { result.now ≡ self.now }
+        ensures bytes { result.now ≡ self.now }
+        ensures form { is_site self.now ≡ true }
     {
-        self.text().as_bytes()
+        self.text.as_str().as_bytes()
     }
 
     /// A site with the same bytes.

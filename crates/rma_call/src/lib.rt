@@ -1,24 +1,30 @@
 //! The calls of a run, and what is wrong with how they match.
 //!
 //! What a call does stands here once, for the lines that state it and for the passes that judge it: a [`What`], in the groups
-//! of the lines of the log. A [`Call`] is a line of a log with its site and what it does, and [`RankCalls`] are the calls of one
-//! rank. Calls that do the same share one [`SharedWhat`], so a call takes 32 bytes and, where its line repeats, no more.
+//! of the lines of the log. [`RankCalls`] are the calls of one rank: a [`CallList`], whose calls are read as [`CallRef`]s. A call
+//! takes 16 bytes there, since what many calls do and their sites are stated once.
 //!
 //! A [`MatchFault`] is a call that the calls of other ranks do not match.
 #![tactic(auto)]
 
-mod call;
+mod assertion;
+mod call_list;
+mod epoch;
 mod frame;
 mod match_fault;
 mod message;
-mod shared_what;
+mod moving;
+mod rank_calls;
 mod what;
 mod window;
 
-pub use call::{Call, RankCalls};
+pub use assertion::{Assertion, Assertions};
+pub use call_list::{CallList, CallRef};
+pub use epoch::{EpochCall, LockKind};
 pub use frame::FrameCall;
 pub use match_fault::MatchFault;
-pub use message::MessageCall;
-pub use shared_what::SharedWhat;
+pub use message::{MessageCall, Received};
+pub use moving::MovingCall;
+pub use rank_calls::RankCalls;
 pub use what::{SyncCall, What};
 pub use window::WindowCall;

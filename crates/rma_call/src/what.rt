@@ -1,6 +1,8 @@
 //! What a call does.
+use crate::epoch::EpochCall;
 use crate::frame::FrameCall;
 use crate::message::MessageCall;
+use crate::moving::MovingCall;
 use crate::window::WindowCall;
 
 /// What a call does.
@@ -15,8 +17,12 @@ pub enum What {
 pub enum SyncCall {
     /// It declares a communicator, or is a barrier.
     Frame(FrameCall),
-    /// It sends or receives a message.
+    /// It sends or receives a message, or waits for one.
     Message(MessageCall),
-    /// It creates or frees a window.
+    /// It creates or frees a window, or attaches memory to one.
     Window(WindowCall),
+    /// It opens, completes or closes an epoch.
+    Epoch(EpochCall),
+    /// It moves data between the members of a communicator.
+    Moving(MovingCall),
 }

@@ -1,0 +1,34 @@
+-- The calls of a rank, as its log records them (docs/FORMAT.md).
+use Rattle.std.specs.Prelude.{ℕ, List, [], Option, option_copied}
+use Rattle.rma_base.specs.declared.line.LineNo.{LineNo}
+use Rattle.rma_base.specs.declared.rank.Rank.{Rank}
+use Rattle.rma_call.specs.declared.what.What.{What}
+use Rattle.rma_call.specs.declared.call_list.CallRef.{CallRef}
+
+-- a call: the line that records it, its site in the source of the program, what it does, and the number of the request
+-- that it makes or completes
+pub record Call : Type 0 where
+  pub line : LineNo
+  pub site : Option (List ℕ)
+  pub what : What
+  pub request : Option ℕ
+
+-- the calls of a rank in the order of its log, and the line that ends the log
+pub record RankCalls : Type 0 where
+  pub rank : Rank
+  pub calls : List Call
+  pub end : LineNo
+
+-- calls, with the tables of what they do and of their sites
+pub record CallTable : Type 0 where
+  pub calls : List Call
+  pub whats : List What
+  pub sites : List (List ℕ)
+
+-- no calls, and empty tables
+abbrev pub no_calls : CallTable
+no_calls = record { calls = []; whats = []; sites = [] }
+
+-- the call that is referred to
+abbrev pub call_of : CallRef → Call
+call_of call = record { line = call.line; site = option_copied call.site; what = call.what.now; request = call.request }

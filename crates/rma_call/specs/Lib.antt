@@ -1,0 +1,3 @@
+pub mod Assertion
+pub mod Call
+pub mod inside

@@ -1,0 +1,202 @@
+//! The calls of a rank, with each value that they share stated once.
+ghost use Rattle.std.specs.Prelude.{◌≡◌, ◌+◌, ◌<◌, ◌^◌, ◌++◌, [], ◌∷◌, length, slice_get, Some, IfSome, IfOk, OnOk, OnErr};
+ghost use Rattle.std.specs.Option.{option_and_then};
+ghost use Rattle.rma_call.specs.declared.what.What.{What};
+ghost use Rattle.rma_call.specs.Call.{no_calls, call_of};
+ghost use Rattle.rma_call.specs.inside.CallList.{number_of};
+
+use crate::what::What;
+use rma_base::{LineNo, Memory, Site};
+use std::alloc::Global;
+use std::marker::Model;
+
+/// A call of a list.
+#[derive(Clone, Copy, Debug)]
+pub struct CallRef<'a> {
+    /// The line that records it, in the log of its rank.
+    pub line: LineNo,
+    /// Where it stands in the source of the program, if the recorder says so.
+    pub site: Option<&'a Site>,
+    /// What it does.
+    pub what: &'a What,
+    /// The number of the request that it makes or completes.
+    pub request: Option<u32>,
+}
+
+/// The calls of a rank in their order. A program makes its calls at a few places over and over, so a call takes 16 bytes: what
+/// it does and its site stand in tables, once for all calls that share them, and the call has their numbers there.
+#[derive(Debug, Drop)]
+pub struct CallList {
+    /// The calls in their order.
+    entries: Vec<Entry>,
+    /// What the calls do.
+    whats: Vec<What>,
+    /// The sites of the calls.
+    sites: Vec<Site>,
+}
+
+/// A call, by its numbers.
+#[derive(Clone, Copy, Debug)]
+struct Entry {
+    /// The line of the call.
+    line: LineNo,
+    /// The number of what it does.
+    what: u32,
+    /// One more than the number of its site, 0 for none.
+    site: u32,
+    /// One more than the number of its request, 0 for none.
+    request: u32,
+}
+
+impl Model for CallList {
+    ghost use Rattle.rma_call.specs.Call.{CallTable};
+
+    ghost Value = { CallTable };
+
+    ghost use Rattle.rma_call.specs.inside.CallList.{entry_calls, AreInTables};
+
+    ghost view = { λ list. record { calls = entry_calls list.whats.items list.sites.items list.entries.items; whats = list.whats.items; sites = list.sites.items } };
+
+    ghost invariant = { λ list. AreInTables list.whats.items list.sites.items list.entries.items };
+}
+
+impl CallList {
+    /// No calls, and empty tables.
+    pub fn new(alloc: Global) -> CallList
+        ensures { result ≡ no_calls }
+    {
+        CallList {
+            entries: Vec::new(alloc),
+            whats: Vec::new(alloc),
+            sites: Vec::new(alloc),
+        }
+    }
+
+    /// The number of calls.
+    pub fn len(&self) -> usize
+        ensures { result ≡ length self.now.calls }
+    {
+        self.entries.len()
+    }
+
+    /// The call at the index.
+    pub fn get(&self, i: usize) -> CallRef<'_>
+        requires { i < length self.now.calls }
+        ensures { slice_get self.now.calls i ≡ Some (call_of result) }
+    {
+        let entry = self.entries[i];
+        let site = match number_of(entry.site) {
+            Some(number) => Some(&self.sites[number as usize]),
+            None => None,
+        };
+        CallRef {
+            line: entry.line,
+            site,
+            what: &self.whats[entry.what as usize],
+            request: number_of(entry.request),
+        }
+    }
+
+    /// What calls do that have this number.
+    pub fn what(&self, number: u32) -> &What
+        requires { number < length self.now.whats }
+        ensures { slice_get self.now.whats number ≡ Some result.now }
+    {
+        &self.whats[number as usize]
+    }
+
+    /// The site of this number.
+    pub fn site(&self, number: u32) -> &Site
+        requires { number < length self.now.sites }
+        ensures { slice_get self.now.sites number ≡ Some result.now }
+    {
+        &self.sites[number as usize]
+    }
+
+    /// Gives a number to what calls do: the next one, so that those given before keep what they name.
+    ///
+    /// # Errors
+    ///
+    /// `Memory` also where the table is full.
+    pub fn add_what(&mut self, what: What) -> Result<u32, Memory>
+        ensures number { IfOk result (λ number. number ≡ length self.old.whats) }
+        ensures ok { OnOk result (self.new ≡ record self.old { whats = self.old.whats ++ what ∷ [] }) }
+        ensures err { OnErr result (self.new ≡ self.old) }
+    {
+        let number = next_number(self.whats.len())?;
+        self.whats.push(what)?;
+        Ok(number)
+    }
+
+    /// Gives a number to a site: the next one, so that those given before keep what they name.
+    ///
+    /// # Errors
+    ///
+    /// `Memory` also where the table is full.
+    pub fn add_site(&mut self, site: Site) -> Result<u32, Memory>
+        ensures number { IfOk result (λ number. number ≡ length self.old.sites) }
+        ensures ok { OnOk result (self.new ≡ record self.old { sites = self.old.sites ++ site ∷ [] }) }
+        ensures err { OnErr result (self.new ≡ self.old) }
+    {
+        let number = next_number(self.sites.len())?;
+        self.sites.push(site)?;
+        Ok(number)
+    }
+
+    /// Appends the call of these numbers.
+    pub fn push(
+        &mut self,
+        line: LineNo,
+        site: Option<u32>,
+        what: u32,
+        request: Option<u32>,
+    ) -> Result<(), Memory>
+        requires site { IfSome site (λ number. number < length self.old.sites) }
+        requires what { what < length self.old.whats }
+        requires request { IfSome request (λ number. number + 1 < 2 ^ 32) }
+        ensures ok { OnOk result ((value : What) → slice_get self.old.whats what ≡ Some value → self.new ≡ record self.old {
+          calls = self.old.calls ++ record { line = line; site = option_and_then (slice_get self.old.sites) site; what = value; request = request } ∷ [];
+        }) }
+        ensures whats { self.new.whats ≡ self.old.whats }
+        ensures sites { self.new.sites ≡ self.old.sites }
+        ensures err { OnErr result (self.new ≡ self.old) }
+    {
+        self.entries.push(Entry {
+            line,
+            what,
+            site: kept(site),
+            request: kept(request),
+        })?;
+        Ok(())
+    }
+}
+
+/// The number that an entry keeps, if it keeps one.
+fn number_of(kept: u32) -> Option<u32>
+    ensures { result ≡ number_of kept }
+{
+    kept.checked_sub(1)
+}
+
+/// How an entry keeps a number.
+fn kept(number: Option<u32>) -> u32
+    requires { IfSome number (λ number. number + 1 < 2 ^ 32) }
+    ensures { number_of result ≡ number }
+{
+    match number {
+        Some(number) => number + 1,
+        None => 0,
+    }
+}
+
+/// The number of the next value of a table that has so many.
+fn next_number(len: usize) -> Result<u32, Memory>
+    ensures number { IfOk result (λ number. number ≡ len) }
+    ensures fits { OnOk result (len + 1 < 2 ^ 32) }
+{
+    if len < u32::MAX as usize {
+        Ok(len as u32)
+    } else {
+        Err(Memory)
+    }
+}
