@@ -1,5 +1,5 @@
 -- Words without a blank and without `@`.
-use Rattle.std.proofs.Common.{◌≡◌, ℕ, ◌^◌, ◌<◌, ◌&&◌, not, Bool, true, false, List, [], ◌∷◌, length, map, refl, ◌∙◌, arith, eqb}
+use Rattle.std.proofs.Common.{◌≡◌, ℕ, ◌^◌, ◌<◌, ◌≤◌, ◌&&◌, not, Bool, true, false, List, [], ◌∷◌, length, map, refl, ◌∙◌, arith, eqb}
 use Rattle.std.specs.Prelude.{decimal}
 use Rattle.std.specs.List.{list_all, join_with_byte}
 use Rattle.std.proofs.lemmas.Bool.{false≢true}
@@ -9,11 +9,11 @@ use Rattle.rma_base.proofs.NameLemmas.{and_left, and_right}
 use Rattle.rma_base.specs.Name.{is_name, begins_name, continues_name}
 use Rattle.rma_base.specs.Site.{is_site, is_site_byte}
 use Rattle.rma_lex.specs.Field.{is_field}
-use Rattle.rma_parse.specs.Kinds.{ranks_text}
+use Rattle.rma_field.specs.Ranks.{ranks_text}
 use Rattle.rma_parse.specs.Lines.{begins_with}
-use Rattle.rma_parse.proofs.DecimalLemmas.{is_decimal, some_decimal, decimal_decimal}
-use Rattle.rma_parse.proofs.RankTextLemmas.{decimals, small}
-use Rattle.rma_parse.proofs.RisingLemmas.{Rises, not_true_lem}
+use Rattle.rma_field.proofs.DecimalLemmas.{is_decimal, some_decimal, decimal_decimal}
+use Rattle.rma_field.proofs.RankTextLemmas.{decimals, small}
+use Rattle.rma_field.proofs.RisingLemmas.{Rises, not_true_lem}
 use Rattle.rma_parse.proofs.WordLemmas.{is_unbroken}
 
 -- neither a blank nor `@`
@@ -65,10 +65,10 @@ some_join first [] some = some
 some_join [] (next ∷ more) some = omega arith
 some_join (byte ∷ first) (next ∷ more) some = omega arith
 
-pub plain_ranks : (ns : List ℕ) → Rises 0 ns → is_plain (ranks_text ns) ≡ true
-plain_ranks [] up = refl
-plain_ranks (n ∷ ns) up =
-    plain_some (ranks_text (n ∷ ns)) (some_join (decimal n) (map decimal ns) (some_decimal n (small n up.1))) (plain_join (decimal n) (map decimal ns) (decimals 0 (n ∷ ns) up))
+pub plain_ranks : (last : ℕ) (ns : List ℕ) → last ≤ 1023 → Rises last 0 ns → is_plain (ranks_text ns) ≡ true
+plain_ranks last [] few up = refl
+plain_ranks last (n ∷ ns) few up =
+    plain_some (ranks_text (n ∷ ns)) (some_join (decimal n) (map decimal ns) (some_decimal n (small last n few up.1))) (plain_join (decimal n) (map decimal ns) (decimals last 0 (n ∷ ns) few up))
 
 plain_field : (byte : ℕ) → is_plain_byte byte ≡ true → is_field byte ≡ true
 plain_field byte plain = and_left (is_field byte) _ plain

@@ -3,13 +3,13 @@ use Rattle.std.proofs.Common.{◌≡◌, ℕ, ◌-◌, ◌≤◌, ◌<◌, List,
 use Rattle.std.specs.Prelude.{slice_get, unwrap_or}
 use Rattle.std.specs.Borrow.{Bor}
 use Rattle.std.proofs.Math.ListN.{get_or}
-use Rattle.std.proofs.lemmas.List.{drop-map, length-drop, length-map, length-take, take-append-le, take-map}
-use Rattle.std.proofs.Math.Seq.{take-length}
+use Rattle.std.proofs.lemmas.List.{append-nil, drop-map, length-drop, length-map, length-take, take-append-le, take-map}
+use Rattle.std.proofs.Math.Seq.{take-append_seam, take-length}
 use Rattle.std.proofs.Math.Nat.{min-le_right}
 use Rattle.std.proofs.lemmas.Option.{none-some}
 use Rattle.rma_parse.proofs.LineLemmas.{fields_front}
 use Rattle.rma_parse.specs.Lines.{fields_of}
-use Rattle.rma_parse.specs.inside.Words.{texts_at}
+use Rattle.rma_field.specs.Texts.{texts_at}
 
 -- one more word is kept
 texts_more : (items : List (Bor (List ℕ))) (text : Bor (List ℕ)) (later : List (List ℕ)) → texts_at (items ++ text ∷ []) ++ later ≡ texts_at items ++ text.now ∷ later
@@ -77,9 +77,12 @@ first_kind (item ∷ items) (word ∷ words) kind same is some =
 take_all : {A : Type 0} (from : ℕ) (xs : List A) → take (length xs - from) (drop from xs) ≡ drop from xs
 take_all from xs = ap (λ n. take n (drop from xs)) (sym (length-drop from xs)) ∙ take-length (drop from xs)
 
-pub part_texts : (from to : ℕ) (items : List (Bor (List ℕ))) → texts_at (take (length (take to items) - from) (drop from (take to items))) ≡ drop from (take to (texts_at items))
-part_texts from to items =
-    ap texts_at (take_all from (take to items)) ∙ sym (drop-map (λ text. text.now) from (take to items)) ∙ ap (drop from) (sym (take-map (λ text. text.now) to items))
+-- the texts from an index on, and up to one
+pub texts_behind : (from : ℕ) (items : List (Bor (List ℕ))) → texts_at (take (length items - from) (drop from items)) ≡ drop from (texts_at items)
+texts_behind from items = ap texts_at (take_all from items) ∙ sym (drop-map (λ text. text.now) from items)
+
+pub texts_front : (to : ℕ) (items : List (Bor (List ℕ))) → texts_at (take to items) ≡ take to (texts_at items)
+texts_front to items = sym (take-map (λ text. text.now) to items)
 
 -- so many texts from a place on
 abbrev pub from_place : List (Bor (List ℕ)) → Bor (List ℕ) → ℕ → ℕ → List (List ℕ)
@@ -90,9 +93,23 @@ from_place_behind : (item : Bor (List ℕ)) (items : List (Bor (List ℕ))) (oth
 from_place_behind item items other place zero = refl
 from_place_behind item items other place (suc n) = ap (λ them. (get_or items place other).now ∷ them) (from_place_behind item items other (suc place) n)
 
--- texts are those at each of their places
-pub texts_each : (n : ℕ) (items : List (Bor (List ℕ))) (other : Bor (List ℕ)) → length items ≡ n → texts_at items ≡ from_place items other 0 n
-texts_each zero [] other is = refl
-texts_each zero (item ∷ items) other is = absurd (omega arith)
-texts_each (suc n) [] other is = absurd (omega arith)
-texts_each (suc n) (item ∷ items) other is = ap (λ them. item.now ∷ them) (texts_each n items other (omega arith) ∙ sym (from_place_behind item items other 0 n))
+-- texts are those at their first places, and the rest
+pub texts_each : (n : ℕ) (items : List (Bor (List ℕ))) (other : Bor (List ℕ)) → n ≤ length items → texts_at items ≡ from_place items other 0 n ++ drop n (texts_at items)
+texts_each zero items other enough = refl
+texts_each (suc n) [] other enough = absurd (omega arith)
+texts_each (suc n) (item ∷ items) other enough =
+    ap (λ them. item.now ∷ them)
+    (texts_each n items other (omega arith) ∙ ap (λ them. them ++ drop n (texts_at items)) (sym (from_place_behind item items other 0 n)))
+
+-- as many words as there are without the site are these
+pub all_fields : (all rest words : List (List ℕ)) (count : ℕ) → count ≡ length (fields_of words) → all ++ rest ≡ words → length all ≡ count → all ≡ fields_of words
+all_fields all rest words count is whole long =
+    sym (take-append_seam all rest) ∙ ap (take (length all)) whole ∙ ap (λ n. take n words) long ∙ sym (fields_front words count (sym is))
+
+pub all_fields_ended : (all words : List (List ℕ)) (count : ℕ) → count ≡ length (fields_of words) → all ++ [] ≡ words → length all ≤ count → all ≡ fields_of words
+all_fields_ended all words count is whole short =
+    let same : all ≡ words = sym (append-nil all) ∙ whole in
+    let front : length (fields_of words) ≡ min count (length words) = ap length (fields_front words count (sym is)) ∙ length-take count words in
+    let enough : count ≤ length words = rw (is ∙ front) (min-le_right count (length words)) in
+    let long : length all ≡ length words = ap length same in
+    all_fields all [] words count is whole (omega arith)

@@ -1,35 +1,38 @@
 -- The table of the forms of lines (docs/FORMAT.md). A form is one row, and all that is said of lines follows from the rows:
 -- which form a line has, what its fields state, and how what it states is written.
-use Rattle.std.specs.Prelude.{ℕ, Bool, false, ◌&&◌, List, [], ◌∷◌, ◌++◌, length, Option, Some, None, is_none, option_to_list, find, Result, Ok, Err, codes, if◌then◌else◌}
+use Rattle.std.specs.Prelude.{ℕ, Bool, true, false, not, ◌&&◌, List, [], ◌∷◌, ◌++◌, length, drop, Option, Some, None, is_none, unwrap_or, option_to_list, find, Result, Ok, Err, codes, if◌then◌else◌}
 use Rattle.std.specs.Option.{option_map_or}
 use Rattle.rma_base.specs.declared.form_reason.FormReason.{FormReason}
-use Rattle.rma_base.specs.declared.form_reason.FormReason.TheVariants.{UnknownVerb, WrongCount, BadWord}
+use Rattle.rma_base.specs.declared.form_reason.FormReason.TheVariants.{UnknownVerb, WrongCount}
+use Rattle.rma_base.specs.declared.version.Version.{Version}
+use Rattle.rma_base.specs.declared.version.Version.TheVariants.{One, Two}
+use Rattle.rma_base.specs.declared.window.WinModel.TheVariants.{Unified}
+use Rattle.rma_call.specs.declared.assertion.Assertion.TheVariants.{Nocheck, Noprecede, Nosucceed, Nostore, Noput}
 use Rattle.rma_call.specs.declared.what.What.TheVariants.{Sync}
-use Rattle.rma_call.specs.declared.what.SyncCall.TheVariants.{Frame, Message, Window}
+use Rattle.rma_call.specs.declared.what.SyncCall.TheVariants.{Frame, Message, Window, Epoch, Moving}
 use Rattle.rma_call.specs.declared.frame.FrameCall.TheVariants.{Comm, Barrier}
-use Rattle.rma_call.specs.declared.message.MessageCall.TheVariants.{Send}
-use Rattle.rma_call.specs.declared.window.WindowCall.TheVariants.{Create, Free}
+use Rattle.rma_call.specs.declared.message.MessageCall.TheVariants.{Send, Recv, Isend, Irecv, Wait}
+use Rattle.rma_call.specs.declared.window.WindowCall.TheVariants.{Create, Free, Attach, Detach}
+use Rattle.rma_call.specs.declared.epoch.EpochCall.TheVariants.{Fence, Post, Start, Complete, Expwait, Lock, Unlock, LockAll, UnlockAll, Flush, FlushAll, FlushLocal, FlushLocalAll}
+use Rattle.rma_call.specs.declared.epoch.EpochCall.TheVariants as epoch
+use Rattle.rma_call.specs.declared.moving.MovingCall.TheVariants.{Bcast, Scatter, Gather, Reduce, Allreduce, Allgather, Alltoall}
+use Rattle.rma_field.specs.Kinds.{Kind, version, name, rank, size, number, ranks, model, operations, lock, is_word, known}
+use Rattle.rma_field.specs.Steps.{◌>>=◌}
+use Rattle.rma_parse.specs.Fields.{Made, Values, all_written, made_of}
+use Rattle.rma_parse.specs.Tails.{Tail, closed, received, asserted, TailValue, tail_of, tail_words}
 use Rattle.rma_parse.specs.declared.event.Event.{Event}
 use Rattle.rma_parse.specs.declared.event.Event.TheVariants.{Header, End, Call}
 use Rattle.rma_parse.specs.declared.form.LineForm.{LineForm}
 use Rattle.rma_parse.specs.declared.form.LineForm.TheVariants as form
-use Rattle.rma_parse.specs.Kinds.{Kind, version, name, number, ranks, model, operations, Made, Values, all_written, made_of, is_word}
 
--- A form of a line: its verb, the word of its kind behind some verbs, what each further field should be, and the event that
--- their values make.
+-- A form of a line: its verb, the word of its kind behind some verbs, what each further field should be, what may stand
+-- behind those, and the event that their values make.
 pub record Form : Type 0 where
   pub verb : List ℕ
   pub kind_word : Option (List ℕ)
   pub kinds : List Kind
-  pub event : Made kinds Event
-
--- a rank
-abbrev pub rank : Kind
-rank = number 0 63
-
--- a number of ranks
-abbrev pub size : Kind
-size = number 1 64
+  pub tail : Tail
+  pub event : Made kinds (TailValue tail → Event)
 
 -- a tag of a message
 abbrev pub tag : Kind
@@ -39,81 +42,365 @@ tag = number 0 2147483647
 abbrev pub address : Kind
 address = number 0 281474976710656
 
+-- a number of bytes that is not 0
+abbrev pub some_bytes : Kind
+some_bytes = number 1 281474976710656
+
 -- a displacement unit in bytes
 abbrev pub unit : Kind
 unit = number 1 2147483647
 
 -- the rows
 abbrev pub form_at : LineForm → Form
-form_at form.Header = record { verb = codes "rma"; kind_word = None; kinds = version ∷ rank ∷ size ∷ []; event = λ _ r n. Header (record { 0 = r }) n }
-form_at form.End = record { verb = codes "end"; kind_word = None; kinds = []; event = End }
-form_at form.Comm = record { verb = codes "comm"; kind_word = None; kinds = name ∷ ranks ∷ []; event = λ comm group. Call (Sync (Frame (Comm comm group))) }
-form_at form.Barrier = record { verb = codes "barrier"; kind_word = None; kinds = name ∷ []; event = λ comm. Call (Sync (Frame (Barrier comm))) }
-form_at form.Send = record { verb = codes "send"; kind_word = None; kinds = rank ∷ tag ∷ name ∷ []; event = λ to t comm. Call (Sync (Message (Send (record { 0 = to }) t comm))) }
+form_at form.Header = record { verb = codes "rma"; kind_word = None; kinds = version ∷ rank ∷ size ∷ []; tail = closed; event = λ v r n _. Header v r n }
+form_at form.End = record { verb = codes "end"; kind_word = None; kinds = []; tail = closed; event = λ _. End }
+form_at form.Comm = record {
+  verb = codes "comm";
+  kind_word = None;
+  kinds = name ∷ ranks ∷ [];
+  tail = closed;
+  event = λ comm group _. Call (Sync (Frame (Comm comm group))) None;
+}
+form_at form.Barrier = record { verb = codes "barrier"; kind_word = None; kinds = name ∷ []; tail = closed; event = λ comm _. Call (Sync (Frame (Barrier comm))) None }
+form_at form.Send = record {
+  verb = codes "send";
+  kind_word = None;
+  kinds = rank ∷ tag ∷ name ∷ [];
+  tail = closed;
+  event = λ to t comm _. Call (Sync (Message (Send to t comm))) None;
+}
+form_at form.Recv = record {
+  verb = codes "recv";
+  kind_word = None;
+  kinds = rank ∷ tag ∷ name ∷ [];
+  tail = closed;
+  event = λ from t comm _. Call (Sync (Message (Recv from t comm))) None;
+}
+form_at form.Isend = record {
+  verb = codes "isend";
+  kind_word = None;
+  kinds = name ∷ rank ∷ tag ∷ name ∷ [];
+  tail = closed;
+  event = λ request to t comm _. Call (Sync (Message (Isend to t comm))) (Some request);
+}
+form_at form.Irecv = record {
+  verb = codes "irecv";
+  kind_word = None;
+  kinds = name ∷ name ∷ [];
+  tail = closed;
+  event = λ request comm _. Call (Sync (Message (Irecv comm))) (Some request);
+}
+form_at form.Wait = record {
+  verb = codes "wait";
+  kind_word = None;
+  kinds = name ∷ [];
+  tail = received;
+  event = λ request came. Call (Sync (Message (Wait came))) (Some request);
+}
 form_at form.Create = record {
   verb = codes "win";
   kind_word = Some (codes "create");
   kinds = name ∷ name ∷ address ∷ address ∷ unit ∷ model ∷ operations ∷ [];
-  event = λ window comm base bytes displacement separation accumulates. Call (Sync (Window (Create window comm base bytes displacement separation accumulates)));
+  tail = closed;
+  event = λ window comm base bytes displacement separation accumulates _. Call (Sync (Window (Create window comm base bytes displacement separation accumulates false))) None;
 }
-form_at form.Free = record { verb = codes "win"; kind_word = Some (codes "free"); kinds = name ∷ []; event = λ window. Call (Sync (Window (Free window))) }
+form_at form.Free = record {
+  verb = codes "win";
+  kind_word = Some (codes "free");
+  kinds = name ∷ [];
+  tail = closed;
+  event = λ window _. Call (Sync (Window (Free window))) None;
+}
+form_at form.Fence = record {
+  verb = codes "fence";
+  kind_word = None;
+  kinds = name ∷ [];
+  tail = asserted (Noprecede ∷ Nosucceed ∷ []) (Noprecede ∷ Nosucceed ∷ Nostore ∷ Noput ∷ []);
+  event = λ window assertions. Call (Sync (Epoch (Fence window assertions))) None;
+}
+form_at form.Post = record {
+  verb = codes "post";
+  kind_word = None;
+  kinds = name ∷ ranks ∷ [];
+  tail = asserted [] (Nocheck ∷ Nostore ∷ Noput ∷ []);
+  event = λ window group assertions. Call (Sync (Epoch (Post window group assertions))) None;
+}
+form_at form.Start = record {
+  verb = codes "start";
+  kind_word = None;
+  kinds = name ∷ ranks ∷ [];
+  tail = asserted [] (Nocheck ∷ []);
+  event = λ window group assertions. Call (Sync (Epoch (Start window group assertions))) None;
+}
+form_at form.Complete = record {
+  verb = codes "complete";
+  kind_word = None;
+  kinds = name ∷ [];
+  tail = closed;
+  event = λ window _. Call (Sync (Epoch (Complete window))) None;
+}
+form_at form.Expwait = record {
+  verb = codes "expwait";
+  kind_word = None;
+  kinds = name ∷ [];
+  tail = closed;
+  event = λ window _. Call (Sync (Epoch (Expwait window))) None;
+}
+form_at form.Lock = record {
+  verb = codes "lock";
+  kind_word = None;
+  kinds = name ∷ rank ∷ lock ∷ [];
+  tail = asserted [] (Nocheck ∷ []);
+  event = λ window to how assertions. Call (Sync (Epoch (Lock window to how assertions))) None;
+}
+form_at form.Unlock = record {
+  verb = codes "unlock";
+  kind_word = None;
+  kinds = name ∷ rank ∷ [];
+  tail = closed;
+  event = λ window to _. Call (Sync (Epoch (Unlock window to))) None;
+}
+form_at form.LockAll = record {
+  verb = codes "lockall";
+  kind_word = None;
+  kinds = name ∷ [];
+  tail = asserted [] (Nocheck ∷ []);
+  event = λ window assertions. Call (Sync (Epoch (LockAll window assertions))) None;
+}
+form_at form.UnlockAll = record {
+  verb = codes "unlockall";
+  kind_word = None;
+  kinds = name ∷ [];
+  tail = closed;
+  event = λ window _. Call (Sync (Epoch (UnlockAll window))) None;
+}
+form_at form.Flush = record {
+  verb = codes "flush";
+  kind_word = None;
+  kinds = name ∷ rank ∷ [];
+  tail = closed;
+  event = λ window to _. Call (Sync (Epoch (Flush window to))) None;
+}
+form_at form.FlushAll = record {
+  verb = codes "flushall";
+  kind_word = None;
+  kinds = name ∷ [];
+  tail = closed;
+  event = λ window _. Call (Sync (Epoch (FlushAll window))) None;
+}
+form_at form.FlushLocal = record {
+  verb = codes "flushlocal";
+  kind_word = None;
+  kinds = name ∷ rank ∷ [];
+  tail = closed;
+  event = λ window to _. Call (Sync (Epoch (FlushLocal window to))) None;
+}
+form_at form.FlushLocalAll = record {
+  verb = codes "flushlocalall";
+  kind_word = None;
+  kinds = name ∷ [];
+  tail = closed;
+  event = λ window _. Call (Sync (Epoch (FlushLocalAll window))) None;
+}
+form_at form.Sync = record { verb = codes "sync"; kind_word = None; kinds = name ∷ []; tail = closed; event = λ window _. Call (Sync (Epoch (epoch.Sync window))) None }
+form_at form.Dynamic = record {
+  verb = codes "win";
+  kind_word = Some (codes "dynamic");
+  kinds = name ∷ name ∷ operations ∷ [];
+  tail = closed;
+  event = λ window comm accumulates _. Call (Sync (Window (Create window comm 0 281474976710656 1 Unified accumulates true))) None;
+}
+form_at form.Attach = record {
+  verb = codes "attach";
+  kind_word = None;
+  kinds = name ∷ address ∷ some_bytes ∷ [];
+  tail = closed;
+  event = λ window at bytes _. Call (Sync (Window (Attach window at bytes))) None;
+}
+form_at form.Detach = record {
+  verb = codes "detach";
+  kind_word = None;
+  kinds = name ∷ address ∷ [];
+  tail = closed;
+  event = λ window at _. Call (Sync (Window (Detach window at))) None;
+}
+form_at form.Bcast = record {
+  verb = codes "bcast";
+  kind_word = None;
+  kinds = rank ∷ address ∷ name ∷ [];
+  tail = closed;
+  event = λ root bytes comm _. Call (Sync (Moving (Bcast root bytes comm))) None;
+}
+form_at form.Scatter = record {
+  verb = codes "scatter";
+  kind_word = None;
+  kinds = rank ∷ address ∷ name ∷ [];
+  tail = closed;
+  event = λ root bytes comm _. Call (Sync (Moving (Scatter root bytes comm))) None;
+}
+form_at form.Gather = record {
+  verb = codes "gather";
+  kind_word = None;
+  kinds = rank ∷ address ∷ name ∷ [];
+  tail = closed;
+  event = λ root bytes comm _. Call (Sync (Moving (Gather root bytes comm))) None;
+}
+form_at form.Reduce = record {
+  verb = codes "reduce";
+  kind_word = None;
+  kinds = rank ∷ address ∷ name ∷ [];
+  tail = closed;
+  event = λ root bytes comm _. Call (Sync (Moving (Reduce root bytes comm))) None;
+}
+form_at form.Allreduce = record {
+  verb = codes "allreduce";
+  kind_word = None;
+  kinds = address ∷ name ∷ [];
+  tail = closed;
+  event = λ bytes comm _. Call (Sync (Moving (Allreduce bytes comm))) None;
+}
+form_at form.Allgather = record {
+  verb = codes "allgather";
+  kind_word = None;
+  kinds = address ∷ name ∷ [];
+  tail = closed;
+  event = λ bytes comm _. Call (Sync (Moving (Allgather bytes comm))) None;
+}
+form_at form.Alltoall = record {
+  verb = codes "alltoall";
+  kind_word = None;
+  kinds = address ∷ name ∷ [];
+  tail = closed;
+  event = λ bytes comm _. Call (Sync (Moving (Alltoall bytes comm))) None;
+}
 
 -- each form once
 abbrev pub forms : List LineForm
-forms = form.Header ∷ form.End ∷ form.Comm ∷ form.Barrier ∷ form.Send ∷ form.Create ∷ form.Free ∷ []
+forms =
+    form.Header ∷ form.End ∷ form.Comm ∷ form.Barrier ∷ form.Send ∷ form.Recv ∷ form.Isend ∷ form.Irecv
+    ∷ form.Wait ∷ form.Create ∷ form.Free ∷ form.Fence ∷ form.Post ∷ form.Start ∷ form.Complete ∷ form.Expwait
+    ∷ form.Lock ∷ form.Unlock ∷ form.LockAll ∷ form.UnlockAll ∷ form.Flush ∷ form.FlushAll ∷ form.FlushLocal ∷ form.FlushLocalAll
+    ∷ form.Sync ∷ form.Dynamic ∷ form.Attach ∷ form.Detach ∷ form.Bcast ∷ form.Scatter ∷ form.Gather ∷ form.Reduce
+    ∷ form.Allreduce ∷ form.Allgather ∷ form.Alltoall ∷ []
+
+-- forms that logs of the first version do not have
+abbrev pub is_since_two : LineForm → Bool
+is_since_two form.Dynamic = true
+is_since_two form.Attach = true
+is_since_two form.Detach = true
+is_since_two form.Bcast = true
+is_since_two form.Scatter = true
+is_since_two form.Gather = true
+is_since_two form.Reduce = true
+is_since_two form.Allreduce = true
+is_since_two form.Allgather = true
+is_since_two form.Alltoall = true
+is_since_two _ = false
 
 -- a form with a value for each of its fields
 pub record Filled : Type 0 where
   pub form : LineForm
   pub values : Values (form_at form).kinds
+  pub tail : TailValue (form_at form).tail
 
 -- the form of an event's line, and the values that make the event
 abbrev pub filled : Event → Filled
-filled (Header r n) = record { form = form.Header; values = (tt, (r.0, (n, tt))) }
-filled End = record { form = form.End; values = tt }
-filled (Call (Sync (Frame (Comm comm group)))) = record { form = form.Comm; values = (comm, (group, tt)) }
-filled (Call (Sync (Frame (Barrier comm)))) = record { form = form.Barrier; values = (comm, tt) }
-filled (Call (Sync (Message (Send to t comm)))) = record { form = form.Send; values = (to.0, (t, (comm, tt))) }
-filled (Call (Sync (Window (Create window comm base bytes displacement separation accumulates)))) =
-    record { form = form.Create; values = (window, (comm, (base, (bytes, (displacement, (separation, (accumulates, tt))))))) }
-filled (Call (Sync (Window (Free window)))) = record { form = form.Free; values = (window, tt) }
+filled (Header v r n) = record { form = form.Header; values = (v, (r, (n, tt))); tail = tt }
+filled End = record { form = form.End; values = tt; tail = tt }
+filled (Call (Sync (Frame (Comm comm group))) request) = record { form = form.Comm; values = (comm, (group, tt)); tail = tt }
+filled (Call (Sync (Frame (Barrier comm))) request) = record { form = form.Barrier; values = (comm, tt); tail = tt }
+filled (Call (Sync (Message (Send to t comm))) request) = record { form = form.Send; values = (to, (t, (comm, tt))); tail = tt }
+filled (Call (Sync (Message (Recv from t comm))) request) = record { form = form.Recv; values = (from, (t, (comm, tt))); tail = tt }
+filled (Call (Sync (Message (Isend to t comm))) request) = record { form = form.Isend; values = (unwrap_or request [], (to, (t, (comm, tt)))); tail = tt }
+filled (Call (Sync (Message (Irecv comm))) request) = record { form = form.Irecv; values = (unwrap_or request [], (comm, tt)); tail = tt }
+filled (Call (Sync (Message (Wait came))) request) = record { form = form.Wait; values = (unwrap_or request [], tt); tail = came }
+filled (Call (Sync (Window (Create window comm base bytes displacement separation accumulates false))) request) = record {
+  form = form.Create;
+  values = (window, (comm, (base, (bytes, (displacement, (separation, (accumulates, tt)))))));
+  tail = tt;
+}
+filled (Call (Sync (Window (Free window))) request) = record { form = form.Free; values = (window, tt); tail = tt }
+filled (Call (Sync (Epoch (Fence window assertions))) request) = record { form = form.Fence; values = (window, tt); tail = assertions }
+filled (Call (Sync (Epoch (Post window group assertions))) request) = record { form = form.Post; values = (window, (group, tt)); tail = assertions }
+filled (Call (Sync (Epoch (Start window group assertions))) request) = record { form = form.Start; values = (window, (group, tt)); tail = assertions }
+filled (Call (Sync (Epoch (Complete window))) request) = record { form = form.Complete; values = (window, tt); tail = tt }
+filled (Call (Sync (Epoch (Expwait window))) request) = record { form = form.Expwait; values = (window, tt); tail = tt }
+filled (Call (Sync (Epoch (Lock window to how assertions))) request) = record { form = form.Lock; values = (window, (to, (how, tt))); tail = assertions }
+filled (Call (Sync (Epoch (Unlock window to))) request) = record { form = form.Unlock; values = (window, (to, tt)); tail = tt }
+filled (Call (Sync (Epoch (LockAll window assertions))) request) = record { form = form.LockAll; values = (window, tt); tail = assertions }
+filled (Call (Sync (Epoch (UnlockAll window))) request) = record { form = form.UnlockAll; values = (window, tt); tail = tt }
+filled (Call (Sync (Epoch (Flush window to))) request) = record { form = form.Flush; values = (window, (to, tt)); tail = tt }
+filled (Call (Sync (Epoch (FlushAll window))) request) = record { form = form.FlushAll; values = (window, tt); tail = tt }
+filled (Call (Sync (Epoch (FlushLocal window to))) request) = record { form = form.FlushLocal; values = (window, (to, tt)); tail = tt }
+filled (Call (Sync (Epoch (FlushLocalAll window))) request) = record { form = form.FlushLocalAll; values = (window, tt); tail = tt }
+filled (Call (Sync (Epoch (epoch.Sync window))) request) = record { form = form.Sync; values = (window, tt); tail = tt }
+filled (Call (Sync (Window (Create window comm base bytes displacement separation accumulates true))) request) = record {
+  form = form.Dynamic;
+  values = (window, (comm, (accumulates, tt)));
+  tail = tt;
+}
+filled (Call (Sync (Window (Attach window at bytes))) request) = record { form = form.Attach; values = (window, (at, (bytes, tt))); tail = tt }
+filled (Call (Sync (Window (Detach window at))) request) = record { form = form.Detach; values = (window, (at, tt)); tail = tt }
+filled (Call (Sync (Moving (Bcast root bytes comm))) request) = record { form = form.Bcast; values = (root, (bytes, (comm, tt))); tail = tt }
+filled (Call (Sync (Moving (Scatter root bytes comm))) request) = record { form = form.Scatter; values = (root, (bytes, (comm, tt))); tail = tt }
+filled (Call (Sync (Moving (Gather root bytes comm))) request) = record { form = form.Gather; values = (root, (bytes, (comm, tt))); tail = tt }
+filled (Call (Sync (Moving (Reduce root bytes comm))) request) = record { form = form.Reduce; values = (root, (bytes, (comm, tt))); tail = tt }
+filled (Call (Sync (Moving (Allreduce bytes comm))) request) = record { form = form.Allreduce; values = (bytes, (comm, tt)); tail = tt }
+filled (Call (Sync (Moving (Allgather bytes comm))) request) = record { form = form.Allgather; values = (bytes, (comm, tt)); tail = tt }
+filled (Call (Sync (Moving (Alltoall bytes comm))) request) = record { form = form.Alltoall; values = (bytes, (comm, tt)); tail = tt }
 
 -- ---- what follows from the rows
+
+-- logs of the version have the form
+abbrev pub is_in : Version → LineForm → Bool
+is_in One form = not (is_since_two form)
+is_in Two form = true
 
 -- how many words of its kind stand behind the verb of a form
 abbrev pub kind_words : LineForm → ℕ
 kind_words form = length (option_to_list (form_at form).kind_word)
 
 -- the form has that verb
-abbrev pub has_verb : List ℕ → LineForm → Bool
-has_verb verb form = is_word (form_at form).verb verb
+abbrev pub has_verb : Version → List ℕ → LineForm → Bool
+has_verb v verb form = is_word (form_at form).verb verb && is_in v form
 
 -- the form has that verb, and that word behind it
-abbrev pub has_words : List ℕ → List ℕ → LineForm → Bool
-has_words verb kind form = has_verb verb form && option_map_or (λ word. is_word word kind) (form_at form).kind_word false
+abbrev pub has_words : Version → List ℕ → List ℕ → LineForm → Bool
+has_words v verb kind form = has_verb v verb form && option_map_or (λ word. is_word word kind) (form_at form).kind_word false
 
--- the form with that verb and that word behind it
-abbrev pub form_with : Option LineForm → Result LineForm FormReason
-form_with None = Err BadWord
-form_with (Some form) = Ok form
-
-abbrev pub form_of_kind : List ℕ → List (List ℕ) → Result LineForm FormReason
-form_of_kind verb [] = Err WrongCount
-form_of_kind verb (kind ∷ rest) = form_with (find (has_words verb kind) forms)
+abbrev pub form_of_kind : Version → List ℕ → List (List ℕ) → Result LineForm FormReason
+form_of_kind v verb [] = Err WrongCount
+form_of_kind v verb (kind ∷ rest) = known (find (has_words v verb kind) forms)
 
 -- where the forms of a verb have words of their kind, that word decides
-abbrev pub form_of_verb : List ℕ → Option LineForm → List (List ℕ) → Result LineForm FormReason
-form_of_verb verb None fields = Err UnknownVerb
-form_of_verb verb (Some form) fields = if is_none (form_at form).kind_word then Ok form else form_of_kind verb fields
+abbrev pub form_of_verb : Version → List ℕ → Option LineForm → List (List ℕ) → Result LineForm FormReason
+form_of_verb v verb None fields = Err UnknownVerb
+form_of_verb v verb (Some form) fields = if is_none (form_at form).kind_word then Ok form else form_of_kind v verb fields
 
 -- the form of a line with that verb and these fields behind it
-abbrev pub form_of : List ℕ → List (List ℕ) → Result LineForm FormReason
-form_of verb fields = form_of_verb verb (find (has_verb verb) forms) fields
+abbrev pub form_of : Version → List ℕ → List (List ℕ) → Result LineForm FormReason
+form_of v verb fields = form_of_verb v verb (find (has_verb v verb) forms) fields
 
--- what the further fields of a form state
-abbrev pub event_of : LineForm → List (List ℕ) → Result Event FormReason
-event_of form texts = made_of (form_at form).kinds (form_at form).event texts
+-- the version that a word names, or else this one
+abbrev pub named_version : Version → List ℕ → Version
+named_version v word = if is_word (codes "1") word then One else (if is_word (codes "2") word then Two else v)
+
+-- a header is read in the version that it names, whatever the log has
+abbrev pub version_in : Version → LineForm → List (List ℕ) → Version
+version_in v form.Header (word ∷ rest) = named_version v word
+version_in v _ _ = v
+
+-- what the further fields of a form state in a version
+abbrev pub event_in : Version → LineForm → List (List ℕ) → Result Event FormReason
+event_in v form texts =
+    made_of v (form_at form).kinds (form_at form).event texts >>= λ make. tail_of v (form_at form).tail (drop (length (form_at form).kinds) texts) >>= λ value. Ok (make value)
+
+-- what the further fields of a form state in a log of this version
+abbrev pub event_of : Version → LineForm → List (List ℕ) → Result Event FormReason
+event_of v form texts = event_in (version_in v form texts) form texts
 
 -- the words of a form with a value for each of its fields
 abbrev pub words_of : Filled → List (List ℕ)
-words_of it = (form_at it.form).verb ∷ (option_to_list (form_at it.form).kind_word ++ all_written (form_at it.form).kinds it.values)
+words_of it =
+    (form_at it.form).verb
+    ∷ (option_to_list (form_at it.form).kind_word ++ (all_written (form_at it.form).kinds it.values ++ tail_words (form_at it.form).tail it.tail))

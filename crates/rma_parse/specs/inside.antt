@@ -1,3 +1,5 @@
 pub mod Words
-pub mod Listed
-pub mod Keys
+pub mod TailKinds
+pub mod Suffix
+pub mod Creations
+pub mod Kind

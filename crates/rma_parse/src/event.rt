@@ -1,8 +1,6 @@
 //! What the lines of a log state.
-ghost use Rattle.std.specs.Prelude.{◌≡◌, IfOk};
-
-use rma_base::{Memory, Rank, Site};
-use rma_call::SharedWhat;
+use rma_base::{Name, Rank, Site, Version};
+use rma_call::What;
 
 /// What a line states.
 #[derive(Debug, Drop)]
@@ -16,8 +14,10 @@ pub struct Stated {
 /// An event of one rank.
 #[derive(Debug, Drop)]
 pub enum Event {
-    /// The log begins: `rma 1 RANK SIZE`.
+    /// The log begins: `rma VERSION RANK SIZE`.
     Header {
+        /// The version of the format that the log has.
+        version: Version,
         /// The rank whose log it is.
         rank: Rank,
         /// The number of ranks of the run.
@@ -26,25 +26,10 @@ pub enum Event {
     /// The log is whole: `end`.
     End,
     /// The rank makes a call.
-    Call(SharedWhat),
-}
-
-impl Event {
-    /// The same event. It takes no memory.
-    ///
-    /// # Errors
-    ///
-    /// `Memory` where as many share what a call does as can be counted.
-    pub fn copy(&self) -> Result<Event, Memory>
-        ensures { IfOk result (λ event. event ≡ self.now) }
-    {
-        match self {
-            Event::Header { rank, size } => Ok(Event::Header {
-                rank: *rank,
-                size: *size,
-            }),
-            Event::End => Ok(Event::End),
-            Event::Call(what) => Ok(Event::Call(what.copy()?)),
-        }
-    }
+    Call {
+        /// What it does.
+        what: What,
+        /// The request that it makes or completes.
+        request: Option<Name>,
+    },
 }

@@ -1,29 +1,38 @@
 //! Reading a line.
-ghost use Rattle.std.specs.Prelude.{◌≡◌, ℕ, List, [], ◌∷◌, ◌<◌, ◌^◌, drop, length, option_map, IsNone, IfSome};
+ghost use Rattle.std.specs.Prelude.{◌≡◌, ℕ, List, [], ◌∷◌, ◌<◌, ◌≤◌, ◌+◌, ◌^◌, drop, length, option_map, IsNone, IfOk, IfSome};
 ghost use Rattle.rma_lex.specs.Field.{fields, texts};
-ghost use Rattle.rma_parse.specs.Forms.{form_at, form_of, form_of_kind, event_of};
-ghost use Rattle.rma_parse.specs.Lines.{fields_of, reading, site_of, stated_by};
-ghost use Rattle.rma_parse.specs.Steps.{Gives};
-ghost use Rattle.rma_parse.specs.inside.Words.{as_found, texts_at};
+ghost use Rattle.rma_field.specs.Steps.{Gives, Passes};
+ghost use Rattle.rma_field.specs.Texts.{texts_at};
+ghost use Rattle.rma_parse.specs.Forms.{form_at, form_of, form_of_kind, event_of, kind_words};
+ghost use Rattle.rma_parse.specs.Lines.{counted, fields_of, reading, site_of, stated_by, stated_in};
+ghost use Rattle.rma_parse.specs.Tails.{tail_counted};
+ghost use Rattle.rma_parse.specs.inside.Words.{as_found};
 
 use crate::event::{Event, Stated};
-use crate::fault::ParseError;
-use crate::field::is_word;
-use crate::form::{LineForm, frame, message, window};
-use crate::number::fault;
+use crate::form::{LineForm, TailKind, epoch, frame, message, moving, window};
 use crate::words::{Seen, Words, begins_with};
-use rma_base::{FormReason, NameError, Site};
+use rma_base::{FormReason, Site, Version};
+use rma_field::{ParseError, Texts, assertions_field, refused};
 use rma_lex::{TokenIter, tokens};
-use std::alloc::Global;
 
-/// What the line states. A blank line and a comment state nothing. Names and sites are copies of those that the
-/// interner keeps.
-pub fn parse_line(alloc: Global, line: &[u8]) -> Result<Option<Stated>, ParseError>
-    ensures { Gives result (reading line.now) }
+/// What a line of a log of this version states; a header is read in the version that it names. A blank line and a comment
+/// state nothing. Names and sites are copies of those that are kept of the log.
+///
+/// # Errors
+///
+/// The first reason for which the line is bad, or that memory ran out.
+pub fn parse_line(
+    kept: &mut Texts,
+    version: Version,
+    line: &[u8],
+) -> Result<Option<Stated>, ParseError>
+    ensures { Gives result (reading version line.now) }
 {
     let mut rest = tokens(line);
     match rest.next() {
-        Some(verb) if !begins_with(verb.text, b'#') => { read_words(alloc, line, verb.text, rest) }
+        Some(verb) if !begins_with(verb.text, b'#') => {
+            read_words(kept, version, line, verb.text, rest)
+        }
         _ => Ok(None),
     }
 }
@@ -32,87 +41,208 @@ pub fn parse_line(alloc: Global, line: &[u8]) -> Result<Option<Stated>, ParseErr
 // the room that it takes.
 #[inline(never)]
 fn read_words<'a>(
-    alloc: Global,
+    kept: &mut Texts,
+    version: Version,
     line: &'a [u8],
     verb: &'a [u8],
     rest: TokenIter<'a>,
 ) -> Result<Option<Stated>, ParseError>
     requires words { texts rest ≡ drop 1 (texts (fields line.now)) }
     requires bound { length (texts rest) < 2 ^ 64 }
-    ensures { Gives result (as_found (stated_by verb.now (drop 1 (texts (fields line.now))))) }
+    ensures { Gives result (as_found (stated_by version verb.now (drop 1 (texts (fields line.now))))) }
 {
     let mut seen = Seen::new();
     seen.survey(rest);
     let words = Words::new(line, &seen);
-    let stated = stated_by(alloc, verb, &words)?;
+    let stated = stated_by(kept, version, verb, &words)?;
     Ok(Some(stated))
 }
 
-fn stated_by(alloc: Global, verb: &[u8], words: &Words<'_, '_>) -> Result<Stated, ParseError>
-    ensures { Gives result (stated_by verb.now words.now) }
+fn stated_by(
+    kept: &mut Texts,
+    version: Version,
+    verb: &[u8],
+    words: &Words<'_, '_>,
+) -> Result<Stated, ParseError>
+    ensures { Gives result (stated_by version verb.now words.now) }
 {
-    let form = form_of(verb, words)?;
-    let (kind_words, further) = form.counts();
-    if words.count() != kind_words + further {
-        return Err(fault(FormReason::WrongCount));
+    let form = form_of(version, verb, words)?;
+    if words.count() <= 16 {
+        return stated_in(kept, version, form, words.fields(), words.site());
     }
-    let site = site_field(alloc, words.site())?;
-    let event = read_fields(alloc, form, words.fields_behind(kind_words))?;
+    match words.all(kept.allocator()) {
+        Ok(all) => stated_in(kept, version, form, all.as_slice(), words.site()),
+        Err(_) => Err(ParseError::Memory),
+    }
+}
+
+// What a line of the form states that has these fields and perhaps this site.
+fn stated_in(
+    kept: &mut Texts,
+    version: Version,
+    form: LineForm,
+    fields: &[&[u8]],
+    site: Option<&[u8]>,
+) -> Result<Stated, ParseError>
+    ensures { Gives result (stated_in version form (texts_at fields.now) (option_map (λ text. text.now) site.entry)) }
+{
+    let further = counted(version, form, fields)?;
+    let site = site_field(kept, site)?;
+    let event = read_fields(kept, version, form, further)?;
     Ok(Stated { event, site })
 }
 
-fn site_field(alloc: Global, text: Option<&[u8]>) -> Result<Option<Site>, ParseError>
+// The fields behind the word of its kind, where there are as many as the form has, and words of assertions are good.
+fn counted<'w, 'a>(
+    version: Version,
+    form: LineForm,
+    fields: &'w [&'a [u8]],
+) -> Result<&'w [&'a [u8]], ParseError>
+    ensures gives { Passes result (counted version form (texts_at fields.now)) }
+    ensures further { IfOk result (λ further. texts_at further.now ≡ drop (kind_words form) (texts_at fields.now)) }
+    ensures enough { IfOk result (λ further. length (form_at form).kinds ≤ length further.now) }
+{
+    let (kind_words, further) = form.counts();
+    let least = kind_words + further;
+    if fields.len() < least {
+        return Err(refused(FormReason::WrongCount));
+    }
+    tail_counted(version, form, behind(fields, least))?;
+    Ok(behind(fields, kind_words))
+}
+
+// The fields from an index on.
+fn behind<'w, 'a>(fields: &'w [&'a [u8]], from: usize) -> &'w [&'a [u8]]
+    requires { from ≤ length fields.now }
+    ensures texts { texts_at result.now ≡ drop from (texts_at fields.now) }
+    ensures number { length result.now + from ≡ length fields.now }
+{
+    &fields[from..]
+}
+
+// Whether so many words may stand behind the fields, and words of assertions are good ones.
+fn tail_counted(version: Version, form: LineForm, words: &[&[u8]]) -> Result<(), ParseError>
+    ensures { Gives result (tail_counted version (form_at form).tail (texts_at words.now)) }
+{
+    match form.tail() {
+        TailKind::Closed if words.is_empty() => Ok(()),
+        TailKind::Received if words.is_empty() || words.len() == 2 => Ok(()),
+        TailKind::Asserted => match assertions_field(version, form.allowed(version), words) {
+            Ok(_) => Ok(()),
+            Err(error) => Err(error),
+        },
+        _ => Err(refused(FormReason::WrongCount)),
+    }
+}
+
+fn site_field(kept: &mut Texts, text: Option<&[u8]>) -> Result<Option<Site>, ParseError>
     ensures { Gives result (site_of (option_map (λ text. text.now) text.entry)) }
 {
     match text {
-        Some(text) => match Site::new(alloc, text) {
+        Some(text) => match kept.site(text) {
             Ok(site) => Ok(Some(site)),
-            Err(NameError::Bad) => Err(fault(FormReason::BadName)),
-            Err(NameError::Memory) => Err(ParseError::Memory),
+            Err(error) => Err(error),
         },
         None => Ok(None),
     }
 }
 
 // The form of the line with these words behind its verb.
-fn form_of(verb: &[u8], words: &Words<'_, '_>) -> Result<LineForm, ParseError>
-    ensures { Gives result (form_of verb.now (fields_of words.now)) }
+fn form_of(version: Version, verb: &[u8], words: &Words<'_, '_>) -> Result<LineForm, ParseError>
+    ensures { Gives result (form_of version verb.now (fields_of words.now)) }
 {
-    match LineForm::with_verb(verb) {
-        Some(form) if form.has_kind() => form_of_kind(verb, words.kind()),
+    match LineForm::seen(version, verb, words.kind()) {
         Some(form) => Ok(form),
-        None => Err(fault(FormReason::UnknownVerb)),
+        None => searched_form(version, verb, words),
+    }
+}
+
+// The same, where all forms are compared.
+#[cold]
+fn searched_form(
+    version: Version,
+    verb: &[u8],
+    words: &Words<'_, '_>,
+) -> Result<LineForm, ParseError>
+    ensures { Gives result (form_of version verb.now (fields_of words.now)) }
+{
+    match LineForm::with_verb(version, verb) {
+        Some(form) if form.has_kind() => form_of_kind(version, verb, words.kind()),
+        Some(form) => Ok(form),
+        None => Err(refused(FormReason::UnknownVerb)),
     }
 }
 
 // The form with that verb and that word behind it.
-fn form_of_kind(verb: &[u8], kind: Option<&[u8]>) -> Result<LineForm, ParseError>
-    ensures none { IsNone kind.entry → Gives result (form_of_kind verb.now []) }
-    ensures some { IfSome kind.entry (λ kind. (rest : List (List ℕ)) → Gives result (form_of_kind verb.now (kind.now ∷ rest))) }
+fn form_of_kind(version: Version, verb: &[u8], kind: Option<&[u8]>) -> Result<LineForm, ParseError>
+    ensures none { IsNone kind.entry → Gives result (form_of_kind version verb.now []) }
+    ensures some { IfSome kind.entry (λ kind. (rest : List (List ℕ)) → Gives result (form_of_kind version verb.now (kind.now ∷ rest))) }
 {
     let Some(kind) = kind else {
-        return Err(fault(FormReason::WrongCount));
+        return Err(refused(FormReason::WrongCount));
     };
-    match LineForm::with_words(verb, kind) {
+    match LineForm::with_words(version, verb, kind) {
         Some(form) => Ok(form),
-        None => Err(fault(FormReason::BadWord)),
+        None => Err(refused(FormReason::BadWord)),
     }
 }
 
 // What the further fields of the form state.
-fn read_fields(alloc: Global, form: LineForm, texts: &[&[u8]]) -> Result<Event, ParseError>
-    requires { length texts.now ≡ length (form_at form).kinds }
-    ensures { Gives result (event_of form (texts_at texts.now)) }
+fn read_fields(
+    kept: &mut Texts,
+    version: Version,
+    form: LineForm,
+    fields: &[&[u8]],
+) -> Result<Event, ParseError>
+    requires { length (form_at form).kinds ≤ length fields.now }
+    ensures { Gives result (event_of version form (texts_at fields.now)) }
 {
     match form {
-        LineForm::Header => frame::header(texts[0], texts[1], texts[2]),
+        LineForm::Header => frame::header(version, fields[0], fields[1], fields[2]),
         LineForm::End => Ok(Event::End),
-        LineForm::Comm => frame::comm(alloc, texts[0], texts[1]),
-        LineForm::Barrier => frame::barrier(alloc, texts[0]),
-        LineForm::Send => message::send(alloc, texts[0], texts[1], texts[2]),
-        LineForm::Create => window::create(
-            alloc, texts[0], texts[1], texts[2], texts[3], texts[4], texts[5], texts[6],
+        LineForm::Comm => frame::comm(kept, version, fields[0], fields[1]),
+        LineForm::Barrier => frame::barrier(kept, fields[0]),
+        LineForm::Send => message::send(kept, version, fields[0], fields[1], fields[2]),
+        LineForm::Recv => message::recv(kept, version, fields[0], fields[1], fields[2]),
+        LineForm::Isend => message::isend(
+            kept, version, fields[0], fields[1], fields[2], fields[3],
         ),
-        LineForm::Free => window::free(alloc, texts[0]),
+        LineForm::Irecv => message::irecv(kept, fields[0], fields[1]),
+        LineForm::Wait => message::wait(kept, version, fields[0], behind(fields, 1)),
+        LineForm::Create => window::create(
+            kept, fields[0], fields[1], fields[2], fields[3], fields[4], fields[5], fields[6],
+        ),
+        LineForm::Free => window::free(kept, fields[0]),
+        LineForm::Fence => epoch::fence(kept, version, fields[0], behind(fields, 1)),
+        LineForm::Post => epoch::post(kept, version, fields[0], fields[1], behind(fields, 2)),
+        LineForm::Start => epoch::start(kept, version, fields[0], fields[1], behind(fields, 2)),
+        LineForm::Complete => epoch::complete(kept, fields[0]),
+        LineForm::Expwait => epoch::expwait(kept, fields[0]),
+        LineForm::Lock => epoch::lock(
+            kept,
+            version,
+            fields[0],
+            fields[1],
+            fields[2],
+            behind(fields, 3),
+        ),
+        LineForm::Unlock => epoch::unlock(kept, version, fields[0], fields[1]),
+        LineForm::LockAll => epoch::lock_all(kept, version, fields[0], behind(fields, 1)),
+        LineForm::UnlockAll => epoch::unlock_all(kept, fields[0]),
+        LineForm::Flush => epoch::flush(kept, version, fields[0], fields[1]),
+        LineForm::FlushAll => epoch::flush_all(kept, fields[0]),
+        LineForm::FlushLocal => epoch::flush_local(kept, version, fields[0], fields[1]),
+        LineForm::FlushLocalAll => epoch::flush_local_all(kept, fields[0]),
+        LineForm::Sync => epoch::sync(kept, fields[0]),
+        LineForm::Dynamic => window::dynamic(kept, fields[0], fields[1], fields[2]),
+        LineForm::Attach => window::attach(kept, fields[0], fields[1], fields[2]),
+        LineForm::Detach => window::detach(kept, fields[0], fields[1]),
+        LineForm::Bcast => moving::bcast(kept, version, fields[0], fields[1], fields[2]),
+        LineForm::Scatter => moving::scatter(kept, version, fields[0], fields[1], fields[2]),
+        LineForm::Gather => moving::gather(kept, version, fields[0], fields[1], fields[2]),
+        LineForm::Reduce => moving::reduce(kept, version, fields[0], fields[1], fields[2]),
+        LineForm::Allreduce => moving::allreduce(kept, fields[0], fields[1]),
+        LineForm::Allgather => moving::allgather(kept, fields[0], fields[1]),
+        LineForm::Alltoall => moving::alltoall(kept, fields[0], fields[1]),
     }
 }

@@ -1,11 +1,14 @@
 //! The words of a line behind its verb, which are walked once.
-ghost use Rattle.std.specs.Prelude.{◌≡◌, ◌<◌, ◌≤◌, ◌^◌, ◌+◌, ◌++◌, ◌∷◌, [], List, ℕ, Some, length, drop, take, option_map, MatchOption};
+ghost use Rattle.std.specs.Prelude.{◌≡◌, ◌<◌, ◌≤◌, ◌^◌, ◌+◌, ◌++◌, ◌∷◌, [], List, ℕ, Some, length, drop, take, option_map, IfOk, MatchOption};
 ghost use Rattle.rma_lex.specs.Field.{fields, texts};
 ghost use Rattle.rma_parse.specs.Lines.{behind_at, begins_with, fields_of, site_text};
-ghost use Rattle.rma_parse.specs.inside.Words.{HasSeen, texts_at};
+ghost use Rattle.rma_field.specs.Texts.{texts_at};
+ghost use Rattle.rma_parse.specs.inside.Words.{HasSeen};
 
 use arrayvec::ArrayVec;
-use rma_lex::TokenIter;
+use rma_base::Memory;
+use rma_lex::{TokenIter, tokens};
+use std::alloc::Global;
 use std::marker::Model;
 
 // The words of a line behind its verb. The first of them are at hand; no form has more.
@@ -76,24 +79,37 @@ impl<'w, 'a> Words<'w, 'a> {
         }
     }
 
-    // The words behind so many, without the site.
-    pub(crate) fn fields_behind(&self, kind_words: usize) -> &[&'a [u8]]
-        requires few { length (fields_of self.now) ≤ 16 }
-        requires within { kind_words ≤ length (fields_of self.now) }
-        ensures { texts_at result.now ≡ drop kind_words (fields_of self.now) }
+    // The words without the site.
+    pub(crate) fn fields(&self) -> &[&'a [u8]]
+        requires { length (fields_of self.now) ≤ 16 }
+        ensures { texts_at result.now ≡ fields_of self.now }
     {
-        part(self.first, kind_words, self.count)
+        first_of(self.first, self.count)
+    }
+
+    // The words without the site, however many they are.
+    pub(crate) fn all(&self, alloc: Global) -> Result<Vec<&'a [u8]>, Memory>
+        ensures { IfOk result (λ all. texts_at all.items ≡ fields_of self.now) }
+    {
+        let mut rest = tokens(self.line);
+        rest.next();
+        let mut all = Vec::new(alloc);
+        'words: while all.len() < self.count {
+            let Some(token) = rest.next() else {
+                return Ok(all);
+            };
+            all.push(token.text)?;
+        }
+        Ok(all)
     }
 }
 
-// The texts from one place to another.
-fn part<'w, 'a>(texts: &'w [&'a [u8]], from: usize, to: usize) -> &'w [&'a [u8]]
-    requires from { from ≤ to }
-    requires to { to ≤ length texts.now }
-    ensures { texts_at result.now ≡ drop from (take to (texts_at texts.now)) }
+// The first texts.
+fn first_of<'w, 'a>(texts: &'w [&'a [u8]], count: usize) -> &'w [&'a [u8]]
+    requires { count ≤ length texts.now }
+    ensures { texts_at result.now ≡ take count (texts_at texts.now) }
 {
-    let whole = &texts[..to];
-    &whole[from..]
+    &texts[..count]
 }
 
 // What was seen of some words: the first of them, how many they are, and the last.

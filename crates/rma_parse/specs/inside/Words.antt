@@ -1,19 +1,16 @@
 -- What was seen of the words behind a verb, and what is made of them.
-use Rattle.std.specs.Prelude.{◌≡◌, ℕ, List, length, map, take, Option, Some, None, option_map, Result, Ok}
+use Rattle.std.specs.Prelude.{◌≡◌, ℕ, List, length, take, Option, Some, None, option_map, Result, Ok}
 use Rattle.std.specs.Borrow.{Bor}
 use Rattle.rma_base.specs.declared.form_reason.FormReason.{FormReason}
 use Rattle.rma_parse.specs.declared.event.Stated.{Stated}
 use Rattle.rma_parse.specs.declared.words.Seen.{Seen}
 use Rattle.rma_parse.specs.Lines.{fields_of, last_or, site_text}
-use Rattle.rma_parse.specs.Steps.{◌>>=◌}
+use Rattle.rma_field.specs.Steps.{◌>>=◌}
+use Rattle.rma_field.specs.Texts.{texts_at}
 
 -- what a line states that is neither blank nor a comment
 abbrev pub as_found : Result Stated FormReason → Result (Option Stated) FormReason
 as_found read = read >>= λ stated. Ok (Some stated)
-
--- the texts that these refer to
-abbrev pub texts_at : List (Bor (List ℕ)) → List (List ℕ)
-texts_at them = map (λ text. text.now) them
 
 -- the first of the words, their number, and the last of them
 pub record HasSeen (seen : Seen) (words : List (List ℕ)) : Type 0 where

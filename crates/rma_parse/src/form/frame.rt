@@ -1,52 +1,95 @@
-//! Headers, ends, communicators and barriers: reading their fields, and writing their lines.
-ghost use Rattle.std.specs.Prelude.{◌≡◌, ◌∷◌, [], IfOk, string_bytes};
+//! Communicators and barriers: reading the fields of their lines, and writing the lines. Headers and ends stand beside them.
+ghost use Rattle.std.specs.Prelude.{◌≡◌, ◌∷◌, [], ℕ, List, Option, IfOk, Ok, codes, string_bytes};
 ghost use Rattle.std.specs.List.{join_with_byte};
+ghost use Rattle.rma_base.specs.declared.version.Version.{Version};
 ghost use Rattle.rma_call.specs.declared.what.What.TheVariants as what;
 ghost use Rattle.rma_call.specs.declared.what.SyncCall.TheVariants as sync;
+ghost use Rattle.rma_field.specs.Ranks.{ranks_text};
+ghost use Rattle.rma_field.specs.Kinds.{version_of};
+ghost use Rattle.rma_field.specs.Steps.{Gives};
 ghost use Rattle.rma_parse.specs.Canonical.{spelled};
-ghost use Rattle.rma_parse.specs.Forms.{event_of};
-ghost use Rattle.rma_parse.specs.Steps.{Gives};
+ghost use Rattle.rma_parse.specs.Forms.{event_in, event_of};
 
 use crate::event::Event;
-use crate::fault::ParseError;
-use crate::field::{call, name_field, version_field};
 use crate::form::LineForm;
-use crate::number::natural;
-use crate::rank_field::{ranks_field, ranks_text};
-use rma_base::{Memory, Name, Rank, RankSet};
-use rma_call::{FrameCall, SyncCall};
+use crate::line::named_line;
+use rma_base::{Memory, Name, Rank, RankSet, Version};
+use rma_call::{FrameCall, SyncCall, What};
+use rma_field::{
+    ParseError, Texts, rank_field, ranks_field, ranks_text, size_field, version_field,
+};
 use std::alloc::Global;
 
-pub(crate) fn header(version: &[u8], rank: &[u8], size: &[u8]) -> Result<Event, ParseError>
-    ensures { Gives result (event_of LineForm.Header (version.now ∷ rank.now ∷ size.now ∷ [])) }
+pub(crate) fn comm(
+    texts: &mut Texts,
+    version: Version,
+    comm: &[u8],
+    ranks: &[u8],
+) -> Result<Event, ParseError>
+    ensures { Gives result (event_of version LineForm.Comm (comm.now ∷ ranks.now ∷ [])) }
 {
-    version_field(version)?;
-    let rank = Rank(natural(rank, 0, 63)? as u32);
-    let size = natural(size, 1, 64)? as u32;
-    Ok(Event::Header { rank, size })
+    let comm = texts.name(comm)?;
+    let ranks = ranks_field(texts.allocator(), version, ranks)?;
+    Ok(call(FrameCall::Comm { comm, ranks }, None))
 }
 
-pub(crate) fn comm(alloc: Global, comm: &[u8], ranks: &[u8]) -> Result<Event, ParseError>
-    ensures { Gives result (event_of LineForm.Comm (comm.now ∷ ranks.now ∷ [])) }
+pub(crate) fn barrier(texts: &mut Texts, comm: &[u8]) -> Result<Event, ParseError>
+    ensures { Gives result (event_of Version.Two LineForm.Barrier (comm.now ∷ [])) }
 {
-    let comm = name_field(alloc, comm)?;
-    let ranks = ranks_field(alloc, ranks)?;
-    call(alloc, SyncCall::Frame(FrameCall::Comm { comm, ranks }))
+    let comm = texts.name(comm)?;
+    Ok(call(FrameCall::Barrier { comm }, None))
 }
 
-pub(crate) fn barrier(alloc: Global, comm: &[u8]) -> Result<Event, ParseError>
-    ensures { Gives result (event_of LineForm.Barrier (comm.now ∷ [])) }
+fn call(call: FrameCall, request: Option<Name>) -> Event
+    ensures { result ≡ Event.Call (what.Sync (sync.Frame call)) request }
 {
-    let comm = name_field(alloc, comm)?;
-    call(alloc, SyncCall::Frame(FrameCall::Barrier { comm }))
+    Event::Call {
+        what: What::Sync(SyncCall::Frame(call)),
+        request,
+    }
+}
+
+// The event of a header, in the version that it names.
+pub(crate) fn header(
+    log: Version,
+    word: &[u8],
+    rank: &[u8],
+    size: &[u8],
+) -> Result<Event, ParseError>
+    ensures { Gives result (event_of log LineForm.Header (word.now ∷ rank.now ∷ size.now ∷ [])) }
+{
+    let _log = log;
+    match version_field(word) {
+        Ok(version) => header_in(version, word, rank, size),
+        Err(error) => Err(error),
+    }
+}
+
+// The event of a header of this version, which the word names.
+fn header_in(version: Version, word: &[u8], rank: &[u8], size: &[u8]) -> Result<Event, ParseError>
+    requires { version_of word.now ≡ Ok version }
+    ensures { Gives result (event_in version LineForm.Header (word.now ∷ rank.now ∷ size.now ∷ [])) }
+{
+    let rank = rank_field(version, rank)?;
+    let size = size_field(version, size)?;
+    Ok(Event::Header {
+        version,
+        rank,
+        size,
+    })
 }
 
 // The line of a header, without its site.
 #[tactic(auto, unfolding(crate::specs::Canonical::spelled))]
-pub(crate) fn header_line(alloc: Global, rank: Rank, size: u32) -> Result<String, Memory>
-    ensures { IfOk result (λ line. string_bytes line ≡ join_with_byte 32 (spelled (Event.Header rank size))) }
+pub(crate) fn header_line(
+    alloc: Global,
+    version: Version,
+    rank: Rank,
+    size: u32,
+) -> Result<String, Memory>
+    ensures { IfOk result (λ line. string_bytes line ≡ join_with_byte 32 (spelled (Event.Header version rank size))) }
 {
-    Ok(format!(in alloc; "rma 1 {} {size}", rank.0)?)
+    Ok(format!(in alloc; "rma {} {} {size}", version.word(), rank.0)?)
 }
 
 // The line of an end, without its site.
@@ -58,26 +101,19 @@ pub(crate) fn end_line(alloc: Global) -> Result<String, Memory>
 }
 
 // The line of a call, without its site.
+#[tactic(auto, unfolding(crate::specs::Canonical::spelled))]
 pub(crate) fn line(alloc: Global, call: &FrameCall) -> Result<String, Memory>
-    ensures { IfOk result (λ line. string_bytes line ≡ join_with_byte 32 (spelled (Event.Call (what.Sync (sync.Frame call.now))))) }
+    ensures { (request : Option (List ℕ)) → IfOk result (λ line. string_bytes line ≡ join_with_byte 32 (spelled (Event.Call (what.Sync (sync.Frame call.now)) request))) }
 {
     match call {
         FrameCall::Comm { comm, ranks } => comm_line(alloc, comm, ranks),
-        FrameCall::Barrier { comm } => barrier_line(alloc, comm),
+        FrameCall::Barrier { comm } => named_line(alloc, "barrier", comm),
     }
 }
 
-#[tactic(auto, unfolding(crate::specs::Canonical::spelled))]
 fn comm_line(alloc: Global, comm: &Name, ranks: &RankSet) -> Result<String, Memory>
-    ensures { IfOk result (λ line. string_bytes line ≡ join_with_byte 32 (spelled (Event.Call (what.Sync (sync.Frame (FrameCall.Comm comm.now ranks.now)))))) }
+    ensures { IfOk result (λ line. string_bytes line ≡ join_with_byte 32 (codes "comm" ∷ comm.now ∷ ranks_text ranks.now ∷ [])) }
 {
     let ranks = ranks_text(alloc, ranks)?;
     Ok(format!(in alloc; "comm {} {ranks}", comm.text())?)
-}
-
-#[tactic(auto, unfolding(crate::specs::Canonical::spelled))]
-fn barrier_line(alloc: Global, comm: &Name) -> Result<String, Memory>
-    ensures { IfOk result (λ line. string_bytes line ≡ join_with_byte 32 (spelled (Event.Call (what.Sync (sync.Frame (FrameCall.Barrier comm.now)))))) }
-{
-    Ok(format!(in alloc; "barrier {}", comm.text())?)
 }

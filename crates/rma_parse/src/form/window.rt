@@ -1,25 +1,26 @@
 //! Windows: reading the fields of their lines, and writing the lines.
-ghost use Rattle.std.specs.Prelude.{◌≡◌, ◌∷◌, [], IfOk, string_bytes};
+ghost use Rattle.std.specs.Prelude.{◌≡◌, ◌∷◌, [], ℕ, List, Option, IfOk, codes, decimal, string_bytes};
 ghost use Rattle.std.specs.List.{join_with_byte};
+ghost use Rattle.rma_base.specs.declared.version.Version.{Version};
+ghost use Rattle.rma_base.specs.Window.{model_word, ops_word};
 ghost use Rattle.rma_call.specs.declared.what.What.TheVariants as what;
 ghost use Rattle.rma_call.specs.declared.what.SyncCall.TheVariants as sync;
+ghost use Rattle.rma_field.specs.Steps.{Gives};
 ghost use Rattle.rma_parse.specs.Canonical.{spelled};
+ghost use Rattle.rma_parse.specs.inside.Creations.{creation_words};
 ghost use Rattle.rma_parse.specs.Forms.{event_of};
-ghost use Rattle.rma_parse.specs.Steps.{Gives};
 
 use crate::event::Event;
-use crate::fault::ParseError;
-use crate::field::{call, model_field, name_field, operations_field};
 use crate::form::LineForm;
-use crate::number::natural;
+use crate::line::named_line;
 use rma_base::limits::SPACE;
 use rma_base::{AccOps, Memory, Name, WinModel};
-use rma_call::{SyncCall, WindowCall};
+use rma_call::{SyncCall, What, WindowCall};
+use rma_field::{ParseError, Texts, model_field, natural, operations_field};
 use std::alloc::Global;
 
-#[allow(clippy::too_many_arguments)]
 pub(crate) fn create(
-    alloc: Global,
+    texts: &mut Texts,
     window: &[u8],
     comm: &[u8],
     base: &[u8],
@@ -28,30 +29,105 @@ pub(crate) fn create(
     model: &[u8],
     ops: &[u8],
 ) -> Result<Event, ParseError>
-    ensures { Gives result (event_of LineForm.Create (window.now ∷ comm.now ∷ base.now ∷ size.now ∷ unit.now ∷ model.now ∷ ops.now ∷ [])) }
+    ensures { Gives result (event_of Version.Two LineForm.Create (window.now ∷ comm.now ∷ base.now ∷ size.now ∷ unit.now ∷ model.now ∷ ops.now ∷ [])) }
 {
-    let created = WindowCall::Create {
-        window: name_field(alloc, window)?,
-        comm: name_field(alloc, comm)?,
-        base: natural(base, 0, SPACE)?,
-        size: natural(size, 0, SPACE)?,
-        unit: natural(unit, 1, 2_147_483_647)? as u32,
-        model: model_field(model)?,
-        ops: operations_field(ops)?,
-    };
-    call(alloc, SyncCall::Window(created))
+    let window = texts.name(window)?;
+    let comm = texts.name(comm)?;
+    let base = natural(base, 0, SPACE)?;
+    let size = natural(size, 0, SPACE)?;
+    let unit = natural(unit, 1, 2_147_483_647)? as u32;
+    let model = model_field(model)?;
+    let ops = operations_field(ops)?;
+    Ok(call(
+        WindowCall::Create {
+            window,
+            comm,
+            base,
+            size,
+            unit,
+            model,
+            ops,
+            dynamic: false,
+        },
+        None,
+    ))
 }
 
-pub(crate) fn free(alloc: Global, window: &[u8]) -> Result<Event, ParseError>
-    ensures { Gives result (event_of LineForm.Free (window.now ∷ [])) }
+pub(crate) fn free(texts: &mut Texts, window: &[u8]) -> Result<Event, ParseError>
+    ensures { Gives result (event_of Version.Two LineForm.Free (window.now ∷ [])) }
 {
-    let window = name_field(alloc, window)?;
-    call(alloc, SyncCall::Window(WindowCall::Free { window }))
+    let window = texts.name(window)?;
+    Ok(call(WindowCall::Free { window }, None))
+}
+
+pub(crate) fn dynamic(
+    texts: &mut Texts,
+    window: &[u8],
+    comm: &[u8],
+    ops: &[u8],
+) -> Result<Event, ParseError>
+    ensures { Gives result (event_of Version.Two LineForm.Dynamic (window.now ∷ comm.now ∷ ops.now ∷ [])) }
+{
+    let window = texts.name(window)?;
+    let comm = texts.name(comm)?;
+    let ops = operations_field(ops)?;
+    Ok(call(
+        WindowCall::Create {
+            window,
+            comm,
+            base: 0,
+            size: SPACE,
+            unit: 1,
+            model: WinModel::Unified,
+            ops,
+            dynamic: true,
+        },
+        None,
+    ))
+}
+
+pub(crate) fn attach(
+    texts: &mut Texts,
+    window: &[u8],
+    address: &[u8],
+    size: &[u8],
+) -> Result<Event, ParseError>
+    ensures { Gives result (event_of Version.Two LineForm.Attach (window.now ∷ address.now ∷ size.now ∷ [])) }
+{
+    let window = texts.name(window)?;
+    let address = natural(address, 0, SPACE)?;
+    let size = natural(size, 1, SPACE)?;
+    Ok(call(
+        WindowCall::Attach {
+            window,
+            address,
+            size,
+        },
+        None,
+    ))
+}
+
+pub(crate) fn detach(texts: &mut Texts, window: &[u8], address: &[u8]) -> Result<Event, ParseError>
+    ensures { Gives result (event_of Version.Two LineForm.Detach (window.now ∷ address.now ∷ [])) }
+{
+    let window = texts.name(window)?;
+    let address = natural(address, 0, SPACE)?;
+    Ok(call(WindowCall::Detach { window, address }, None))
+}
+
+fn call(call: WindowCall, request: Option<Name>) -> Event
+    ensures { result ≡ Event.Call (what.Sync (sync.Window call)) request }
+{
+    Event::Call {
+        what: What::Sync(SyncCall::Window(call)),
+        request,
+    }
 }
 
 // The line of a call, without its site.
+#[tactic(auto, unfolding(crate::specs::Canonical::spelled))]
 pub(crate) fn line(alloc: Global, call: &WindowCall) -> Result<String, Memory>
-    ensures { IfOk result (λ line. string_bytes line ≡ join_with_byte 32 (spelled (Event.Call (what.Sync (sync.Window call.now))))) }
+    ensures { (request : Option (List ℕ)) → IfOk result (λ line. string_bytes line ≡ join_with_byte 32 (spelled (Event.Call (what.Sync (sync.Window call.now)) request))) }
 {
     match call {
         WindowCall::Create {
@@ -62,12 +138,43 @@ pub(crate) fn line(alloc: Global, call: &WindowCall) -> Result<String, Memory>
             unit,
             model,
             ops,
-        } => create_line(alloc, window, comm, *base, *size, *unit, *model, *ops),
-        WindowCall::Free { window } => free_line(alloc, window),
+            dynamic,
+        } => {
+            creation_line(
+                alloc, window, comm, *base, *size, *unit, *model, *ops, *dynamic,
+            )
+        }
+        WindowCall::Free { window } => named_line(alloc, "win free", window),
+        WindowCall::Attach {
+            window,
+            address,
+            size,
+        } => attach_line(alloc, window, *address, *size),
+        WindowCall::Detach { window, address } => detach_line(alloc, window, *address),
     }
 }
 
-#[tactic(auto, unfolding(crate::specs::Canonical::spelled))]
+#[allow(clippy::too_many_arguments)]
+fn creation_line(
+    alloc: Global,
+    window: &Name,
+    comm: &Name,
+    base: u64,
+    size: u64,
+    unit: u32,
+    model: WinModel,
+    ops: AccOps,
+    dynamic: bool,
+) -> Result<String, Memory>
+    ensures { IfOk result (λ line. string_bytes line ≡ join_with_byte 32 (creation_words window.now comm.now base size unit model ops dynamic)) }
+{
+    if dynamic {
+        dynamic_line(alloc, window, comm, ops)
+    } else {
+        create_line(alloc, window, comm, base, size, unit, model, ops)
+    }
+}
+
 #[allow(clippy::too_many_arguments)]
 fn create_line(
     alloc: Global,
@@ -79,16 +186,33 @@ fn create_line(
     model: WinModel,
     ops: AccOps,
 ) -> Result<String, Memory>
-    ensures { IfOk result (λ line. string_bytes line ≡ join_with_byte 32 (spelled (Event.Call (what.Sync (sync.Window (WindowCall.Create window.now comm.now base size unit model ops)))))) }
+    ensures { IfOk result (λ line. string_bytes line ≡ join_with_byte 32
+        (codes "win" ∷ codes "create" ∷ window.now ∷ comm.now ∷ decimal base ∷ decimal size ∷ decimal unit ∷ model_word model ∷ ops_word ops ∷ [])) }
 {
     let info = format!(in alloc; "{unit} {} {}", model.word(), ops.word())?;
     let memory = format!(in alloc; "{base} {size} {info}")?;
     Ok(format!(in alloc; "win create {} {} {memory}", window.text(), comm.text())?)
 }
 
-#[tactic(auto, unfolding(crate::specs::Canonical::spelled))]
-fn free_line(alloc: Global, window: &Name) -> Result<String, Memory>
-    ensures { IfOk result (λ line. string_bytes line ≡ join_with_byte 32 (spelled (Event.Call (what.Sync (sync.Window (WindowCall.Free window.now)))))) }
+fn dynamic_line(alloc: Global, window: &Name, comm: &Name, ops: AccOps) -> Result<String, Memory>
+    ensures { IfOk result (λ line. string_bytes line ≡ join_with_byte 32 (codes "win" ∷ codes "dynamic" ∷ window.now ∷ comm.now ∷ ops_word ops ∷ [])) }
 {
-    Ok(format!(in alloc; "win free {}", window.text())?)
+    Ok(format!(in alloc;
+        "win dynamic {} {} {}",
+        window.text(),
+        comm.text(),
+        ops.word()
+    )?)
+}
+
+fn attach_line(alloc: Global, window: &Name, address: u64, size: u64) -> Result<String, Memory>
+    ensures { IfOk result (λ line. string_bytes line ≡ join_with_byte 32 (codes "attach" ∷ window.now ∷ decimal address ∷ decimal size ∷ [])) }
+{
+    Ok(format!(in alloc; "attach {} {address} {size}", window.text())?)
+}
+
+fn detach_line(alloc: Global, window: &Name, address: u64) -> Result<String, Memory>
+    ensures { IfOk result (λ line. string_bytes line ≡ join_with_byte 32 (codes "detach" ∷ window.now ∷ decimal address ∷ [])) }
+{
+    Ok(format!(in alloc; "detach {} {address}", window.text())?)
 }

@@ -6,7 +6,7 @@ use Rattle.rma_parse.proofs.CanonicalLemmas.{canonical_states}
 use Rattle.rma_parse.proofs.canonical.line_of.Goals as goal
 
 pub returns-clause-states : goal.returns-clause-states
-returns-clause-states c text stated =
+returns-clause-states c version text stated =
     let is : string_bytes c.push_site.new.line ≡ canonical c.args.stated.now =
     c.in_ok-push_site.ensures ∙ ap (λ words. words ++ site_suffix c.args.stated.now.site) c.in_ok-line.ensures in
-    subst (λ line. states line c.args.stated.now) (sym is) (canonical_states text c.args.stated.now stated)
+    subst (λ line. states version line c.args.stated.now) (sym is) (canonical_states version text c.args.stated.now stated)

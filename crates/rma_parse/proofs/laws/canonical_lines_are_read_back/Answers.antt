@@ -1,4 +1,4 @@
-use Rattle.rma_parse.proofs.CanonicalLemmas.{canonical_states, canonical_apart}
+use Rattle.rma_parse.proofs.CanonicalLemmas.{canonical_apart, canonical_states}
 use Rattle.rma_parse.proofs.laws.canonical_lines_are_read_back.Goals as goal
 
 pub returns-clause-read_back : goal.returns-clause-read_back

@@ -1,0 +1,9 @@
+pub mod NumberLemmas
+pub mod RankFieldLemmas
+pub mod KeyLemmas
+pub mod DivisionLemmas
+pub mod JoinLemmas
+pub mod DecimalLemmas
+pub mod RisingLemmas
+pub mod RankTextLemmas
+pub mod AssertionLemmas

@@ -1,0 +1,15 @@
+pub use Rattle.rma_base.specs.Name
+pub use Rattle.rma_base.specs.RankSet
+pub use Rattle.rma_base.specs.Site
+pub use Rattle.rma_base.specs.Version
+pub use Rattle.rma_base.specs.Window
+pub use Rattle.rma_call.specs.Assertion
+pub use Rattle.rma_datatype.specs.Operation
+pub mod Numbers
+pub mod Steps
+pub mod Ranks
+pub mod Kinds
+pub mod Texts
+pub mod Sites
+pub mod Assertions
+pub mod inside

@@ -1,0 +1,170 @@
+//! Fields that are numbers.
+ghost use Rattle.std.specs.Prelude.{◌≡◌, ◌<◌, ◌≤◌, length, min, MatchOption, option_map, IfOk, Some, None, true, false, ℕ, ◌*◌, ◌+◌};
+ghost use Rattle.std.specs.List.{list_all};
+ghost use Rattle.std.specs.Char.{digit_value, is_digit};
+ghost use Rattle.std.specs.Str.Parse.{digits_value};
+ghost use Rattle.rma_field.specs.Numbers.{numeral, number, signed, natural, natural_within};
+ghost use Rattle.rma_field.specs.Kinds.{meaning, rank, size};
+ghost use Rattle.rma_field.specs.Steps.{Gives};
+
+use crate::parse_error::{ParseError, ParseFault};
+use rma_base::{FormReason, Rank, Version};
+
+// Where magnitudes are cut off: above the range of every field.
+pub(crate) const CAP: u64 = 576_460_752_303_423_488;
+
+// A number, its magnitude cut off at `CAP`.
+#[derive(Clone, Copy)]
+pub(crate) struct Signed {
+    pub(crate) negative: bool,
+    pub(crate) magnitude: u64,
+}
+
+// The sign, the base and the digits of a text that should be a number.
+#[derive(Clone, Copy)]
+pub(crate) struct Parts<'a> {
+    pub(crate) negative: bool,
+    pub(crate) base: u32,
+    pub(crate) digits: &'a [u8],
+}
+
+/// The field as a number from `low` to `high`.
+pub fn natural(text: &[u8], low: u64, high: u64) -> Result<u64, ParseError>
+    requires { high < CAP }
+    ensures gives { Gives result (natural low high text.now) }
+    ensures range { IfOk result (λ n. n ≤ high) }
+{
+    match number(text) {
+        Some(number) => natural_of(number, low, high),
+        None => Err(refused(FormReason::BadNumber)),
+    }
+}
+
+/// The field as a rank of a run.
+pub fn rank_field(version: Version, text: &[u8]) -> Result<Rank, ParseError>
+    ensures { Gives result (meaning version rank text.now) }
+{
+    match natural(text, 0, u64::from(version.ranks() - 1)) {
+        Ok(number) => Ok(Rank(number as u32)),
+        Err(error) => Err(error),
+    }
+}
+
+/// The field as a number of ranks.
+pub fn size_field(version: Version, text: &[u8]) -> Result<u32, ParseError>
+    ensures { Gives result (meaning version size text.now) }
+{
+    match natural(text, 1, u64::from(version.ranks())) {
+        Ok(number) => Ok(number as u32),
+        Err(error) => Err(error),
+    }
+}
+
+fn natural_of(number: Signed, low: u64, high: u64) -> Result<u64, ParseError>
+    requires { high < CAP }
+    ensures gives { (m : ℕ) → number.magnitude ≡ min m CAP → Gives result (natural_within low high (signed number.negative m)) }
+    ensures range { IfOk result (λ n. n ≤ high) }
+{
+    if number.negative && number.magnitude > 0 {
+        return Err(refused(FormReason::OutOfRange));
+    }
+    if number.magnitude < low || number.magnitude > high {
+        return Err(refused(FormReason::OutOfRange));
+    }
+    Ok(number.magnitude)
+}
+
+/// The error of a bad line.
+pub fn refused(reason: FormReason) -> ParseError
+    ensures { result ≡ ParseError.Fault (record { reason = reason }) }
+{
+    ParseError::Fault(ParseFault { reason })
+}
+
+// The number that the text is.
+pub(crate) fn number(text: &[u8]) -> Option<Signed>
+    ensures { MatchOption result (number text.now ≡ None) (λ n. (m : ℕ) × (number text.now ≡ Some (signed n.negative m)) × (n.magnitude ≡ min m CAP)) }
+{
+    let parts = split_number(text);
+    match numeral(parts.base, parts.digits) {
+        Some(magnitude) => Some(Signed {
+            negative: parts.negative,
+            magnitude,
+        }),
+        None => None,
+    }
+}
+
+// The parts of a text that should be a number.
+pub(crate) fn split_number(text: &[u8]) -> Parts<'_>
+    ensures value { number text.now ≡ option_map (signed result.negative) (numeral result.base result.digits.now) }
+    ensures low { 10 ≤ result.base }
+    ensures high { result.base ≤ 16 }
+{
+    let negative = text.starts_with(b"-");
+    let rest = if negative { &text[1..] } else { text };
+    if rest.starts_with(b"0x") {
+        Parts {
+            negative,
+            base: 16,
+            digits: &rest[2..],
+        }
+    } else {
+        Parts {
+            negative,
+            base: 10,
+            digits: rest,
+        }
+    }
+}
+
+fn numeral(base: u32, text: &[u8]) -> Option<u64>
+    requires low { 0 < base }
+    requires high { base ≤ 16 }
+    ensures { MatchOption result (numeral base text.now ≡ None) (λ n. (m : ℕ) × (numeral base text.now ≡ Some m) × (n ≡ min m CAP)) }
+{
+    if !text.is_empty() && all_digits(base, text) {
+        Some(capped_value(base, text))
+    } else {
+        None
+    }
+}
+
+fn all_digits(base: u32, text: &[u8]) -> bool
+    ensures { result ≡ list_all (λ c. is_digit c base) text.now }
+{
+    text.iter().all(|byte| digit(*byte) < base)
+}
+
+fn capped_value(base: u32, text: &[u8]) -> u64
+    requires low { 0 < base }
+    requires high { base ≤ 16 }
+    ensures { result ≡ min (digits_value base text.now) CAP }
+{
+    let mut value = 0u64;
+    for byte in text {
+        value = with_digit(value, base, digit(*byte));
+    }
+    value
+}
+
+fn with_digit(value: u64, base: u32, digit: u32) -> u64
+    requires capped { value ≤ CAP }
+    requires high { base ≤ 16 }
+    requires digit { digit ≤ 36 }
+    ensures { result ≡ min (value * base + digit) CAP }
+{
+    (value * u64::from(base) + u64::from(digit)).min(CAP)
+}
+
+pub(crate) fn digit(byte: u8) -> u32
+    ensures value { result ≡ digit_value byte }
+    ensures bound { result ≤ 36 }
+{
+    match byte {
+        b'0'..=b'9' => u32::from(byte - b'0'),
+        b'A'..=b'Z' => u32::from(byte - b'A') + 10,
+        b'a'..=b'z' => u32::from(byte - b'a') + 10,
+        _ => 36,
+    }
+}
