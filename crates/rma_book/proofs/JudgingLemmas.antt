@@ -1,67 +1,80 @@
 -- The reasons of an event, from what a book keeps.
-use Rattle.std.proofs.Common.{◌≡◌, ℕ, Bool, true, false, not, ◌||◌, ◌&&◌, List, [], ◌∷◌, Option, Some, None, cond, eqb, refl, is_some}
-use Rattle.std.specs.Prelude.{unwrap_or, option_map}
-use Rattle.std.specs.List.{list_any}
-use Rattle.std.specs.Option.{option_map_or}
+use Rattle.std.proofs.Common.{◌≡◌, ℕ, Bool, true, false, not, ◌||◌, ◌&&◌, List, [], ◌∷◌, Option, Some, None, cond, eqb, nat_lt, refl, ap, ◌∙◌, arith}
+use Rattle.std.specs.Map.{lookup}
+use Rattle.std.specs.Option.{option_or}
 use Rattle.rma_base.specs.declared.rank.Rank.{Rank}
-use Rattle.rma_base.specs.declared.form_reason.FormReason.TheVariants.{BadHeader, WrongHeader, AfterEnd, UnknownComm, UnknownWindow, NameInUse, RankTooLarge, NotInGroup, OutOfSpace}
+use Rattle.rma_base.specs.declared.version.Version.{Version}
+use Rattle.rma_base.specs.declared.form_reason.FormReason.{FormReason}
+use Rattle.rma_base.specs.declared.form_reason.FormReason.TheVariants.{BadHeader, WrongHeader, AfterEnd, RequestPending}
 use Rattle.rma_parse.specs.declared.event.Event.{Event}
-use Rattle.rma_parse.specs.declared.event.Event.TheVariants.{Header}
-use Rattle.rma_book.specs.Naming.{is_header, had_window, has_window, frees, is_end}
-use Rattle.rma_book.specs.Judging.{first_that_holds, is_far, is_of_another_log, place_reason}
-use Rattle.rma_book.specs.Calls.{Entry, events_of, end_line}
-use Rattle.rma_book.specs.inside.BookState.{BookState, Represents, window_in}
+use Rattle.rma_parse.specs.declared.event.Event.TheVariants.{Header, End}
+use Rattle.rma_book.specs.Naming.{Attributes, attributes_of, no_attributes, is_header, is_end}
+use Rattle.rma_book.specs.Judging.{is_of_another_log, place_reason, name_reason, use_reason, reason_of}
+use Rattle.rma_book.specs.Names.{is_same}
+use Rattle.rma_book.specs.inside.BookState.{BookState, Represents, IsTaken, IsJudged}
+use Rattle.rma_book.proofs.StateLemmas.{Represents_taken}
 
--- the end was taken where it has a line
-pub is_some_end_line : (entries : List Entry) → is_some (end_line entries) ≡ list_any is_end (events_of entries)
-is_some_end_line [] = refl
-is_some_end_line (entry ∷ entries) = step (is_end entry.stated.event) (is_some_end_line entries)
-  where
-    step : (b : Bool) → is_some (end_line entries) ≡ list_any is_end (events_of entries) → is_some (cond b (Some entry.line) (end_line entries)) ≡ (b || list_any is_end (events_of entries))
-    step true h = refl
-    step false h = h
+-- why an event that is no header is bad where it stands, if it is
+abbrev pub later : BookState → Option FormReason
+later book = cond (not book.begun) (Some BadHeader) (cond book.ended (Some AfterEnd) None)
 
 -- an event that is no header stands behind the header, and before the end
-pub of_place : (rank logs : ℕ) (book : BookState) (entries : List Entry) (event : Event) → Represents book entries → is_header event ≡ false
-    → is_of_another_log rank logs event ≡ false
-    → place_reason rank logs (events_of entries) event ≡ cond (not book.begun) (Some BadHeader) (cond (is_some book.ended) (Some AfterEnd) None)
+pub of_place : (rank logs : ℕ) (book : BookState) (events : List Event) (event : Event) → Represents book events → is_header event ≡ false
+    → is_of_another_log rank logs event ≡ false → place_reason rank logs events event ≡ later book
 of_place rank logs book [] event h plain own = rw (h.begun, plain) refl
-of_place rank logs book (entry ∷ entries) event h plain own = rw (h.begun, plain, own, h.ended, is_some_end_line (entry ∷ entries)) refl
+of_place rank logs book (first ∷ events) event h plain own = rw (h.begun, plain, own, h.ended) refl
 
-pub of_header : (rank logs : ℕ) (book : BookState) (entries : List Entry) (r : Rank) (n : ℕ) → Represents book entries
-    → place_reason rank logs (events_of entries) (Header r n)
-    ≡ cond book.begun (Some BadHeader) (cond (eqb r.0 rank && eqb n logs) None (Some WrongHeader))
-of_header rank logs book [] r n h = rw h.begun (first (eqb r.0 rank) (eqb n logs))
+pub of_header : (rank logs : ℕ) (book : BookState) (events : List Event) (version : Version) (r : Rank) (n : ℕ) → Represents book events
+    → reason_of rank logs events (Header version r n) ≡ cond book.begun (Some BadHeader) (cond (eqb r.0 rank && eqb n logs) None (Some WrongHeader))
+of_header rank logs book [] version r n h = rw h.begun (first (eqb r.0 rank) (eqb n logs))
   where
     first : (same_rank same_logs : Bool)
-        → cond (not same_rank || not same_logs) (Some WrongHeader) None ≡ cond (same_rank && same_logs) None (Some WrongHeader)
+        → option_or (cond (not same_rank || not same_logs) (Some WrongHeader) None) None ≡ cond (same_rank && same_logs) None (Some WrongHeader)
     first true true = refl
     first true false = refl
     first false b = refl
-of_header rank logs book (entry ∷ entries) r n h = rw h.begun refl
+of_header rank logs book (first ∷ events) version r n h = rw h.begun refl
 
-pub window_used : (events : List Event) (name : List ℕ) → had_window events name ≡ is_some (window_in events name)
-window_used events name = by (had_window events name)
-  where
-    by : (b : Bool) → b ≡ is_some (cond b (Some (not (list_any (frees name) events))) None)
-    by true = refl
-    by false = refl
+pub of_end : (rank logs : ℕ) (book : BookState) (events : List Event) → Represents book events
+    → reason_of rank logs events End ≡ option_or (later book) (cond (nat_lt book.requests.completed book.requests.made) (Some RequestPending) None)
+of_end rank logs book events h = rw (of_place rank logs book events End h refl refl, h.completed, h.made) refl
 
-pub window_there : (events : List Event) (name : List ℕ) → has_window events name ≡ unwrap_or (window_in events name) false
-window_there events name = by (had_window events name) (not (list_any (frees name) events))
-  where
-    by : (b there : Bool) → (b && there) ≡ unwrap_or (cond b (Some there) None) false
-    by true there = refl
-    by false there = refl
+pub of_call : (rank logs : ℕ) (book : BookState) (events : List Event) (event : Event) (it : Attributes) → Represents book events → is_header event ≡ false
+    → is_of_another_log rank logs event ≡ false → is_end event ≡ false → it ≡ attributes_of event
+    → option_or (later book) (option_or (name_reason events it) (use_reason rank logs events it false)) ≡ reason_of rank logs events event
+of_call rank logs book events event it h plain own goes_on same = rw (of_place rank logs book events event h plain own, goes_on, same) refl
 
--- a rank at the other end, by its number
-pub far_peer : (logs : ℕ) (peer : Option Rank) → option_map_or (λ rank. is_far logs rank.0) peer false ≡ option_map_or (is_far logs) (option_map (λ rank. rank.0) peer) false
-far_peer logs None = refl
-far_peer logs (Some rank) = refl
+-- an event that says nothing of names and ranks was taken
+pub IsTaken_plain : (old new : BookState) (event : Event) → attributes_of event ≡ no_attributes → new ≡ record old { begun = true; ended = new.ended }
+    → new.ended ≡ (old.ended || is_end event) → IsTaken old new event
+IsTaken_plain old new event none same ended = record {
+  rank = ap (λ (b : BookState). b.rank) same;
+  logs = ap (λ (b : BookState). b.logs) same;
+  begun = ap (λ (b : BookState). b.begun) same;
+  ended = ended;
+  comms = λ name. rw none (ap (λ (b : BookState). lookup (is_same name) b.comms) same);
+  windows = λ name. rw none (ap (λ (b : BookState). lookup (is_same name) b.windows) same);
+  requests = record {
+    pending = λ name. rw none (ap (λ (b : BookState). lookup (is_same name) b.requests.pending) same);
+    made = rw none (ap (λ (b : BookState). b.requests.made) same ∙ omega arith);
+    completed = rw none (ap (λ (b : BookState). b.requests.completed) same ∙ omega arith);
+  };
+}
 
--- tests that are the same find the same reason
-pub same_tests : {lacks lacks' gone gone' declared declared' created created' member member' other other' left left' beyond beyond' : Bool}
-    → lacks ≡ lacks' → gone ≡ gone' → declared ≡ declared' → created ≡ created' → member ≡ member' → other ≡ other' → left ≡ left' → beyond ≡ beyond'
-    → first_that_holds ((UnknownComm, lacks) ∷ (UnknownWindow, gone) ∷ (NameInUse, declared || created) ∷ (RankTooLarge, member || other) ∷ (NotInGroup, left) ∷ (OutOfSpace, beyond) ∷ [])
-    ≡ first_that_holds ((UnknownComm, lacks') ∷ (UnknownWindow, gone') ∷ (NameInUse, declared' || created') ∷ (RankTooLarge, member' || other') ∷ (NotInGroup, left') ∷ (OutOfSpace, beyond') ∷ [])
-same_tests a b c d e f g h = rw (a, b, c, d, e, f, g, h) refl
+pub IsJudged_good : (old new : BookState) (event : Event) → ((events : List Event) → Represents old events → None ≡ reason_of old.rank old.logs events event)
+    → IsTaken old new event → IsJudged old new event None
+IsJudged_good old new event good taken = record {
+  judged = good;
+  taken = λ none events h. Represents_taken old new events event taken h;
+  rank = taken.rank;
+  logs = taken.logs;
+}
+
+pub IsJudged_bad : (old : BookState) (event : Event) (reason : FormReason) → ((events : List Event) → Represents old events → Some reason ≡ reason_of old.rank old.logs events event)
+    → IsJudged old old event (Some reason)
+IsJudged_bad old event reason bad = record {
+  judged = bad;
+  taken = λ none. cc;
+  rank = refl;
+  logs = refl;
+}

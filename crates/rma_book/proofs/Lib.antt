@@ -1,4 +1,6 @@
-pub mod JudgingLemmas
 pub mod StateLemmas
+pub mod JudgingLemmas
+pub mod EntryLemmas
+pub mod WholeLemmas
 pub mod ReadingLemmas
 pub mod OutcomeLemmas

@@ -4,7 +4,7 @@ use Rattle.std.proofs.lemmas.List.{append-nil}
 use Rattle.std.proofs.lemmas.Bool.{cases_lt, false≢true}
 use Rattle.rma_base.specs.declared.form_reason.FormReason.{FormReason}
 use Rattle.rma_base.specs.declared.line.LineNo.{LineNo}
-use Rattle.rma_call.specs.declared.call.RankCalls.{RankCalls}
+use Rattle.rma_call.specs.Call.{RankCalls}
 use Rattle.rma_book.specs.Calls.{calls_of, end_line}
 use Rattle.rma_base.specs.declared.form_reason.FormReason.TheVariants.{MissingEnd}
 use Rattle.rma_book.proofs.ReadingLemmas.{AreGood_more, IsFirstBad_more, IsFirstBad_now, more}

@@ -1,26 +1,32 @@
 -- A reader and one line more.
-use Rattle.std.proofs.Common.{◌≡◌, ℕ, zero, suc, ◌+◌, ◌<◌, ◌≤◌, List, [], ◌∷◌, ◌++◌, length, take, slice_get, Option, Some, None, Result, Ok, Err, true, false, is_some, refl, sym, ap, subst, ◌∙◌, ◌⊎◌, inl, inr, ⊎_elim, arith}
+use Rattle.std.proofs.Common.{◌≡◌, ℕ, zero, suc, ◌+◌, ◌<◌, ◌≤◌, List, [], ◌∷◌, ◌++◌, length, take, slice_get, Option, Some, None, IsSome, Result, Ok, Err, true, false, is_some, cond, refl, sym, ap, subst, ◌∙◌, ◌⊎◌, inl, inr, ⊎_elim, arith}
+use Rattle.std.specs.Prelude.{option_to_list, unwrap_or}
+use Rattle.std.specs.Option.{option_or}
 use Rattle.std.specs.Result.{OnOk}
-use Rattle.std.proofs.lemmas.List.{append_assoc, append-nil, length-take, take_more}
+use Rattle.std.proofs.lemmas.List.{append-nil, length-take, take_more}
 use Rattle.std.proofs.lemmas.Bool.{false≢true}
 use Rattle.std.proofs.Math.Seq.{take-length}
 use Rattle.std.proofs.lemmas.Option.{slice_get_within, get_or_from_slice_get}
 use Rattle.rma_base.specs.declared.form_reason.FormReason.{FormReason}
-use Rattle.rma_parse.specs.declared.event.Stated.{Stated}
-use Rattle.rma_book.specs.Logs.{Checked, AreGood, IsFirstBad, entries, entries_from, entry_of, says, line_reason, judged}
-use Rattle.rma_book.specs.declared.fault.FormFault.{FormFault}
 use Rattle.rma_base.specs.declared.line.LineNo.{LineNo}
-use Rattle.rma_book.specs.Calls.{Entry, events_of}
-use Rattle.rma_book.specs.Judging.{reason_of}
 use Rattle.rma_lex.specs.Checked.{checked_lines}
 use Rattle.rma_lex.specs.Line.{lines}
 use Rattle.rma_lex.specs.Cutting.{Cutting}
 use Rattle.rma_lex.specs.Cutting as cutting
 use Rattle.rma_lex.proofs.CheckLemmas.{length_checked_lines}
 use Rattle.rma_lex.proofs.CutterLemmas.{handed_stay}
-use Rattle.rma_book.specs.inside.Reading.{HasTaken, HasRead, IsBehind, IsReading}
+use Rattle.rma_parse.specs.declared.event.Event.{Event}
+use Rattle.rma_parse.specs.declared.event.Stated.{Stated}
+use Rattle.rma_reader.specs.Reading.{Reading, Grows}
+use Rattle.rma_book.specs.Naming.{is_end, named_version}
+use Rattle.rma_book.specs.Judging.{reason_of}
+use Rattle.rma_book.specs.Calls.{Entry, call_of, calls_of, end_line, events_of, version_of}
+use Rattle.rma_book.specs.Logs.{Checked, AreGood, IsFirstBad, IsFirstFault, entries, entries_behind, entry_of, says, says_after, line_reason, judged}
+use Rattle.rma_book.specs.declared.fault.FormFault.{FormFault}
 use Rattle.rma_book.specs.declared.reader.Reader.{Reader}
-use Rattle.rma_book.specs.inside.BookState.{BookState, Represents}
+use Rattle.rma_book.specs.inside.BookState.{Represents, IsJudged}
+use Rattle.rma_book.specs.inside.Reading.{HasTaken, HasStopped, HasGood, HasRead, IsBehind, IsReading, Takes, Refuses, GoesOn, Reads}
+use Rattle.rma_book.proofs.EntryLemmas.{events_of_more, version_of_more, calls_of_more, end_line_more}
 
 -- ---- lists with one item more
 
@@ -44,15 +50,23 @@ take_front (suc k) (first ∷ lines) line below = ap (λ rest. first ∷ rest) (
 take_whole : (lines : List Checked) (line : Checked) → take (length lines) (more lines line) ≡ lines
 take_whole lines line = take_front (length lines) lines line (omega arith) ∙ take-length lines
 
-entries_from_more : (number : ℕ) (lines : List Checked) (line : Checked) → entries_from number (more lines line) ≡ entries_from number lines ++ entry_of (number + length lines) (says line)
-entries_from_more number [] line = append-nil (entry_of number (says line)) ∙ ap (λ n. entry_of n (says line)) (omega arith)
-entries_from_more number (first ∷ lines) line =
-    ap (λ rest. entry_of number (says first) ++ rest) (entries_from_more (number + 1) lines line)
-    ∙ sym (append_assoc (entry_of number (says first)) (entries_from (number + 1) lines) (entry_of (number + 1 + length lines) (says line)))
-    ∙ ap (λ n. (entry_of number (says first) ++ entries_from (number + 1) lines) ++ entry_of n (says line)) (omega arith)
+entries_behind_more : (before : List Entry) (number : ℕ) (lines : List Checked) (line : Checked)
+    → entries_behind before number (more lines line)
+    ≡ entries_behind before number lines ++ entry_of (number + length lines) (says (version_of (entries_behind before number lines)) line)
+entries_behind_more before number [] line = ap (λ n. before ++ entry_of n (says (version_of before) line)) (omega arith)
+entries_behind_more before number (first ∷ lines) line =
+    let next = before ++ entry_of number (says (version_of before) first) in
+    let all = entries_behind next (number + 1) lines in
+    entries_behind_more next (number + 1) lines line ∙ ap (λ n. all ++ entry_of n (says (version_of all) line)) (omega arith)
 
-entries_more_lem : (lines : List Checked) (line : Checked) → entries (more lines line) ≡ entries lines ++ entry_of (length lines + 1) (says line)
-entries_more_lem lines line = entries_from_more 1 lines line ∙ ap (λ n. entries lines ++ entry_of n (says line)) (omega arith)
+pub entries_more : (lines : List Checked) (line : Checked) → entries (more lines line) ≡ entries lines ++ entry_of (length lines + 1) (says_after lines line)
+entries_more lines line = entries_behind_more [] 1 lines line ∙ ap (λ n. entries lines ++ entry_of n (says_after lines line)) (omega arith)
+
+-- a line that states something
+pub entries_stated : (lines : List Checked) (line : Checked) (at : LineNo) (stated : Stated) → says_after lines line ≡ Ok (Some stated) → at.0 ≡ length lines + 1
+    → entries (more lines line) ≡ entries lines ++ record { line = at; stated = stated } ∷ []
+entries_stated lines line at stated said number =
+    entries_more lines line ∙ ap (λ it. entries lines ++ entry_of (length lines + 1) it) said ∙ ap (λ n. entries lines ++ entry_of n (Ok (Some stated))) (sym number)
 
 -- ---- a line more behind a bad one
 
@@ -104,53 +118,162 @@ AreGood_more rank logs lines line good last k found h = ⊎_elim
     ∙ ap (λ it. line_reason rank logs lines it) here.1 ∙ last)
     (last_or_front k lines line found h)
 
--- a line that says nothing
-pub HasTaken_nothing : (rank logs : ℕ) (lines : List Checked) (line : Checked) (book : BookState) → HasTaken rank logs lines book → says line ≡ Ok None → HasTaken rank logs (more lines line) book
-HasTaken_nothing rank logs lines line book h said = record {
-  good = AreGood_more rank logs lines line h.good (ap (λ it. judged rank logs (entries lines) it) said);
-  represents = subst (λ es. Represents book es)
-      (sym (entries_more_lem lines line ∙ ap (λ it. entries lines ++ entry_of (length lines + 1) it) said ∙ append-nil (entries lines))) h.represents;
+-- what was taken is taken still, where the lines have the same entries
+HasTaken_same : (rank logs : ℕ) (lines others : List Checked) (reader : Reader) → HasTaken rank logs lines reader → AreGood rank logs others → entries lines ≡ entries others
+    → HasTaken rank logs others reader
+HasTaken_same rank logs lines others reader h good same = record {
+  good = good;
+  represents = subst (λ es. Represents reader.book (events_of es)) same h.represents;
   of_rank = h.of_rank;
   among = h.among;
+  version = h.version ∙ ap version_of same;
+  calls = h.calls ∙ ap calls_of same;
+  end = h.end ∙ ap end_line same;
+}
+
+-- a line that says nothing
+pub HasTaken_nothing : (rank logs : ℕ) (lines : List Checked) (line : Checked) (reader : Reader) → HasTaken rank logs lines reader → says_after lines line ≡ Ok None
+    → HasTaken rank logs (more lines line) reader
+HasTaken_nothing rank logs lines line reader h said =
+    HasTaken_same rank logs lines (more lines line) reader h (AreGood_more rank logs lines line h.good (ap (λ it. judged rank logs (entries lines) it) said))
+    (sym (entries_more lines line ∙ ap (λ it. entries lines ++ entry_of (length lines + 1) it) said ∙ append-nil (entries lines)))
+
+-- the tables of the reader of lines may grow
+pub HasTaken_grown : (rank logs : ℕ) (lines : List Checked) (old : Reader) (grown : Reading) → HasTaken rank logs lines old → Grows old.lines grown
+    → HasTaken rank logs lines (record old { lines = grown })
+HasTaken_grown rank logs lines old grown h grows = record {
+  good = h.good;
+  represents = h.represents;
+  of_rank = h.of_rank;
+  among = h.among;
+  version = grows.version ∙ h.version;
+  calls = grows.calls ∙ h.calls;
+  end = h.end;
 }
 
 -- the reason that a book gives is that of the definition
-reason_is : (rank logs : ℕ) (lines : List Checked) (line : Checked) (book : BookState) (stated : Stated) (reason : Option FormReason) → HasTaken rank logs lines book
-    → says line ≡ Ok (Some stated) → ((es : List Entry) → Represents book es → reason ≡ reason_of book.rank book.logs (events_of es) stated.event) → line_reason rank logs lines line ≡ reason
-reason_is rank logs lines line book stated reason h said given =
+reason_is : (rank logs : ℕ) (lines : List Checked) (line : Checked) (old new : Reader) (stated : Stated) (reason : Option FormReason) → HasTaken rank logs lines old
+    → says_after lines line ≡ Ok (Some stated) → IsJudged old.book new.book stated.event reason → line_reason rank logs lines line ≡ reason
+reason_is rank logs lines line old new stated reason h said given =
+    let events = events_of (entries lines) in
     ap (λ it. judged rank logs (entries lines) it) said
-    ∙ sym (given (entries lines) h.represents ∙ ap (λ r. reason_of r book.logs (events_of (entries lines)) stated.event) h.of_rank ∙ ap (λ n. reason_of rank n (events_of (entries lines)) stated.event) h.among)
+    ∙ sym (given.judged events h.represents ∙ ap (λ r. reason_of r old.book.logs events stated.event) h.of_rank ∙ ap (λ n. reason_of rank n events stated.event) h.among)
 
-pub judge_bad : (rank logs : ℕ) (lines : List Checked) (line : Checked) (book : BookState) (at : LineNo) (stated : Stated) (reason : FormReason) → HasTaken rank logs lines book
-    → says line ≡ Ok (Some stated) → at.0 ≡ length lines + 1 → ((es : List Entry) → Represents book es → Some reason ≡ reason_of book.rank book.logs (events_of es) stated.event)
-    → IsFirstBad rank logs (more lines line) (record { line = at; reason = reason })
-judge_bad rank logs lines line book at stated reason h said number given =
-    IsFirstBad_now rank logs lines line (record { line = at; reason = reason }) h.good (reason_is rank logs lines line book stated (Some reason) h said given) number
-
-pub judge_good : (rank logs : ℕ) (lines : List Checked) (line : Checked) (old new : BookState) (at : LineNo) (stated : Stated) → HasTaken rank logs lines old
-    → says line ≡ Ok (Some stated) → at.0 ≡ length lines + 1 → ((es : List Entry) → Represents old es → None ≡ reason_of old.rank old.logs (events_of es) stated.event)
-    → ((es : List Entry) → Represents old es → Represents new (es ++ record { line = at; stated = stated } ∷ []))
-    → new.rank ≡ old.rank → new.logs ≡ old.logs → HasTaken rank logs (more lines line) new
-judge_good rank logs lines line old new at stated h said number given taken same_rank same_logs = record {
-  good = AreGood_more rank logs lines line h.good (reason_is rank logs lines line old stated None h said given);
-  represents = subst (λ es. Represents new es)
-      (sym (entries_more_lem lines line ∙ ap (λ it. entries lines ++ entry_of (length lines + 1) it) said ∙ ap (λ n. entries lines ++ entry_of n (Ok (Some stated))) (sym number)))
-      (taken (entries lines) h.represents);
-  of_rank = same_rank ∙ h.of_rank;
-  among = same_logs ∙ h.among;
+-- the reader stops at the first line that is bad
+HasStopped_now : (rank logs : ℕ) (lines : List Checked) (line : Checked) (old new : Reader) (fault : FormFault) → HasTaken rank logs lines old
+    → line_reason rank logs lines line ≡ Some fault.reason → fault.line.0 ≡ length lines + 1 → new.lines.calls.calls ≡ old.lines.calls.calls → new.end ≡ old.end
+    → HasStopped rank logs (more lines line) new fault
+unfolding IsFirstBad_now
+HasStopped_now rank logs lines line old new fault h bad number calls end = record {
+  bad = IsFirstBad_now rank logs lines line fault h.good bad number;
+  calls = calls ∙ h.calls ∙ ap (λ before. calls_of (entries before)) (sym (take_whole lines line));
+  end = end ∙ h.end ∙ ap (λ before. end_line (entries before)) (sym (take_whole lines line));
 }
 
+pub HasRead_refused : (rank logs : ℕ) (lines : List Checked) (line : Checked) (old new : Reader) (fault : FormFault) → HasTaken rank logs lines old
+    → line_reason rank logs lines line ≡ Some fault.reason → fault.line.0 ≡ length lines + 1 → new ≡ record old { fault = Some fault } → HasRead rank logs (more lines line) new
+HasRead_refused rank logs lines line old new fault h bad number same =
+    subst (λ reader. HasRead rank logs (more lines line) reader) (sym same) (HasStopped_now rank logs lines line old (record old { fault = Some fault }) fault h bad number refl refl)
+
+-- one good line more was taken
+HasTaken_more : (rank logs : ℕ) (lines : List Checked) (line : Checked) (old new : Reader) (at : LineNo) (stated : Stated) → HasTaken rank logs lines old
+    → says_after lines line ≡ Ok (Some stated) → at.0 ≡ length lines + 1 → Takes old new at stated → HasTaken rank logs (more lines line) new
+HasTaken_more rank logs lines line old new at stated h said number takes =
+    let entry : Entry = record { line = at; stated = stated } in
+    let es = entries lines in
+    let all : es ++ entry ∷ [] ≡ entries (more lines line) = sym (entries_stated lines line at stated said number) in
+    record {
+      good = AreGood_more rank logs lines line h.good (reason_is rank logs lines line old new stated None h said takes.judged);
+      represents = subst (λ them. Represents new.book (events_of them)) all
+          (subst (λ events. Represents new.book events) (sym (events_of_more es entry)) (takes.judged.taken refl (events_of es) h.represents));
+      of_rank = takes.judged.rank ∙ h.of_rank;
+      among = takes.judged.logs ∙ h.among;
+      version = takes.version ∙ ap (λ v. unwrap_or (named_version stated.event) v) h.version ∙ sym (version_of_more es entry) ∙ ap version_of all;
+      calls = takes.calls (events_of es) h.represents ∙ ap (λ cs. cs ++ option_to_list (call_of (events_of es) entry)) h.calls ∙ sym (calls_of_more es entry) ∙ ap calls_of all;
+      end = takes.end ∙ ap (λ o. option_or (cond (is_end stated.event) (Some at) None) o) h.end ∙ sym (end_line_more es entry) ∙ ap end_line all;
+    }
+
+-- one line more was taken or refused
+pub HasRead_more : (rank logs : ℕ) (lines : List Checked) (line : Checked) (old new : Reader) (at : LineNo) (stated : Stated) → HasTaken rank logs lines old
+    → says_after lines line ≡ Ok (Some stated) → at.0 ≡ length lines + 1 → Reads old new at stated → HasRead rank logs (more lines line) new
+HasRead_more rank logs lines line old new at stated h said number reads = step new.fault reads
+  where
+    step : (fault : Option FormFault) → GoesOn old new at stated fault → IsBehind rank logs (more lines line) new fault
+    step None takes = HasTaken_more rank logs lines line old new at stated h said number takes
+    step (Some fault) refuses =
+        HasStopped_now rank logs lines line old new fault h (reason_is rank logs lines line old new stated (Some fault.reason) h said refuses.judged)
+        (ap (λ (l : LineNo). l.0) refuses.line ∙ number) refuses.calls refuses.end
+
+pub Reads_taken : (old new : Reader) (at : LineNo) (stated : Stated) → Takes old new at stated → new.fault ≡ None → Reads old new at stated
+Reads_taken old new at stated takes none = subst (λ fault. GoesOn old new at stated fault) (sym none) takes
+
+pub Reads_refused : (old new : Reader) (at : LineNo) (stated : Stated) (fault : FormFault) → Refuses old new at stated fault → new.fault ≡ Some fault → Reads old new at stated
+Reads_refused old new at stated fault refuses some = subst (λ found. GoesOn old new at stated found) (sym some) refuses
+
+-- whatever the site is
+pub Reads_stated : (old new : Reader) (at : LineNo) (event : Event) (stated : Stated) → ((site : Option (List ℕ)) → Reads old new at (record { event = event; site = site }))
+    → stated.event ≡ event → Reads old new at stated
+Reads_stated old new at event stated reads same = subst (λ e. Reads old new at (record { event = e; site = stated.site })) (sym same) (reads stated.site)
+
 -- a reader that found no bad line has taken all
-pub HasTaken_read : (rank logs : ℕ) (lines : List Checked) (reader : Reader) → HasRead rank logs lines reader → reader.fault ≡ None → HasTaken rank logs lines reader.book
-HasTaken_read rank logs lines reader h none = subst (λ fault. IsBehind rank logs lines reader.book fault) none h
+pub HasTaken_read : (rank logs : ℕ) (lines : List Checked) (reader : Reader) → HasRead rank logs lines reader → reader.fault ≡ None → HasTaken rank logs lines reader
+HasTaken_read rank logs lines reader h none = subst (λ fault. IsBehind rank logs lines reader fault) none h
+
+pub HasRead_taken : (rank logs : ℕ) (lines : List Checked) (reader : Reader) → HasTaken rank logs lines reader → reader.fault ≡ None → HasRead rank logs lines reader
+HasRead_taken rank logs lines reader h none = subst (λ fault. IsBehind rank logs lines reader fault) (sym none) h
 
 -- behind a bad line nothing changes
 pub HasRead_bad : (rank logs : ℕ) (lines : List Checked) (line : Checked) (reader : Reader) → HasRead rank logs lines reader → is_some reader.fault ≡ true → HasRead rank logs (more lines line) reader
-HasRead_bad rank logs lines line reader h bad = step reader.fault refl h bad
+unfolding IsFirstBad_more
+HasRead_bad rank logs lines line reader h bad = step reader.fault h bad
   where
-    step : (fault : Option FormFault) → reader.fault ≡ fault → IsBehind rank logs lines reader.book fault → is_some fault ≡ true → IsBehind rank logs (more lines line) reader.book reader.fault
-    step None e h bad = absurd (false≢true bad)
-    step (Some fault) e h bad = subst (λ f. IsBehind rank logs (more lines line) reader.book f) (sym e) (IsFirstBad_more rank logs lines line fault h)
+    step : (fault : Option FormFault) → IsBehind rank logs lines reader fault → is_some fault ≡ true → IsBehind rank logs (more lines line) reader fault
+    step None h bad = absurd (false≢true bad)
+    step (Some fault) h bad =
+        let below = slice_get_within lines h.bad.place h.bad.line h.bad.there in
+        let front = sym (take_front h.bad.place lines line (omega (arith, below))) in
+        record {
+          bad = IsFirstBad_more rank logs lines line fault h.bad;
+          calls = h.calls ∙ ap (λ before. calls_of (entries before)) front;
+          end = h.end ∙ ap (λ before. end_line (entries before)) front;
+        }
+
+-- ---- what was read so far
+
+pub first_fault : (rank logs : ℕ) (lines : List Checked) (reader : Reader) → HasRead rank logs lines reader → IsFirstFault rank logs lines reader.fault
+first_fault rank logs lines reader h = step reader.fault h
+  where
+    step : (fault : Option FormFault) → IsBehind rank logs lines reader fault → IsFirstFault rank logs lines fault
+    step None h = h.good
+    step (Some fault) h = h.bad
+
+pub HasGood_read : (rank logs : ℕ) (lines : List Checked) (reader : Reader) → HasRead rank logs lines reader → HasGood rank logs lines reader
+HasGood_read rank logs lines reader h = step reader.fault h
+  where
+    step : (fault : Option FormFault) → IsBehind rank logs lines reader fault → HasGood rank logs lines reader
+    step None h =
+        let all = sym (take-length lines) in
+        record {
+          count = length lines;
+          until = record {
+            good = subst (λ them. AreGood rank logs them) all h.good;
+            bad = λ line found. let below = slice_get_within lines (length lines) line found in absurd (omega (arith, below));
+          };
+          calls = h.calls ∙ ap (λ them. calls_of (entries them)) all;
+          end = h.end ∙ ap (λ them. end_line (entries them)) all;
+        }
+    step (Some fault) h = record {
+      count = h.bad.place;
+      until = record {
+        good = h.bad.good;
+        bad = λ line found.
+            let same : Some h.bad.line ≡ Some line = sym h.bad.there ∙ found in
+            let line_is : h.bad.line ≡ line = cc in
+            subst IsSome (sym (ap (λ it. line_reason rank logs (take h.bad.place lines) it) (sym line_is) ∙ h.bad.bad)) refl;
+      };
+      calls = h.calls;
+      end = h.end;
+    }
 
 -- ---- answers
 

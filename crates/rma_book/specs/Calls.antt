@@ -1,35 +1,51 @@
 -- The calls that the lines of a log record.
-use Rattle.std.specs.Prelude.{ℕ, List, map, filter_map, Option, Some, None, if◌then◌else◌, [], ◌∷◌}
+use Rattle.std.specs.Prelude.{ℕ, List, [], ◌∷◌, ◌++◌, map, Option, Some, None, option_to_list, unwrap_or, if◌then◌else◌}
 use Rattle.rma_base.specs.declared.line.LineNo.{LineNo}
+use Rattle.rma_base.specs.declared.version.Version.{Version}
+use Rattle.rma_base.specs.declared.version.Version.TheVariants.{One}
 use Rattle.rma_parse.specs.declared.event.Event.{Event}
 use Rattle.rma_parse.specs.declared.event.Event.TheVariants as event
 use Rattle.rma_parse.specs.declared.event.Stated.{Stated}
-use Rattle.rma_book.specs.Naming.{is_end}
-use Rattle.rma_call.specs.declared.call.Call.{Call}
+use Rattle.rma_book.specs.Latest.{latest}
+use Rattle.rma_book.specs.Naming.{attributes_of, is_end, named_version}
+use Rattle.rma_book.specs.Names.{request_number}
+use Rattle.rma_call.specs.Call.{Call}
 
 -- a line that states something, with its number
 pub record Entry : Type 0 where
   pub line : LineNo
   pub stated : Stated
 
+-- the event of a line
+abbrev pub event_of : Entry → Event
+event_of entry = entry.stated.event
+
 -- the events of some lines
 abbrev pub events_of : List Entry → List Event
-events_of entries = map (λ entry. entry.stated.event) entries
+events_of entries = map event_of entries
 
 -- the line of the end, where one of some lines is the end
 abbrev pub end_line : List Entry → Option LineNo
-end_line [] = None
-end_line (entry ∷ entries) = if is_end entry.stated.event then Some entry.line else end_line entries
+end_line entries = latest (λ entry. if is_end (event_of entry) then Some entry.line else None) entries
 
--- the call of a line with this site and this event, where it records one
-abbrev pub call_with : LineNo → Option (List ℕ) → Event → Option Call
-call_with line site (event.Call what) = Some (record { line = line; site = site; what = what })
-call_with line site _ = None
+-- the version of the format that some lines have: the one that their header names, and the first before it
+abbrev pub version_of : List Entry → Version
+version_of entries = unwrap_or (latest (λ entry. named_version (event_of entry)) entries) One
 
--- the call of a line, where it records one
-abbrev pub call_of : Entry → Option Call
-call_of entry = call_with entry.line entry.stated.site entry.stated.event
+-- the call of a line with this site, this event, and a request of this number
+abbrev pub call_with : LineNo → Option (List ℕ) → Event → Option ℕ → Option Call
+call_with line site (event.Call what name) request = Some (record { line = line; site = site; what = what; request = request })
+call_with line site _ request = None
+
+-- the call of a line behind these events, where it records one
+abbrev pub call_of : List Event → Entry → Option Call
+call_of before entry = call_with entry.line entry.stated.site (event_of entry) (request_number before (attributes_of (event_of entry)))
+
+-- the calls of some lines behind these events, in their order
+abbrev pub calls_behind : List Event → List Entry → List Call
+calls_behind before [] = []
+calls_behind before (entry ∷ entries) = option_to_list (call_of before entry) ++ calls_behind (before ++ event_of entry ∷ []) entries
 
 -- the calls of some lines, in their order
 abbrev pub calls_of : List Entry → List Call
-calls_of entries = filter_map call_of entries
+calls_of entries = calls_behind [] entries

@@ -1,6 +1,6 @@
--- What the outcome of a whole log.
+-- The outcome of a whole log.
 use Rattle.std.specs.Prelude.{◌≡◌, ℕ, List, Some, None}
-use Rattle.rma_call.specs.declared.call.RankCalls.{RankCalls}
+use Rattle.rma_call.specs.Call.{RankCalls}
 use Rattle.rma_book.specs.declared.fault.BookEnd.{BookEnd}
 use Rattle.rma_book.specs.declared.fault.BookEnd.TheVariants.{Calls, Fault}
 use Rattle.rma_book.specs.Calls.{calls_of, end_line}

@@ -1,14 +1,17 @@
 -- Why an event is bad among the events before it (docs/FORMAT.md).
-use Rattle.std.specs.Prelude.{ℕ, ◌+◌, ◌==◌, Bool, false, not, ◌||◌, nat_lt, List, [], ◌∷◌, Option, Some, None, if◌then◌else◌}
+use Rattle.std.specs.Prelude.{ℕ, ◌+◌, ◌==◌, Bool, true, false, not, ◌&&◌, ◌||◌, nat_lt, List, [], ◌∷◌, Option, Some, None, is_some, is_none, if◌then◌else◌}
 use Rattle.std.specs.Option.{option_or, option_map_or}
 use Rattle.std.specs.List.{list_any}
 use Rattle.rma_base.specs.Limits.{address_limit}
 use Rattle.rma_base.specs.declared.form_reason.FormReason.{FormReason}
-use Rattle.rma_base.specs.declared.form_reason.FormReason.TheVariants.{BadHeader, WrongHeader, AfterEnd, UnknownComm, UnknownWindow, NameInUse, RankTooLarge, NotInGroup, OutOfSpace}
+use Rattle.rma_base.specs.declared.form_reason.FormReason.TheVariants.{BadHeader, WrongHeader, AfterEnd, UnknownComm, UnknownWindow, UnknownRequest, NameInUse, RankTooLarge, NotInGroup, WrongWait, OutOfSpace, RequestPending, RootNotMember, NotDynamic}
 use Rattle.rma_base.specs.RankSet.{has_number}
 use Rattle.rma_parse.specs.declared.event.Event.{Event}
 use Rattle.rma_parse.specs.declared.event.Event.TheVariants.{Header}
-use Rattle.rma_book.specs.Naming.{is_header, is_end, needed_comm, declared_comm, declared_members, peer, created_window, freed_window, claimed_memory, has_comm, had_window, has_window}
+use Rattle.rma_book.specs.Naming.{Attributes, attributes_of, is_header, is_end}
+use Rattle.rma_book.specs.Names.{has_comm, has_member, window_state, had_window, is_there, is_fixed, pending, has_pending}
+
+-- ---- where an event stands
 
 -- the first event is no header, or a later one is
 abbrev pub misplaces_header : List Event → Event → Bool
@@ -17,37 +20,70 @@ misplaces_header (first ∷ before) event = is_header event
 
 -- a header with another rank, or with another number of logs
 abbrev pub is_of_another_log : ℕ → ℕ → Event → Bool
-is_of_another_log rank logs (Header r n) = not (r.0 == rank) || not (n == logs)
+is_of_another_log rank logs (Header version r n) = not (r.0 == rank) || not (n == logs)
 is_of_another_log rank logs _ = false
 
+-- ---- the names of an event
+
 -- the event needs a communicator that is not there
-abbrev pub lacks_comm : List Event → Event → Bool
-lacks_comm before event = option_map_or (λ comm. not (has_comm before comm)) (needed_comm event) false
+abbrev pub lacks_comm : List Event → Attributes → Bool
+lacks_comm before it = option_map_or (λ comm. not (has_comm before comm)) it.needed_comm false
 
--- the event frees a window that is not there
-abbrev pub lacks_window : List Event → Event → Bool
-lacks_window before event = option_map_or (λ window. not (has_window before window)) (freed_window event) false
+-- the event needs a window that is not there
+abbrev pub lacks_window : List Event → Attributes → Bool
+lacks_window before it = option_map_or (λ window. not (is_there (window_state before window))) it.needed_window false
 
--- the event gives a name that is in use: a communicator's, or a window's, which stays in use for ever
-abbrev pub takes_used_name : List Event → Event → Bool
-takes_used_name before event =
-    option_map_or (has_comm before) (declared_comm event) false || option_map_or (had_window before) (created_window event) false
+-- the event waits for a request that is not pending
+abbrev pub lacks_request : List Event → Attributes → Bool
+lacks_request before it = option_map_or (λ wait. is_none (pending before wait.0)) it.awaited false
+
+-- the event gives a name that is in use: a communicator's, a window's, which stays in use for ever, or a request's that is
+-- pending
+abbrev pub takes_used_name : List Event → Attributes → Bool
+takes_used_name before it =
+    option_map_or (λ declared. has_comm before declared.0) it.declared false
+    || (option_map_or (had_window before) it.created false || option_map_or (λ made. is_some (pending before made.0)) it.made false)
+
+-- ---- what an event does
 
 -- no log is that of this rank
 abbrev pub is_far : ℕ → ℕ → Bool
 is_far logs rank = not (nat_lt rank logs)
 
 -- the event names a rank that no log has
-abbrev pub has_far_rank : ℕ → Event → Bool
-has_far_rank logs event = option_map_or (list_any (is_far logs)) (declared_members event) false || option_map_or (is_far logs) (peer event) false
+abbrev pub has_far_rank : ℕ → Attributes → Bool
+has_far_rank logs it = option_map_or (list_any (is_far logs)) it.group false || option_map_or (is_far logs) it.rank false
 
 -- a communicator without the rank that declares it
-abbrev pub leaves_out : ℕ → Event → Bool
-leaves_out rank event = option_map_or (λ ranks. not (has_number rank ranks)) (declared_members event) false
+abbrev pub leaves_out : ℕ → Attributes → Bool
+leaves_out rank it = option_map_or (λ declared. not (has_number rank declared.1)) it.declared false
 
--- a window that does not end in the space of addresses
-abbrev pub leaves_space : Event → Bool
-leaves_space event = option_map_or (λ memory. nat_lt address_limit (memory.0 + memory.1)) (claimed_memory event) false
+-- one of the two is so, and the other is not
+abbrev pub differ : Bool → Bool → Bool
+differ true other = not other
+differ false other = other
+
+-- the event waits for a receive, and no message came, or for another request, and one came
+abbrev pub waits_wrongly : List Event → Attributes → Bool
+waits_wrongly before it = option_map_or (λ wait. option_map_or (λ request. differ request.receives wait.1) (pending before wait.0) false) it.awaited false
+
+-- memory that does not end in the space of addresses
+abbrev pub leaves_space : Attributes → Bool
+leaves_space it = option_map_or (λ memory. nat_lt address_limit (memory.0 + memory.1)) it.memory false
+
+-- the log ends while a request is pending
+abbrev pub ends_early : List Event → Event → Bool
+ends_early before event = is_end event && has_pending before
+
+-- the root of a collective is no member of its communicator
+abbrev pub misses_root : ℕ → List Event → Attributes → Bool
+misses_root logs before it = option_map_or (λ root. not (has_member logs before root.0 root.1)) it.root false
+
+-- memory is attached to a window that has its own, or detached from one
+abbrev pub attaches_wrongly : List Event → Attributes → Bool
+attaches_wrongly before it = option_map_or (λ window. is_fixed (window_state before window)) it.attached false
+
+-- ---- the reasons
 
 -- the first of the reasons that holds
 abbrev pub first_that_holds : List (FormReason × Bool) → Option FormReason
@@ -62,17 +98,30 @@ place_reason rank logs before event = first_that_holds (
     ∷ (AfterEnd, list_any is_end before)
     ∷ [])
 
--- whether what the event names is there, and what it makes may be made
-abbrev pub name_reason : ℕ → ℕ → List Event → Event → Option FormReason
-name_reason rank logs before event = first_that_holds (
-    (UnknownComm, lacks_comm before event)
-    ∷ (UnknownWindow, lacks_window before event)
-    ∷ (NameInUse, takes_used_name before event)
-    ∷ (RankTooLarge, has_far_rank logs event)
-    ∷ (NotInGroup, leaves_out rank event)
-    ∷ (OutOfSpace, leaves_space event)
+-- whether what the event names is there, and the names that it gives are free
+abbrev pub name_reason : List Event → Attributes → Option FormReason
+name_reason before it = first_that_holds (
+    (UnknownComm, lacks_comm before it)
+    ∷ (UnknownWindow, lacks_window before it)
+    ∷ (UnknownRequest, lacks_request before it)
+    ∷ (NameInUse, takes_used_name before it)
+    ∷ [])
+
+-- whether the event does what it may
+abbrev pub use_reason : ℕ → ℕ → List Event → Attributes → Bool → Option FormReason
+use_reason rank logs before it ends = first_that_holds (
+    (RankTooLarge, has_far_rank logs it)
+    ∷ (NotInGroup, leaves_out rank it)
+    ∷ (WrongWait, waits_wrongly before it)
+    ∷ (OutOfSpace, leaves_space it)
+    ∷ (RequestPending, ends)
+    ∷ (RootNotMember, misses_root logs before it)
+    ∷ (NotDynamic, attaches_wrongly before it)
     ∷ [])
 
 -- why an event is bad in the log of a rank among so many logs, after these events, if it is
 abbrev pub reason_of : ℕ → ℕ → List Event → Event → Option FormReason
-reason_of rank logs before event = option_or (place_reason rank logs before event) (name_reason rank logs before event)
+reason_of rank logs before event =
+    let it = attributes_of event in
+    option_or (place_reason rank logs before event)
+    (option_or (name_reason before it) (use_reason rank logs before it (ends_early before event)))

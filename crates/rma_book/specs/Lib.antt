@@ -1,6 +1,8 @@
 pub use Rattle.rma_lex.specs.Checked
 pub use Rattle.rma_lex.specs.Line
+pub mod Latest
 pub mod Naming
+pub mod Names
 pub mod Judging
 pub mod Calls
 pub mod Logs

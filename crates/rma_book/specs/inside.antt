@@ -1,4 +1,5 @@
-pub mod Names
+pub mod Naming
+pub mod Requests
 pub mod BookState
 pub mod Reading
 pub mod RankState

@@ -1,37 +1,55 @@
-//! The book of one rank: it judges each event with those before it, and keeps the calls.
-ghost use Rattle.std.specs.Prelude.{◌≡◌, ◌+◌, nat_lt, ◌++◌, ◌∷◌, [], ℕ, List, Some, None, true, false, ◌||◌, is_some, option_to_list, unwrap_or, IfOk, OnOk, not, ◌==◌, ◌&&◌, if◌then◌else◌};
+//! The book of one rank: it judges each event with those before it.
+ghost use Rattle.std.specs.Prelude.{◌≡◌, ℕ, ◌+◌, ◌<◌, ◌^◌, nat_lt, List, [], ◌∷◌, Some, None, true, false, not, ◌==◌, ◌&&◌, ◌||◌, is_some, IfOk, IfSome, OnOk, if◌then◌else◌};
 ghost use Rattle.std.specs.List.{list_any};
 ghost use Rattle.std.specs.Map.{lookup};
-ghost use Rattle.std.specs.Option.{option_copied, option_map_or};
+ghost use Rattle.std.specs.Option.{option_copied, option_map_or, option_or};
 ghost use Rattle.rma_base.specs.Limits.{address_limit};
 ghost use Rattle.rma_base.specs.RankSet.{has_number};
-ghost use Rattle.rma_book.specs.Calls.{Entry, events_of, call_with};
-ghost use Rattle.rma_book.specs.Naming.{is_end, is_same, is_named, world, has_comm, had_window, has_window};
-ghost use Rattle.rma_book.specs.Judging.{reason_of, place_reason, name_reason, first_that_holds, is_far};
-ghost use Rattle.rma_book.specs.inside.BookState.{Represents, window_in};
-ghost use Rattle.rma_book.specs.inside.Names.{IsNaming};
+ghost use Rattle.rma_base.specs.declared.version.Version.{Version};
+ghost use Rattle.rma_parse.specs.declared.event.Event.{Event};
+ghost use Rattle.rma_parse.specs.declared.event.Event.TheVariants.{Header, End, Call};
+ghost use Rattle.rma_book.specs.Naming.{attributes_of, is_end};
+ghost use Rattle.rma_book.specs.Names.{is_same, of_name, world, has_comm, had_window, pending, is_there, is_fixed, request_number};
+ghost use Rattle.rma_book.specs.Judging.{first_that_holds, name_reason, use_reason, lacks_comm, lacks_window, lacks_request, is_far, leaves_out, waits_wrongly, differ, leaves_space, misses_root, attaches_wrongly};
+ghost use Rattle.rma_book.specs.inside.BookState.{Represents, IsJudged, IsTaken, reason_in, number_in};
+ghost use Rattle.rma_book.specs.inside.Naming.{value_of};
 
+use crate::names::WindowState;
 use crate::naming::Naming;
-use indexmap::{IndexMap, IndexSet};
+use crate::requests::Requests;
+use indexmap::IndexMap;
 use rma_base::limits::SPACE;
-use rma_base::{FormReason, LineNo, Memory, Name, NameError, Rank, RankSet, Sequence};
-use rma_call::{Call, RankCalls};
-use rma_parse::{Event, Stated};
+use rma_base::{FormReason, Memory, Name, Rank, RankSet};
+use rma_call::What;
 use std::alloc::Global;
 use std::marker::Model;
 
-/// The book of one rank. It keeps the names that are in use and the calls, and represents the lines that it took.
+/// What a book says of a call.
+#[derive(Clone, Copy, Debug, PartialEq, Eq)]
+pub enum Judged {
+    /// It is bad.
+    Bad(FormReason),
+    /// It is good.
+    Good {
+        /// The number of the request that it makes or completes.
+        request: Option<u32>,
+    },
+}
+
+/// The book of one rank. It keeps the names that are in use, and represents the events that it took.
 #[derive(Drop)]
 pub struct Book {
     rank: Rank,
     logs: u32,
+    /// An event was taken.
     begun: bool,
-    // The line of the end.
-    ended: Option<LineNo>,
-    comms: IndexSet<Name>,
-    // The windows that were created, each with whether it is still there.
-    windows: IndexMap<Name, bool>,
-    calls: Sequence<Call>,
+    /// The end was taken.
+    ended: bool,
+    /// The communicators that were declared, with their members.
+    comms: IndexMap<Name, RankSet>,
+    /// The windows that were created, with what became of them.
+    windows: IndexMap<Name, WindowState>,
+    requests: Requests,
 }
 
 impl Model for Book {
@@ -44,120 +62,86 @@ impl Model for Book {
       logs = book.logs;
       begun = book.begun;
       ended = book.ended;
-      comms = book.comms.keys;
+      comms = book.comms.entries;
       windows = book.windows.entries;
-      calls = book.calls;
+      requests = book.requests;
     } };
 }
 
 impl Book {
-    /// The book of a rank among so many logs, which took no line yet.
-    pub fn new(alloc: Global, rank: Rank, logs: u32) -> Result<Book, Memory>
-        ensures rank { IfOk result (λ book. book.rank ≡ rank.0) }
-        ensures logs { IfOk result (λ book. book.logs ≡ logs) }
-        ensures empty { IfOk result (λ book. Represents book []) }
+    /// The book of a rank among so many logs, which took no event yet.
+    pub fn new(alloc: Global, rank: Rank, logs: u32) -> Book
+        ensures rank { result.rank ≡ rank.0 }
+        ensures logs { result.logs ≡ logs }
+        ensures empty { Represents result [] }
     {
-        let mut comms = IndexSet::new(alloc);
-        match comms.insert(world(alloc)?) {
-            Ok(_) => {}
-            Err(_) => return Err(Memory),
-        }
-        Ok(Book {
+        Book {
             rank,
             logs,
             begun: false,
-            ended: None,
-            comms,
+            ended: false,
+            comms: IndexMap::new(alloc),
             windows: IndexMap::new(alloc),
-            calls: Sequence::new(alloc),
-        })
-    }
-
-    /// The calls of the lines that the book took.
-    pub fn calls(&self) -> &[Call]
-        ensures { result.now ≡ self.now.calls }
-    {
-        self.calls.as_slice()
-    }
-
-    /// The calls of the lines that the book took, of which this is the end.
-    pub fn into_calls(self, end: LineNo) -> RankCalls
-        ensures { result ≡ record { rank = record { 0 = self.rank }; calls = self.calls; end = end } }
-    {
-        RankCalls {
-            rank: self.rank,
-            calls: self.calls,
-            end,
+            requests: Requests::new(alloc),
         }
     }
 
-    /// The line of the end of the log, where the book took it.
-    pub fn end(&self) -> Option<LineNo>
-        ensures { result ≡ self.now.ended }
+    /// The rank whose log it is.
+    pub fn rank(&self) -> Rank
+        ensures { result.0 ≡ self.now.rank }
     {
-        self.ended
+        self.rank
     }
 
-    /// Judges what a line states, and takes the line where it is good. It answers why it is bad, if it is, and has then
-    /// not changed.
-    ///
-    /// # Errors
-    ///
-    /// `Memory` where memory ran out: the book no longer represents the lines that it took.
-    pub fn read(&mut self, line: LineNo, stated: Stated) -> Result<Option<FormReason>, Memory>
-        ensures judged { IfOk result (λ reason. (entries : List Entry) → Represents self.old entries → reason ≡ reason_of self.old.rank self.old.logs (events_of entries) stated.event) }
-        ensures taken { IfOk result (λ reason. reason ≡ None → (entries : List Entry) → Represents self.old entries → Represents self.new (entries ++ record { line = line; stated = stated } ∷ [])) }
-        ensures refused { IfOk result (λ reason. is_some reason ≡ true → self.new ≡ self.old) }
-        ensures rank { OnOk result (self.new.rank ≡ self.old.rank) }
-        ensures logs { OnOk result (self.new.logs ≡ self.old.logs) }
+    /// Judges a header, and takes it where it is good. It answers why it is bad, if it is.
+    pub fn begin(&mut self, rank: Rank, size: u32) -> Option<FormReason>
+        ensures { (version : Version) → IsJudged self.old self.new (Header version rank size) result }
     {
-        let naming = Naming::of(&stated.event);
-        match self.reason(&stated.event, &naming) {
-            Some(reason) => Ok(Some(reason)),
+        match self.header_reason(rank, size) {
+            Some(reason) => Some(reason),
             None => {
-                self.note(&naming)?;
-                self.keep(line, stated)?;
-                Ok(None)
+                self.begun = true;
+                None
             }
         }
     }
 
-    // Why an event is bad after the lines that the book took, if it is.
-    #[inline]
-    fn reason(&self, event: &Event, naming: &Naming<'_>) -> Option<FormReason>
-        requires { IsNaming naming.now event.now }
-        ensures { (entries : List Entry) → Represents self.now entries → result ≡ reason_of self.now.rank self.now.logs (events_of entries) event.now }
+    /// Judges the end of the log, and takes it where it is good. It answers why it is bad, if it is.
+    pub fn end(&mut self) -> Option<FormReason>
+        ensures { IsJudged self.old self.new End result }
     {
-        match self.place_reason(event) {
+        match self.end_reason() {
             Some(reason) => Some(reason),
-            None => self.name_reason(event, naming),
+            None => {
+                self.begun = true;
+                self.ended = true;
+                None
+            }
         }
     }
 
-    // Whether the event stands where it may.
-    fn place_reason(&self, event: &Event) -> Option<FormReason>
-        ensures { (entries : List Entry) → Represents self.now entries → result ≡ place_reason self.now.rank self.now.logs (events_of entries) event.now }
+    /// Judges a call with the request that stands beside it, and takes it where it is good.
+    ///
+    /// # Errors
+    ///
+    /// `Memory` where memory ran out: the book no longer represents the events that it took.
+    pub fn call(&mut self, what: &What, request: Option<&Name>) -> Result<Judged, Memory>
+        ensures judged { IfOk result (λ judged. IsJudged self.old self.new (Call what.now (option_copied request.entry)) (reason_in judged)) }
+        ensures number { IfOk result (λ judged. reason_in judged ≡ None → (events : List Event) → Represents self.old events
+            → number_in judged ≡ request_number events (attributes_of (Call what.now (option_copied request.entry)))) }
+        ensures fits { IfOk result (λ judged. IfSome (number_in judged) (λ number. number + 1 < 2 ^ 32)) }
     {
-        match event {
-            Event::Header { rank, size } => self.header_reason(*rank, *size),
-            Event::End => self.later_reason(),
-            Event::Call(_) => self.later_reason(),
+        let naming = Naming::of(what, request);
+        match self.reason(&naming) {
+            Some(reason) => Ok(Judged::Bad(reason)),
+            None => {
+                let request = self.note(&naming)?;
+                Ok(Judged::Good { request })
+            }
         }
     }
 
-    // Whether an event that is no header may come now.
-    fn later_reason(&self) -> Option<FormReason>
-        ensures { result ≡ (if not self.now.begun then Some FormReason.BadHeader else (if is_some self.now.ended then Some FormReason.AfterEnd else None)) }
-    {
-        if !self.begun {
-            Some(FormReason::BadHeader)
-        } else if self.ended.is_some() {
-            Some(FormReason::AfterEnd)
-        } else {
-            None
-        }
-    }
-
+    // Why a header is bad now, if it is.
     fn header_reason(&self, rank: Rank, size: u32) -> Option<FormReason>
         ensures { result ≡ (if self.now.begun then Some FormReason.BadHeader else (if rank.0 == self.now.rank && size == self.now.logs then None else Some FormReason.WrongHeader)) }
     {
@@ -170,46 +154,97 @@ impl Book {
         }
     }
 
-    // Whether what the event names is there, and what it makes may be made.
-    fn name_reason(&self, event: &Event, naming: &Naming<'_>) -> Option<FormReason>
-        requires { IsNaming naming.now event.now }
-        ensures { (entries : List Entry) → Represents self.now entries → result ≡ name_reason self.now.rank self.now.logs (events_of entries) event.now }
+    // Why an event that is no header is bad where it stands, if it is.
+    fn later_reason(&self) -> Option<FormReason>
+        ensures { result ≡ (if not self.now.begun then Some FormReason.BadHeader else (if self.now.ended then Some FormReason.AfterEnd else None)) }
     {
-        let _event = event;
-        let used = self.has_comm(naming.declared_comm) | self.had_window(naming.created_window);
-        let far = self.has_far_member(naming.declared_members) | self.is_far(naming.peer);
-        first_reason(
-            self.lacks_comm(naming.needed_comm),
-            self.lacks_window(naming.freed_window),
-            used,
-            far,
-            self.leaves_out(naming.declared_members),
-            leaves_space(naming.claimed_memory),
+        if !self.begun {
+            Some(FormReason::BadHeader)
+        } else if self.ended {
+            Some(FormReason::AfterEnd)
+        } else {
+            None
+        }
+    }
+
+    // Why the end of the log is bad now, if it is.
+    fn end_reason(&self) -> Option<FormReason>
+        ensures { result ≡ option_or (if not self.now.begun then Some FormReason.BadHeader else (if self.now.ended then Some FormReason.AfterEnd else None))
+            (if nat_lt self.now.requests.completed self.now.requests.made then Some FormReason.RequestPending else None) }
+    {
+        match self.later_reason() {
+            Some(reason) => Some(reason),
+            None => {
+                if self.requests.are_pending() {
+                    Some(FormReason::RequestPending)
+                } else {
+                    None
+                }
+            }
+        }
+    }
+
+    // Why a call is bad now, if it is.
+    fn reason(&self, naming: &Naming<'_>) -> Option<FormReason>
+        ensures { (events : List Event) → Represents self.now events → result ≡ option_or
+            (if not self.now.begun then Some FormReason.BadHeader else (if self.now.ended then Some FormReason.AfterEnd else None))
+            (option_or (name_reason events (value_of naming.now)) (use_reason self.now.rank self.now.logs events (value_of naming.now) false)) }
+    {
+        match self.later_reason() {
+            Some(reason) => Some(reason),
+            None => match self.name_reason(naming) {
+                Some(reason) => Some(reason),
+                None => self.use_reason(naming),
+            },
+        }
+    }
+
+    // Whether what a call names is there, and the names that it gives are free.
+    fn name_reason(&self, naming: &Naming<'_>) -> Option<FormReason>
+        ensures { (events : List Event) → Represents self.now events → result ≡ name_reason events (value_of naming.now) }
+    {
+        first_name_reason(
+            self.lacks_comm(naming),
+            self.lacks_window(naming),
+            self.lacks_request(naming),
+            self.declares_used(naming) | (self.creates_used(naming) | self.makes_used(naming)),
         )
     }
 
-    fn lacks_comm(&self, comm: Option<&Name>) -> bool
-        ensures { (entries : List Entry) → Represents self.now entries → result ≡ option_map_or (λ comm. not (has_comm (events_of entries) comm)) (option_copied comm.entry) false }
+    // Whether a call does what it may.
+    fn use_reason(&self, naming: &Naming<'_>) -> Option<FormReason>
+        ensures { (events : List Event) → Represents self.now events → result ≡ use_reason self.now.rank self.now.logs events (value_of naming.now) false }
     {
-        match comm {
-            Some(comm) => !self.comms.contains(comm),
+        first_use_reason(
+            self.has_far_member(naming) | self.has_far_rank(naming),
+            self.leaves_out(naming),
+            self.waits_wrongly(naming),
+            leaves_space(naming),
+            self.misses_root(naming),
+            self.attaches_wrongly(naming),
+        )
+    }
+
+    fn lacks_comm(&self, naming: &Naming<'_>) -> bool
+        ensures { (events : List Event) → Represents self.now events → result ≡ lacks_comm events (value_of naming.now) }
+    {
+        match naming.needed_comm {
+            Some(comm) => !self.has_comm(comm),
             None => false,
         }
     }
 
-    fn has_comm(&self, comm: Option<&Name>) -> bool
-        ensures { (entries : List Entry) → Represents self.now entries → result ≡ option_map_or (has_comm (events_of entries)) (option_copied comm.entry) false }
+    // Whether there is such a communicator.
+    fn has_comm(&self, comm: &Name) -> bool
+        ensures { result ≡ (is_same world comm.now || is_some (lookup (is_same comm.now) self.now.comms)) }
     {
-        match comm {
-            Some(comm) => self.comms.contains(comm),
-            None => false,
-        }
+        is_world(comm) || self.comms.contains_key(comm)
     }
 
-    fn lacks_window(&self, window: Option<&Name>) -> bool
-        ensures { (entries : List Entry) → Represents self.now entries → result ≡ option_map_or (λ window. not (has_window (events_of entries) window)) (option_copied window.entry) false }
+    fn lacks_window(&self, naming: &Naming<'_>) -> bool
+        ensures { (events : List Event) → Represents self.now events → result ≡ lacks_window events (value_of naming.now) }
     {
-        match window {
+        match naming.needed_window {
             Some(window) => !self.is_there(window),
             None => false,
         }
@@ -217,150 +252,236 @@ impl Book {
 
     // Whether the window was created, and not freed.
     fn is_there(&self, window: &Name) -> bool
-        ensures { result ≡ unwrap_or (lookup (is_same window.now) self.now.windows) false }
+        ensures { result ≡ is_there (lookup (is_same window.now) self.now.windows) }
     {
         match self.windows.get(window) {
-            Some(true) => true,
-            _ => false,
+            Some(WindowState::Fixed) => true,
+            Some(WindowState::Dynamic) => true,
+            Some(WindowState::Freed) => false,
+            None => false,
         }
     }
 
-    fn had_window(&self, window: Option<&Name>) -> bool
-        ensures { (entries : List Entry) → Represents self.now entries → result ≡ option_map_or (had_window (events_of entries)) (option_copied window.entry) false }
+    fn lacks_request(&self, naming: &Naming<'_>) -> bool
+        ensures { (events : List Event) → Represents self.now events → result ≡ lacks_request events (value_of naming.now) }
     {
-        match window {
+        match naming.awaited {
+            Some((request, _)) => self.requests.get(request).is_none(),
+            None => false,
+        }
+    }
+
+    fn declares_used(&self, naming: &Naming<'_>) -> bool
+        ensures { (events : List Event) → Represents self.now events → result ≡ option_map_or (λ declared. has_comm events declared.0) (value_of naming.now).declared false }
+    {
+        match naming.declared {
+            Some((comm, _)) => self.has_comm(comm),
+            None => false,
+        }
+    }
+
+    fn creates_used(&self, naming: &Naming<'_>) -> bool
+        ensures { (events : List Event) → Represents self.now events → result ≡ option_map_or (had_window events) (value_of naming.now).created false }
+    {
+        match naming.created {
             Some(window) => self.windows.contains_key(window),
             None => false,
         }
     }
 
-    fn has_far_member(&self, members: Option<&RankSet>) -> bool
-        ensures { result ≡ option_map_or (list_any (is_far self.now.logs)) (option_copied members.entry) false }
+    fn makes_used(&self, naming: &Naming<'_>) -> bool
+        ensures { (events : List Event) → Represents self.now events → result ≡ option_map_or (λ made. is_some (pending events made.0)) (value_of naming.now).made false }
     {
-        match members {
+        match naming.made {
+            Some((request, _)) => self.requests.get(request).is_some(),
+            None => false,
+        }
+    }
+
+    fn has_far_member(&self, naming: &Naming<'_>) -> bool
+        ensures { result ≡ option_map_or (list_any (is_far self.now.logs)) (value_of naming.now).group false }
+    {
+        match naming.group {
             Some(ranks) => has_far_rank(ranks, self.logs),
             None => false,
         }
     }
 
-    fn is_far(&self, peer: Option<Rank>) -> bool
-        ensures { result ≡ option_map_or (λ rank. is_far self.now.logs rank.0) peer false }
+    fn has_far_rank(&self, naming: &Naming<'_>) -> bool
+        ensures { result ≡ option_map_or (is_far self.now.logs) (value_of naming.now).rank false }
     {
-        match peer {
+        match naming.rank {
             Some(rank) => rank.0 >= self.logs,
             None => false,
         }
     }
 
-    fn leaves_out(&self, members: Option<&RankSet>) -> bool
-        ensures { result ≡ option_map_or (λ ranks. not (has_number self.now.rank ranks)) (option_copied members.entry) false }
+    fn leaves_out(&self, naming: &Naming<'_>) -> bool
+        ensures { result ≡ leaves_out self.now.rank (value_of naming.now) }
     {
-        match members {
-            Some(ranks) => !ranks.has(self.rank),
+        match naming.declared {
+            Some((_, ranks)) => !ranks.has(self.rank),
             None => false,
         }
     }
 
-    // Notes what an event does to the names.
-    fn note(&mut self, naming: &Naming<'_>) -> Result<(), Memory>
-        ensures comms { OnOk result ((name : List ℕ) → list_any (is_same name) self.new.comms ≡ (is_named (option_copied naming.now.declared_comm) name || list_any (is_same name) self.old.comms)) }
-        ensures windows { OnOk result ((name : List ℕ) → lookup (is_same name) self.new.windows
-            ≡ (if is_named (option_copied naming.now.created_window) name then Some true
-            else (if is_named (option_copied naming.now.freed_window) name then Some false else lookup (is_same name) self.old.windows))) }
-        ensures others { OnOk result (self.new ≡ record self.old { comms = self.new.comms; windows = self.new.windows }) }
+    fn waits_wrongly(&self, naming: &Naming<'_>) -> bool
+        ensures { (events : List Event) → Represents self.now events → result ≡ waits_wrongly events (value_of naming.now) }
     {
-        self.declare(naming.declared_comm)?;
-        self.mark(naming.freed_window, false)?;
-        self.mark(naming.created_window, true)?;
-        Ok(())
-    }
-
-    // The communicator is there.
-    fn declare(&mut self, comm: Option<&Name>) -> Result<(), Memory>
-        ensures comms { OnOk result ((name : List ℕ) → list_any (is_same name) self.new.comms ≡ (is_named (option_copied comm.entry) name || list_any (is_same name) self.old.comms)) }
-        ensures others { OnOk result (self.new ≡ record self.old { comms = self.new.comms }) }
-    {
-        let Some(comm) = comm else {
-            return Ok(());
-        };
-        match self.comms.insert(comm.copy()?) {
-            Ok(_) => Ok(()),
-            Err(_) => Err(Memory),
+        match naming.awaited {
+            Some((request, received)) => self.differs(request, received),
+            None => false,
         }
     }
 
-    // The window was created, and is still there or not.
-    fn mark(&mut self, window: Option<&Name>, there: bool) -> Result<(), Memory>
-        ensures windows { OnOk result ((name : List ℕ) → lookup (is_same name) self.new.windows ≡ (if is_named (option_copied window.entry) name then Some there else lookup (is_same name) self.old.windows)) }
-        ensures others { OnOk result (self.new ≡ record self.old { windows = self.new.windows }) }
+    // Whether the request is pending, and not of this kind.
+    fn differs(&self, request: &Name, receives: bool) -> bool
+        ensures { result ≡ option_map_or (λ request. differ request.receives receives) (lookup (is_same request.now) self.now.requests.pending) false }
     {
-        let Some(window) = window else {
-            return Ok(());
-        };
-        match self.windows.insert(window.copy()?, there) {
-            Ok(_) => Ok(()),
-            Err(_) => Err(Memory),
+        match self.requests.get(request) {
+            Some(request) => request.receives != receives,
+            None => false,
         }
     }
 
-    // Keeps the line of the end, and the call of a line that records one.
-    fn keep(&mut self, line: LineNo, stated: Stated) -> Result<(), Memory>
-        ensures { OnOk result (self.new ≡ record self.old {
-          begun = true;
-          ended = (if is_end stated.event then Some line else self.old.ended);
-          calls = self.old.calls ++ option_to_list (call_with line stated.site stated.event);
-        }) }
+    fn misses_root(&self, naming: &Naming<'_>) -> bool
+        ensures { (events : List Event) → Represents self.now events → result ≡ misses_root self.now.logs events (value_of naming.now) }
+    {
+        match naming.root {
+            Some((comm, root)) => !self.has_member(comm, root),
+            None => false,
+        }
+    }
+
+    // Whether the rank is a member of the communicator.
+    fn has_member(&self, comm: &Name, rank: Rank) -> bool
+        ensures { result ≡ option_map_or (has_number rank.0) (lookup (is_same comm.now) self.now.comms) (nat_lt rank.0 self.now.logs) }
+    {
+        match self.comms.get(comm) {
+            Some(ranks) => ranks.has(rank),
+            None => rank.0 < self.logs,
+        }
+    }
+
+    fn attaches_wrongly(&self, naming: &Naming<'_>) -> bool
+        ensures { (events : List Event) → Represents self.now events → result ≡ attaches_wrongly events (value_of naming.now) }
+    {
+        match naming.attached {
+            Some(window) => self.is_fixed(window),
+            None => false,
+        }
+    }
+
+    // Whether the window is there, with memory of its own.
+    fn is_fixed(&self, window: &Name) -> bool
+        ensures { result ≡ is_fixed (lookup (is_same window.now) self.now.windows) }
+    {
+        match self.windows.get(window) {
+            Some(WindowState::Fixed) => true,
+            Some(WindowState::Dynamic) => false,
+            Some(WindowState::Freed) => false,
+            None => false,
+        }
+    }
+
+    // Notes what a call does to the names, and answers the number of its request.
+    fn note(&mut self, naming: &Naming<'_>) -> Result<Option<u32>, Memory>
+        ensures taken { OnOk result ((event : Event) → value_of naming.now ≡ attributes_of event → is_end event ≡ false → IsTaken self.old self.new event) }
+        ensures number { IfOk result (λ number. (events : List Event) → Represents self.old events → number ≡ request_number events (value_of naming.now)) }
+        ensures fits { IfOk result (λ number. IfSome number (λ n. n + 1 < 2 ^ 32)) }
     {
         self.begun = true;
-        let Stated { event, site } = stated;
-        match event {
-            Event::Header { .. } => Ok(()),
-            Event::End => {
-                self.ended = Some(line);
-                Ok(())
-            }
-            Event::Call(what) => self.calls.push(Call { line, site, what }),
+        self.declare(naming)?;
+        self.mark(naming)?;
+        let completed = self.requests.complete(naming.awaited)?;
+        let made = self.requests.make(naming.made)?;
+        Ok(made.or(completed))
+    }
+
+    // The communicator that is declared is there.
+    fn declare(&mut self, naming: &Naming<'_>) -> Result<(), Memory>
+        ensures comms { OnOk result ((name : List ℕ) → lookup (is_same name) self.new.comms ≡ option_or (of_name name (value_of naming.now).declared) (lookup (is_same name) self.old.comms)) }
+        ensures others { OnOk result (self.new ≡ record self.old { comms = self.new.comms }) }
+    {
+        let Some((comm, ranks)) = naming.declared else {
+            return Ok(());
+        };
+        match self.comms.insert(comm.copy()?, ranks.copy()?) {
+            Ok(_) => Ok(()),
+            Err(_) => Err(Memory),
+        }
+    }
+
+    // The window becomes what is made of it.
+    fn mark(&mut self, naming: &Naming<'_>) -> Result<(), Memory>
+        ensures windows { OnOk result ((name : List ℕ) → lookup (is_same name) self.new.windows ≡ option_or (of_name name (value_of naming.now).window) (lookup (is_same name) self.old.windows)) }
+        ensures others { OnOk result (self.new ≡ record self.old { windows = self.new.windows }) }
+    {
+        let Some((window, state)) = naming.window else {
+            return Ok(());
+        };
+        match self.windows.insert(window.copy()?, state) {
+            Ok(_) => Ok(()),
+            Err(_) => Err(Memory),
         }
     }
 }
 
-/// The name of the communicator of all ranks.
-fn world(alloc: Global) -> Result<Name, Memory>
-    ensures { IfOk result (λ name. name ≡ world) }
+/// Whether the name is that of the communicator of all ranks.
+fn is_world(comm: &Name) -> bool
+    ensures { result ≡ is_same world comm.now }
 {
-    match Name::new(alloc, b"world") {
-        Ok(name) => Ok(name),
-        Err(NameError::Memory) => Err(Memory),
-        Err(NameError::Bad) => unreachable!(),
-    }
+    b"world".as_slice() == comm.bytes()
 }
 
-/// The first of the reasons that holds, in the order of the reasons.
-#[inline]
-fn first_reason(
+/// The first of the reasons among names that holds.
+fn first_name_reason(
     lacks_comm: bool,
     lacks_window: bool,
+    lacks_request: bool,
     used: bool,
-    far: bool,
-    left_out: bool,
-    beyond: bool,
 ) -> Option<FormReason>
     ensures { result ≡ first_that_holds (
-        (FormReason.UnknownComm, lacks_comm) ∷ (FormReason.UnknownWindow, lacks_window) ∷ (FormReason.NameInUse, used)
-        ∷ (FormReason.RankTooLarge, far) ∷ (FormReason.NotInGroup, left_out) ∷ (FormReason.OutOfSpace, beyond) ∷ []) }
+        (FormReason.UnknownComm, lacks_comm) ∷ (FormReason.UnknownWindow, lacks_window) ∷ (FormReason.UnknownRequest, lacks_request) ∷ (FormReason.NameInUse, used) ∷ []) }
 {
     if lacks_comm {
         Some(FormReason::UnknownComm)
     } else if lacks_window {
         Some(FormReason::UnknownWindow)
+    } else if lacks_request {
+        Some(FormReason::UnknownRequest)
     } else if used {
         Some(FormReason::NameInUse)
-    } else if far {
+    } else {
+        None
+    }
+}
+
+/// The first of the reasons in what a call does that holds.
+fn first_use_reason(
+    far: bool,
+    left_out: bool,
+    wrong_wait: bool,
+    beyond: bool,
+    no_root: bool,
+    fixed: bool,
+) -> Option<FormReason>
+    ensures { result ≡ first_that_holds (
+        (FormReason.RankTooLarge, far) ∷ (FormReason.NotInGroup, left_out) ∷ (FormReason.WrongWait, wrong_wait) ∷ (FormReason.OutOfSpace, beyond)
+        ∷ (FormReason.RootNotMember, no_root) ∷ (FormReason.NotDynamic, fixed) ∷ []) }
+{
+    if far {
         Some(FormReason::RankTooLarge)
     } else if left_out {
         Some(FormReason::NotInGroup)
+    } else if wrong_wait {
+        Some(FormReason::WrongWait)
     } else if beyond {
         Some(FormReason::OutOfSpace)
+    } else if no_root {
+        Some(FormReason::RootNotMember)
+    } else if fixed {
+        Some(FormReason::NotDynamic)
     } else {
         None
     }
@@ -373,12 +494,12 @@ fn has_far_rank(ranks: &RankSet, logs: u32) -> bool
     ranks.numbers().iter().any(|rank| *rank >= logs)
 }
 
-/// Whether the memory does not end in the space of addresses.
-fn leaves_space(memory: Option<(u64, u64)>) -> bool
-    ensures { result ≡ option_map_or (λ memory. nat_lt address_limit (memory.0 + memory.1)) memory false }
+/// Whether memory does not end in the space of addresses.
+fn leaves_space(naming: &Naming<'_>) -> bool
+    ensures { result ≡ leaves_space (value_of naming.now) }
 {
-    match memory {
-        Some((base, size)) => size > SPACE || base > SPACE - size,
+    match naming.memory {
+        Some((address, size)) => size > SPACE || address > SPACE - size,
         None => false,
     }
 }

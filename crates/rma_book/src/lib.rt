@@ -1,9 +1,9 @@
 //! The log of one rank: which of its lines are good, and the calls that they record.
 //!
 //! A [`RankBook`] is fed the log of its rank in pieces of any size, and its outcome is a [`BookEnd`]: the calls of the rank,
-//! or the first bad line, a [`FormFault`]. Inside it a cutter gives the lines, a reader what they state, and a [`Book`] judges
-//! each event with those before it, by what the event says of names and ranks ([`naming`] takes that from the event, and is the
-//! one place where the forms of lines are told apart).
+//! or the first bad line, a [`FormFault`]. Inside it a cutter gives the lines, a reader what they state and keeps the calls,
+//! and a [`Book`] judges each event with those before it, by what the event says of names and ranks ([`naming`] takes that from
+//! the call, and is the one place where the forms of calls are told apart).
 //!
 //! [`naming`]: naming.rt
 #![tactic(auto)]
@@ -11,10 +11,13 @@
 mod book;
 mod fault;
 pub mod laws;
+mod names;
 mod naming;
 mod rank_book;
 mod reader;
+mod requests;
 
-pub use book::Book;
+pub use book::{Book, Judged};
 pub use fault::{BookEnd, FormFault};
+pub use names::{Pending, WindowState};
 pub use rank_book::RankBook;

@@ -1,14 +1,17 @@
 //! The log of one rank, as its bytes come.
-ghost use Rattle.std.specs.Prelude.{◌≡◌, ℕ, ◌+◌, ◌≤◌, List, [], ◌++◌, length, IfOk, OnOk, false};
+ghost use Rattle.std.specs.Prelude.{◌≡◌, ℕ, ◌+◌, ◌≤◌, List, [], ◌++◌, length, take, is_some, IfOk, OnOk, false};
 ghost use Rattle.rma_lex.specs.Checked.{checked_lines};
 ghost use Rattle.rma_lex.specs.Line.{lines};
+ghost use Rattle.rma_book.specs.Calls.{calls_of, end_line};
 ghost use Rattle.rma_book.specs.Ends.{IsEnd};
+ghost use Rattle.rma_book.specs.Logs.{AreGoodUntil, IsFirstFault, entries, whole_lines};
 ghost use Rattle.rma_book.specs.inside.RankState.{Represents};
 
-use crate::fault::BookEnd;
+use crate::fault::{BookEnd, FormFault};
 use crate::reader::{Reader, read_lines};
 use rma_base::limits::{FED, LINE};
 use rma_base::{LineNo, Memory, Rank};
+use rma_call::CallList;
 use rma_lex::LineCutter;
 use std::alloc::Global;
 use std::marker::Model;
@@ -25,7 +28,7 @@ impl Model for RankBook {
 
     ghost Value = { RankState };
 
-    ghost view = { λ log. record { text = log.cutter; book = log.reader.book; fault = log.reader.fault } };
+    ghost view = { λ log. record { text = log.cutter; reader = log.reader } };
 }
 
 impl RankBook {
@@ -72,6 +75,29 @@ impl RankBook {
         ensures bound { result ≤ FED }
     {
         self.cutter.lines()
+    }
+
+    /// The first bad line among the whole lines so far.
+    pub fn state(&self) -> Option<FormFault>
+        ensures { (rank logs : ℕ) (bytes : List ℕ) → Represents rank logs self.now bytes → IsFirstFault rank logs (whole_lines bytes) result }
+    {
+        self.reader.fault
+    }
+
+    /// The calls of the whole lines so far that stand before the first bad one.
+    pub fn read_calls(&self) -> &CallList
+        ensures { (rank logs : ℕ) (bytes : List ℕ) → Represents rank logs self.now bytes
+            → (count : ℕ) × AreGoodUntil rank logs (whole_lines bytes) count × (result.now.calls ≡ calls_of (entries (take count (whole_lines bytes)))) }
+    {
+        self.reader.lines.calls()
+    }
+
+    /// Whether the end of the log is among the whole lines so far that stand before the first bad one.
+    pub fn ended(&self) -> bool
+        ensures { (rank logs : ℕ) (bytes : List ℕ) → Represents rank logs self.now bytes
+            → (count : ℕ) × AreGoodUntil rank logs (whole_lines bytes) count × (result ≡ is_some (end_line (entries (take count (whole_lines bytes))))) }
+    {
+        self.reader.end.is_some()
     }
 
     /// The log has ended: its calls, or its first bad line.

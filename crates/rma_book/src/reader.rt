@@ -1,25 +1,36 @@
 //! Reading the lines of a log one by one.
-ghost use Rattle.std.specs.Prelude.{◌≡◌, ℕ, ◌+◌, ◌<◌, List, ◌++◌, ◌∷◌, [], length, IfOk, OnOk, true, false, Contains, Ok, Err, Some, None};
+ghost use Rattle.std.specs.Prelude.{◌≡◌, ℕ, ◌+◌, ◌<◌, List, ◌++◌, ◌∷◌, [], length, IfOk, IfSome, OnOk, true, false, Contains, Ok, Err, Option, Some, None};
+ghost use Rattle.rma_base.specs.declared.version.Version.{Version};
 ghost use Rattle.rma_lex.specs.Content.{content, number};
 ghost use Rattle.rma_lex.specs.Line.{lines};
 ghost use Rattle.rma_lex.specs.Cutting.{Represents};
+ghost use Rattle.rma_parse.specs.declared.event.Event.TheVariants.{Header, End};
+ghost use Rattle.rma_parse.specs.declared.event.Stated.{Stated};
+ghost use Rattle.rma_reader.specs.Reading.{IsEvent, IsRead, IsSite};
+ghost use Rattle.rma_reader.specs.declared.read_line.ReadEvent.TheVariants as read;
 ghost use Rattle.rma_book.specs.Ends.{IsEnd};
-ghost use Rattle.rma_book.specs.Logs.{Checked, says};
-ghost use Rattle.rma_book.specs.inside.Reading.{HasRead, HasTaken, IsBehind, IsReading};
+ghost use Rattle.rma_book.specs.Logs.{Checked};
+ghost use Rattle.rma_book.specs.inside.Reading.{HasRead, IsReading, Reads, ReadsNext};
 
-use crate::book::Book;
+use crate::book::{Book, Judged};
 use crate::fault::{BookEnd, FormFault};
-use rma_base::{FormReason, LineNo, Memory, Rank};
+use rma_base::{FormReason, LineNo, Memory, Name, Rank, Version};
+use rma_call::RankCalls;
 use rma_lex::{LexFault, Line, LineCutter};
 use rma_parse::ParseError;
-use rma_reader::LineReader;
+use rma_reader::{LineReader, ReadEvent, ReadLine};
 use std::alloc::Global;
 
-/// The book of the good lines, and the first bad one, after which nothing is read.
+/// What the good lines of a log state, and the first bad one, after which nothing is read.
 #[derive(Drop)]
 pub(crate) struct Reader {
-    lines: LineReader,
+    /// Reads the lines, and keeps their calls.
+    pub(crate) lines: LineReader,
+    /// Judges the events.
     pub(crate) book: Book,
+    /// The line of the end of the log, where it was read.
+    pub(crate) end: Option<LineNo>,
+    /// The first bad line.
     pub(crate) fault: Option<FormFault>,
 }
 
@@ -30,15 +41,15 @@ impl Reader {
     {
         Ok(Reader {
             lines: LineReader::new(alloc)?,
-            book: Book::new(alloc, rank, logs)?,
+            book: Book::new(alloc, rank, logs),
+            end: None,
             fault: None,
         })
     }
 
     /// Reads the next line.
     fn read(&mut self, found: Result<Line<'_>, LexFault>) -> Result<(), Memory>
-        ensures { OnOk result ((rank logs : ℕ) (before : List Checked) → number found.entry ≡ length before + 1 → HasRead rank logs before self.old
-            → HasRead rank logs (before ++ content found.entry ∷ []) self.new) }
+        ensures { OnOk result (ReadsNext self.old self.new (number found.entry) (content found.entry)) }
     {
         if self.fault.is_some() {
             return Ok(());
@@ -55,22 +66,89 @@ impl Reader {
     // Reads the text of the next line.
     fn read_text(&mut self, no: LineNo, text: &[u8]) -> Result<(), Memory>
         requires { self.old.fault ≡ None }
-        ensures { OnOk result ((rank logs : ℕ) (before : List Checked) → no.0 ≡ length before + 1 → HasRead rank logs before self.old
-            → HasRead rank logs (before ++ Ok text.now ∷ []) self.new) }
+        ensures { OnOk result (ReadsNext self.old self.new no.0 (Ok text.now)) }
     {
         match self.lines.read(text) {
             Ok(None) => Ok(()),
-            Ok(Some(stated)) => {
-                if let Some(reason) = self.book.read(no, stated)? {
-                    self.refuse(no, reason);
-                }
-                Ok(())
-            }
+            Ok(Some(line)) => self.read_line(no, line),
             Err(ParseError::Fault(fault)) => {
                 self.refuse(no, fault.reason);
                 Ok(())
             }
             Err(ParseError::Memory) => Err(Memory),
+        }
+    }
+
+    // Judges the next line, and takes it where it is good.
+    fn read_line(&mut self, no: LineNo, line: ReadLine) -> Result<(), Memory>
+        requires fault { self.old.fault ≡ None }
+        requires read { (stated : Stated) × IsRead self.old.lines.calls line stated }
+        ensures { OnOk result ((stated : Stated) → IsRead self.old.lines.calls line stated → Reads self.old self.new no stated) }
+    {
+        let ReadLine { event, site } = line;
+        match event {
+            ReadEvent::Header {
+                version,
+                rank,
+                size,
+            } => self.read_header(no, version, rank, size),
+            ReadEvent::End => {
+                self.read_end(no);
+                Ok(())
+            }
+            ReadEvent::Call { what, request } => self.read_call(no, site, what, request),
+        }
+    }
+
+    // Judges a header, and takes it where it is good: lines are read in its version from now on.
+    fn read_header(
+        &mut self,
+        no: LineNo,
+        version: Version,
+        rank: Rank,
+        size: u32,
+    ) -> Result<(), Memory>
+        requires { self.old.fault ≡ None }
+        ensures { OnOk result ((site : Option (List ℕ)) → Reads self.old self.new no (record { event = Header version rank size; site = site })) }
+    {
+        match self.book.begin(rank, size) {
+            Some(reason) => self.refuse(no, reason),
+            None => self.lines.set_version(version),
+        }
+        Ok(())
+    }
+
+    // Judges the end of the log, and takes it where it is good.
+    fn read_end(&mut self, no: LineNo)
+        requires { self.old.fault ≡ None }
+        ensures { (site : Option (List ℕ)) → Reads self.old self.new no (record { event = End; site = site }) }
+    {
+        match self.book.end() {
+            Some(reason) => self.refuse(no, reason),
+            None => self.end = Some(no),
+        }
+    }
+
+    // Judges a call, and takes it where it is good.
+    fn read_call(
+        &mut self,
+        no: LineNo,
+        site: Option<u32>,
+        what: u32,
+        request: Option<Name>,
+    ) -> Result<(), Memory>
+        requires fault { self.old.fault ≡ None }
+        requires what { what < length self.old.lines.calls.whats }
+        requires site { IfSome site (λ number. number < length self.old.lines.calls.sites) }
+        ensures { OnOk result ((stated : Stated) → IsEvent self.old.lines.calls (read.Call what request) stated.event → IsSite self.old.lines.calls site stated.site → Reads self.old self.new no stated) }
+    {
+        let judged = self.book.call(self.lines.what(what), request.as_ref())?;
+        match judged {
+            Judged::Bad(reason) => {
+                self.refuse(no, reason);
+                Ok(())
+            }
+            Judged::Good { request } => self.lines.push(no, site, what, request),
         }
     }
 
@@ -85,13 +163,16 @@ impl Reader {
     pub(crate) fn end(self, after: LineNo) -> BookEnd
         ensures { (rank logs : ℕ) (lines : List Checked) → after.0 ≡ length lines + 1 → HasRead rank logs lines self → IsEnd rank logs lines result }
     {
-        match (self.fault, self.book.end()) {
+        match (self.fault, self.end) {
             (Some(fault), _) => BookEnd::Fault(fault),
             (None, None) => BookEnd::Fault(FormFault {
                 line: after,
                 reason: FormReason::MissingEnd,
             }),
-            (None, Some(end)) => BookEnd::Calls(self.book.into_calls(end)),
+            (None, Some(end)) => {
+                let rank = self.book.rank();
+                BookEnd::Calls(RankCalls::new(rank, self.lines.into_calls(), end))
+            }
         }
     }
 }

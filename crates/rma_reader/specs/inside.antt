@@ -1,2 +1,5 @@
-pub mod Known
 pub mod Split
+pub mod Known
+pub mod Slots
+pub mod Tables
+pub mod SiteSlots

@@ -1,54 +1,83 @@
 //! What the words of a line state.
-ghost use Rattle.std.specs.Prelude.{◌≡◌, IfOk, None, true};
-ghost use Rattle.rma_parse.specs.Lines.{states};
+ghost use Rattle.std.specs.Prelude.{◌≡◌, IfOk, true};
+ghost use Rattle.rma_reader.specs.declared.read_line.ReadEvent.TheVariants.{Call};
 
-use rma_base::Memory;
-use rma_parse::Event;
+use crate::read_line::ReadEvent;
+use rma_base::{Memory, Name, Version};
 use std::alloc::Global;
 use std::marker::Model;
 
-/// The words of a line without its site, and the event that they state.
+/// The words of a line without its site, and the call that they state.
 #[derive(Drop)]
 pub(crate) struct KnownLine {
+    /// The version of the format in which they state it.
+    version: Version,
+    /// The words.
     words: Vec<u8>,
-    event: Event,
+    /// The number of what the call does.
+    what: u32,
+    /// The request that the call makes or completes.
+    request: Option<Name>,
 }
 
 impl Model for KnownLine {
-    ghost use Rattle.std.specs.Prelude.{None};
-    ghost use Rattle.rma_parse.specs.Lines.{states};
     ghost use Rattle.rma_reader.specs.inside.Known.{Known};
 
     ghost Value = { Known };
 
-    ghost view = { λ line. record { words = line.words.items; event = line.event } };
-
-    ghost invariant = { λ line. states line.words.items (record { event = line.event; site = None }) };
+    ghost view = { λ line. record { version = line.version; words = line.words.items; what = line.what; request = line.request } };
 }
 
 impl KnownLine {
-    /// The line of these words, which state this event.
-    pub(crate) fn new(alloc: Global, words: &[u8], event: Event) -> Result<KnownLine, Memory>
-        requires { states words.now (record { event = event; site = None }) }
-        ensures { IfOk result (λ line. line ≡ record { words = words.now; event = event }) }
+    /// The line of these words, which state this call in this version.
+    pub(crate) fn new(
+        alloc: Global,
+        version: Version,
+        words: &[u8],
+        what: u32,
+        request: &Option<Name>,
+    ) -> Result<KnownLine, Memory>
+        ensures { IfOk result (λ line. line ≡ record { version = version; words = words.now; what = what; request = request.now }) }
     {
         let words = Vec::from_slice(alloc, words)?;
-        Ok(KnownLine { words, event })
+        let request = copy(request)?;
+        Ok(KnownLine {
+            version,
+            words,
+            what,
+            request,
+        })
     }
 
-    /// Whether these are its words.
+    /// Whether these are its version and its words.
     #[inline]
-    pub(crate) fn has_words(&self, words: &[u8]) -> bool
-        ensures { result ≡ true → self.now.words ≡ words.now }
+    pub(crate) fn is(&self, version: Version, words: &[u8]) -> bool
+        ensures version { result ≡ true → self.now.version ≡ version }
+        ensures words { result ≡ true → self.now.words ≡ words.now }
     {
-        self.words.as_slice() == words
+        self.version == version && self.words.as_slice() == words
     }
 
-    /// The event, shared. It takes no memory.
+    /// The event. It takes no memory.
     #[inline]
-    pub(crate) fn event(&self) -> Result<Event, Memory>
-        ensures { IfOk result (λ event. states self.now.words (record { event = event; site = None })) }
+    pub(crate) fn event(&self) -> Result<ReadEvent, Memory>
+        ensures { IfOk result (λ event. event ≡ Call self.now.what self.now.request) }
     {
-        self.event.copy()
+        let request = copy(&self.request)?;
+        Ok(ReadEvent::Call {
+            what: self.what,
+            request,
+        })
+    }
+}
+
+/// The name of the request, shared.
+#[inline]
+fn copy(request: &Option<Name>) -> Result<Option<Name>, Memory>
+    ensures { IfOk result (λ copied. copied ≡ request.now) }
+{
+    match request {
+        Some(name) => Ok(Some(name.copy()?)),
+        None => Ok(None),
     }
 }

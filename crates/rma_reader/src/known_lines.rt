@@ -1,10 +1,12 @@
 //! The lines that a log repeats.
-ghost use Rattle.std.specs.Prelude.{◌≡◌, IfOk, IfSome, None};
-ghost use Rattle.rma_parse.specs.Lines.{states};
+ghost use Rattle.std.specs.Prelude.{IfOk, IfSome, List};
+ghost use Rattle.rma_call.specs.declared.what.What.{What};
+ghost use Rattle.rma_reader.specs.inside.Known.{IsKnown, IsStatedBy};
+ghost use Rattle.rma_reader.specs.inside.Slots.{AreKept};
 
 use crate::known_line::KnownLine;
-use rma_base::Memory;
-use rma_parse::Event;
+use crate::read_line::ReadEvent;
+use rma_base::{Memory, Version};
 use std::alloc::Global;
 
 /// How many lines are known at most.
@@ -13,33 +15,40 @@ const SLOTS: usize = 1_024;
 /// A slot of the table.
 #[derive(Drop)]
 struct Slot {
-    // The key of the words that came last to this slot and were not known here.
+    /// The key of the words that came last to this slot and were not known here.
     key: u64,
-    // The line that is known here.
+    /// The line that is known here.
     line: Option<KnownLine>,
 }
 
 /// The lines that a log repeats, each in the slot that the key of its words gives.
 #[derive(Drop)]
 pub(crate) struct KnownLines {
-    alloc: Global,
+    /// The slots, `SLOTS` of them.
     slots: Vec<Slot>,
 }
 
 impl KnownLines {
     /// No line is known.
-    pub(crate) fn new(alloc: Global) -> Result<KnownLines, Memory> {
+    pub(crate) fn new(alloc: Global) -> Result<KnownLines, Memory>
+        ensures { IfOk result (λ lines. (whats : List What) → AreKept whats lines.slots.items) }
+    {
         let mut slots = Vec::with_capacity(alloc, SLOTS)?;
         for _ in 0..SLOTS {
             slots.push(Slot { key: 0, line: None })?;
         }
-        Ok(KnownLines { alloc, slots })
+        Ok(KnownLines { slots })
     }
 
-    /// The event that these words state, whose key this is, if they are known.
+    /// The event that these words state in this version, if they are known. This is their key.
     #[inline]
-    pub(crate) fn event(&self, key: u64, words: &[u8]) -> Result<Option<Event>, Memory>
-        ensures { IfOk result (λ event. IfSome event (λ event. states words.now (record { event = event; site = None }))) }
+    pub(crate) fn event(
+        &self,
+        key: u64,
+        version: Version,
+        words: &[u8],
+    ) -> Result<Option<ReadEvent>, Memory>
+        ensures { IfOk result (λ event. IfSome event (λ event. (whats : List What) → AreKept whats self.now.slots.items → IsStatedBy version whats words.now event)) }
     {
         match self.slots.get(slot_of(key)) {
             Some(
@@ -47,14 +56,38 @@ impl KnownLines {
                     line: Some(line),
                     ..
                 },
-            ) if line.has_words(words) => Ok(Some(line.event()?)),
+            ) if line.is(version, words) => Ok(Some(line.event()?)),
             _ => Ok(None),
         }
     }
 
-    /// Whether words of this key came last to their slot without being known there; they did now. A line that comes once is
-    /// not kept, and takes no memory.
-    pub(crate) fn comes_again(&mut self, key: u64) -> bool {
+    /// Keeps these words with the call that they state in this version, where they come again. A line that comes once is not
+    /// kept, and takes no memory.
+    pub(crate) fn note(
+        &mut self,
+        alloc: Global,
+        key: u64,
+        version: Version,
+        words: &[u8],
+        event: &ReadEvent,
+    ) -> Result<(), Memory>
+        ensures { (whats : List What) → AreKept whats self.old.slots.items → IsStatedBy version whats words.now event.now → AreKept whats self.new.slots.items }
+    {
+        if !self.comes_again(key) {
+            return Ok(());
+        }
+        let ReadEvent::Call { what, request } = event else {
+            return Ok(());
+        };
+        let line = KnownLine::new(alloc, version, words, *what, request)?;
+        self.keep(key, line);
+        Ok(())
+    }
+
+    /// Whether words of this key came last to their slot without being known there; they did now.
+    fn comes_again(&mut self, key: u64) -> bool
+        ensures { (whats : List What) → AreKept whats self.old.slots.items → AreKept whats self.new.slots.items }
+    {
         match self.slots.get_mut(slot_of(key)) {
             Some(slot) => {
                 let again = slot.key == key;
@@ -65,18 +98,18 @@ impl KnownLines {
         }
     }
 
-    /// Keeps the line of these words, which state this event, in place of the one that was known in its slot.
-    pub(crate) fn keep(&mut self, key: u64, words: &[u8], event: Event) -> Result<(), Memory>
-        requires { states words.now (record { event = event; site = None }) }
+    /// Keeps the line in place of the one that was known in its slot.
+    fn keep(&mut self, key: u64, line: KnownLine)
+        ensures { (whats : List What) → AreKept whats self.old.slots.items → IsKnown whats line → AreKept whats self.new.slots.items }
     {
-        let line = KnownLine::new(self.alloc, words, event)?;
         if let Some(slot) = self.slots.get_mut(slot_of(key)) {
             slot.line = Some(line);
         }
-        Ok(())
     }
 }
 
+/// The slot of words of this key.
+#[inline]
 fn slot_of(key: u64) -> usize {
     (key % SLOTS as u64) as usize
 }

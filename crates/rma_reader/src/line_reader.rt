@@ -1,64 +1,97 @@
 //! Reading the lines of one log.
-ghost use Rattle.std.specs.Prelude.{◌≡◌, None, option_map};
-ghost use Rattle.rma_parse.specs.Lines.{reading, site_of, states};
-ghost use Rattle.rma_parse.specs.Steps.{Gives};
+ghost use Rattle.std.specs.Prelude.{◌≡◌, ◌+◌, ◌<◌, ◌^◌, ◌++◌, ◌∷◌, [], length, slice_get, IfOk, IfErr, IfSome, MatchOption, None, Ok, OnOk, Some, option_map};
+ghost use Rattle.std.specs.Option.{option_and_then};
+ghost use Rattle.rma_base.specs.declared.version.Version.TheVariants as version;
+ghost use Rattle.rma_call.specs.declared.what.What.{What};
+ghost use Rattle.rma_call.specs.Call.{no_calls};
+ghost use Rattle.rma_parse.specs.declared.event.Stated.{Stated};
+ghost use Rattle.rma_parse.specs.declared.event.Event.{Event};
+ghost use Rattle.rma_parse.specs.Lines.{reading, states};
+ghost use Rattle.rma_field.specs.Steps.{Fails};
+ghost use Rattle.rma_reader.specs.Reading.{Grows, IsEvent, IsRead};
 ghost use Rattle.rma_reader.specs.inside.Split.{IsSplit, stated_at};
+ghost use Rattle.rma_reader.specs.inside.Tables.{Reads};
 
 use crate::key::key_of;
 use crate::known_lines::KnownLines;
-use crate::known_sites::KnownSites;
+use crate::numbered_calls::NumberedCalls;
+use crate::read_line::{ReadEvent, ReadLine};
 use crate::site_split::split_site;
-use rma_base::{FormReason, Memory, NameError, Site};
-use rma_parse::{Event, ParseError, ParseFault, Stated, parse_line};
+use rma_base::{LineNo, Memory, Version};
+use rma_call::{CallList, What};
+use rma_parse::{Event, ParseError, Stated, Texts, parse_line};
 use std::alloc::Global;
 use std::marker::Model;
 
-/// Reads the lines of one log, and remembers those that the log repeats.
+/// Reads the lines of one log, and keeps its calls.
 #[derive(Drop)]
 pub struct LineReader {
-    alloc: Global,
+    /// The version of the format in which lines are read.
+    version: Version,
+    /// The names of the log.
+    texts: Texts,
+    /// The lines that come again.
     lines: KnownLines,
-    sites: KnownSites,
+    /// The calls that were appended, with their tables.
+    calls: NumberedCalls,
 }
 
 impl Model for LineReader {
-    ghost Value = { Unit {0} };
+    ghost use Rattle.rma_reader.specs.Reading.{Reading};
+    ghost use Rattle.rma_reader.specs.inside.Slots.{AreKept};
 
-    ghost view = { λ reader. tt };
+    ghost Value = { Reading };
+
+    ghost view = { λ reader. record { version = reader.version; calls = reader.calls } };
+
+    ghost invariant = { λ reader. AreKept reader.calls.whats reader.lines.slots.items };
 }
 
 impl LineReader {
-    /// A reader that read no line yet.
-    pub fn new(alloc: Global) -> Result<LineReader, Memory> {
+    /// A reader that read no line yet. It reads lines in the first version of the format.
+    pub fn new(alloc: Global) -> Result<LineReader, Memory>
+        ensures { IfOk result (λ reader. reader ≡ record { version = version.One; calls = no_calls }) }
+    {
         Ok(LineReader {
-            alloc,
+            version: Version::One,
+            texts: Texts::new(alloc),
             lines: KnownLines::new(alloc)?,
-            sites: KnownSites::new(alloc),
+            calls: NumberedCalls::new(alloc),
         })
     }
 
-    /// What the line states; nothing, where it is blank or a comment.
+    /// Reads lines in this version from now on.
+    pub fn set_version(&mut self, version: Version)
+        ensures { self.new ≡ record self.old { version = version } }
+    {
+        self.version = version;
+    }
+
+    /// What the line states; nothing, where it is blank or a comment. What a call does and its site stand in the tables then.
     ///
     /// # Errors
     ///
     /// The first reason for which the line is bad, or that memory ran out: just as `parse_line`.
     #[inline]
-    pub fn read(&mut self, line: &[u8]) -> Result<Option<Stated>, ParseError>
-        ensures { Gives result (reading line.now) }
+    pub fn read(&mut self, line: &[u8]) -> Result<Option<ReadLine>, ParseError>
+        ensures ok { IfOk result (λ read. MatchOption read (reading self.old.version line.now ≡ Ok None)
+            (λ read. (stated : Stated) × (reading self.old.version line.now ≡ Ok (Some stated)) × IsRead self.new.calls read stated)) }
+        ensures err { IfErr result (λ error. Fails error (reading self.old.version line.now)) }
+        ensures grows { Grows self.old self.new }
     {
         if line.first() == Some(&b'#') {
-            return parse_line(self.alloc, line);
+            return self.read_whole(line);
         }
         let (words, site) = split_site(line);
         let key = key_of(words);
-        match self.lines.event(key, words) {
-            Ok(Some(event)) => self.with_site(event, site),
+        match self.lines.event(key, self.version, words) {
+            Ok(Some(event)) => self.calls.read_at(self.texts.allocator(), event, site),
             Ok(None) => self.read_new(key, line, words, site),
             Err(Memory) => Err(ParseError::Memory),
         }
     }
 
-    // What the line of these words and this site states, where the words are not known.
+    /// What the line of these words and this site states, where the words are not known.
     #[inline(never)]
     fn read_new(
         &mut self,
@@ -66,74 +99,106 @@ impl LineReader {
         line: &[u8],
         words: &[u8],
         site: Option<&[u8]>,
-    ) -> Result<Option<Stated>, ParseError>
+    ) -> Result<Option<ReadLine>, ParseError>
         requires { IsSplit line.now words.now (option_map (λ text. text.now) site) }
-        ensures { Gives result (reading line.now) }
+        ensures read { Reads self.new.calls result (reading self.old.version line.now) }
+        ensures grows { Grows self.old self.new }
     {
-        match parse_line(self.alloc, words) {
+        match parse_line(&mut self.texts, self.version, words) {
             Ok(Some(stated)) => {
                 let Stated { event, site: own } = stated;
                 match own {
                     None => self.read_event(key, words, event, site),
-                    Some(_) => parse_line(self.alloc, line),
+                    Some(_) => self.read_whole(line),
                 }
             }
             Err(ParseError::Memory) => Err(ParseError::Memory),
-            _ => parse_line(self.alloc, line),
+            _ => self.read_whole(line),
         }
     }
 
-    // What is stated where the words of a line state this event and were not known, and this is the text of its site.
+    /// What is read where the words of a line state this event and were not known, and this is the text of its site.
     fn read_event(
         &mut self,
         key: u64,
         words: &[u8],
         event: Event,
         site: Option<&[u8]>,
-    ) -> Result<Option<Stated>, ParseError>
-        requires { states words.now (record { event = event; site = None }) }
-        ensures { Gives result (stated_at event (option_map (λ text. text.now) site.entry)) }
+    ) -> Result<Option<ReadLine>, ParseError>
+        requires { states self.old.version words.now (record { event = event; site = None }) }
+        ensures read { Reads self.new.calls result (stated_at event (option_map (λ text. text.now) site.entry)) }
+        ensures grows { Grows self.old self.new }
     {
-        match self.remember(key, words, &event) {
-            Ok(()) => self.with_site(event, site),
+        match self.note(key, words, event) {
+            Ok(event) => self.calls.read_at(self.texts.allocator(), event, site),
             Err(Memory) => Err(ParseError::Memory),
         }
     }
 
-    // Keeps the line of these words, where they come for the second time.
-    fn remember(&mut self, key: u64, words: &[u8], event: &Event) -> Result<(), Memory>
-        requires { states words.now (record { event = event.now; site = None }) }
+    /// The event that these words state, by numbers. The words are kept where they come again.
+    fn note(&mut self, key: u64, words: &[u8], event: Event) -> Result<ReadEvent, Memory>
+        requires { states self.old.version words.now (record { event = event; site = None }) }
+        ensures event { IfOk result (λ read. IsEvent self.new.calls read event) }
+        ensures grows { Grows self.old self.new }
     {
-        if !self.lines.comes_again(key) {
-            return Ok(());
-        }
-        let event = event.copy()?;
-        self.lines.keep(key, words, event)
+        let event = self.calls.read_event(event)?;
+        let alloc = self.texts.allocator();
+        self.lines.note(alloc, key, self.version, words, &event)?;
+        Ok(event)
     }
 
-    // What is stated where the words of a line state this event, and this is the text of its site.
-    #[inline]
-    fn with_site(&mut self, event: Event, site: Option<&[u8]>) -> Result<Option<Stated>, ParseError>
-        ensures { Gives result (stated_at event (option_map (λ text. text.now) site.entry)) }
+    /// What the whole line states.
+    #[inline(never)]
+    fn read_whole(&mut self, line: &[u8]) -> Result<Option<ReadLine>, ParseError>
+        ensures read { Reads self.new.calls result (reading self.old.version line.now) }
+        ensures grows { Grows self.old self.new }
     {
-        let site = self.site(site)?;
-        Ok(Some(Stated { event, site }))
-    }
-
-    // The site of this text.
-    #[inline]
-    fn site(&mut self, text: Option<&[u8]>) -> Result<Option<Site>, ParseError>
-        ensures { Gives result (site_of (option_map (λ text. text.now) text.entry)) }
-    {
-        let Some(text) = text else {
+        let Some(stated) = parse_line(&mut self.texts, self.version, line)? else {
             return Ok(None);
         };
-        match self.sites.site(text) {
-            Ok(site) => Ok(Some(site)),
-            Err(NameError::Bad) => Err(ParseError::Fault(ParseFault {
-                reason: FormReason::BadName,
-            })),
-            Err(NameError::Memory) => Err(ParseError::Memory),
+        match self.calls.read(self.texts.allocator(), stated) {
+            Ok(read) => Ok(Some(read)),
+            Err(Memory) => Err(ParseError::Memory),
         }
+    }
+
+    /// What calls do that have this number.
+    pub fn what(&self, number: u32) -> &What
+        requires { number < length self.now.calls.whats }
+        ensures { slice_get self.now.calls.whats number ≡ Some result.now }
+    {
+        self.calls.list().what(number)
+    }
+
+    /// Appends the call of these numbers.
+    pub fn push(
+        &mut self,
+        line: LineNo,
+        site: Option<u32>,
+        what: u32,
+        request: Option<u32>,
+    ) -> Result<(), Memory>
+        requires site { IfSome site (λ number. number < length self.old.calls.sites) }
+        requires what { what < length self.old.calls.whats }
+        requires request { IfSome request (λ number. number + 1 < 2 ^ 32) }
+        ensures { OnOk result ((value : What) → slice_get self.old.calls.whats what ≡ Some value → self.new ≡ record self.old {
+          calls = record self.old.calls { calls = self.old.calls.calls ++ record { line = line; site = option_and_then (slice_get self.old.calls.sites) site; what = value; request = request } ∷ [] };
+        }) }
+    {
+        self.calls.push(line, site, what, request)
+    }
+
+    /// The calls that were appended.
+    pub fn calls(&self) -> &CallList
+        ensures { result.now ≡ self.now.calls }
+    {
+        self.calls.list()
+    }
+
+    /// The calls that were appended, where no more lines are read.
+    pub fn into_calls(self) -> CallList
+        ensures { result ≡ self.calls }
+    {
+        self.calls.into_list()
     }
 }

@@ -1,9 +1,10 @@
 use Rattle.std.proofs.Common.{◌++◌, take, ap, sym, ◌∙◌, subst}
 use Rattle.rma_lex.specs.Cutting.{Cutting}
 use Rattle.rma_lex.specs.Checked.{checked_lines}
-use Rattle.rma_book.specs.inside.Reading.{IsBehind}
+use Rattle.rma_book.specs.inside.Reading.{HasRead}
 use Rattle.rma_book.specs.inside.RankState.{Represents}
 use Rattle.rma_book.proofs.ReadingLemmas.{IsReading_fed}
+use Rattle.rma_book.proofs.WholeLemmas.{whole_handed}
 use Rattle.rma_book.proofs.rank_book.RankBook.feed.Goals as goal
 
 pub returns-clause-text : goal.returns-clause-text
@@ -15,9 +16,11 @@ returns-clause-text c = λ rank logs bytes h.
     let start = IsReading_fed rank logs inside.cutter c.feed.new.self bytes piece inside.reader held.goes_on (ap (λ (cutting : Cutting). cutting.handed) fed.ok)
     (fed.text bytes held.fed) (record { represents = held.fed; read = held.read }) in
     let read = c.in_ok-read_lines.ensures.read rank logs (bytes ++ piece) start in
+    let same = ap (λ (cutting : Cutting). cutting.handed) c.shorten.ensures.same in
+    let goes_on = c.in_ok-read_lines.ensures.closed ∙ ap (λ (cutting : Cutting). cutting.closed) fed.ok ∙ held.goes_on in
     record {
       fed = c.shorten.ensures.text (bytes ++ piece) read.represents;
-      goes_on = ap (λ (cutting : Cutting). cutting.closed) c.shorten.ensures.same ∙ c.in_ok-read_lines.ensures.closed ∙ ap (λ (cutting : Cutting). cutting.closed) fed.ok ∙ held.goes_on;
-      read = subst (λ n. IsBehind rank logs (take n (checked_lines (bytes ++ piece))) c.read_lines.new.reader.book c.read_lines.new.reader.fault)
-          (sym (ap (λ (cutting : Cutting). cutting.handed) c.shorten.ensures.same)) read.read;
+      goes_on = ap (λ (cutting : Cutting). cutting.closed) c.shorten.ensures.same ∙ goes_on;
+      whole = same ∙ whole_handed c.read_lines.new.cutter (bytes ++ piece) read.represents goes_on c.in_ok-read_lines.ensures.none_left;
+      read = subst (λ n. HasRead rank logs (take n (checked_lines (bytes ++ piece))) c.read_lines.new.reader) (sym same) read.read;
     }

@@ -1,0 +1,16 @@
+use Rattle.std.proofs.Common.{ap, ◌∙◌}
+use Rattle.rma_call.specs.Call.{CallTable}
+use Rattle.rma_book.specs.Logs.{whole_lines}
+use Rattle.rma_book.specs.inside.RankState.{RankState}
+use Rattle.rma_book.proofs.ReadingLemmas.{HasGood_read}
+use Rattle.rma_book.proofs.WholeLemmas.{whole_read}
+use Rattle.rma_book.proofs.rank_book.RankBook.read_calls.Goals as goal
+
+pub returns : goal.returns
+returns c = λ rank logs bytes h.
+    let state = c.args.self.now in
+    let good = HasGood_read rank logs (whole_lines bytes) state.reader (whole_read rank logs state bytes h) in (
+      good.count,
+      good.until,
+      ap (λ (table : CallTable). table.calls) c.calls.ensures ∙ ap (λ (s : RankState). s.reader.lines.calls.calls) c.self.view_is ∙ good.calls,
+    )

@@ -1,0 +1,28 @@
+use Rattle.std.proofs.Common.{sym, ap, refl, append-nil, ◌∙◌}
+use Rattle.rma_reader.specs.Reading.{Reading}
+use Rattle.rma_book.specs.declared.reader.Reader.{Reader}
+use Rattle.rma_book.proofs.ReadingLemmas.{Reads_refused, Reads_taken}
+use Rattle.rma_book.proofs.reader.Reader.read_header.Goals as goal
+
+pub returns-in-Some : goal.returns-in-Some
+returns-in-Some c = λ site.
+    Reads_refused c.args.self.now c.refuse.new.self c.args.no _ (record { line = c.args.no; reason = c.in-Some.reason })
+    (rw c.refuse.ensures (record {
+      judged = c.in-Some.ensures c.args.version;
+      line = refl;
+      calls = refl;
+      end = refl;
+    }))
+    (ap (λ (reader : Reader). reader.fault) c.refuse.ensures)
+
+pub returns-in-None : goal.returns-in-None
+returns-in-None c = λ site.
+    let set = c.set_version.ensures in
+    Reads_taken c.args.self.now _ c.args.no _
+    (record {
+      judged = c.in-None.ensures c.args.version;
+      version = ap (λ (lines : Reading). lines.version) set;
+      calls = λ events h. ap (λ (lines : Reading). lines.calls.calls) set ∙ sym (append-nil c.args.self.now.lines.calls.calls);
+      end = refl;
+    })
+    c.requires

@@ -1,0 +1,255 @@
+//! The calls of a log, and the numbers of what they share.
+ghost use Rattle.std.specs.Prelude.{◌≡◌, ◌+◌, ◌<◌, ◌^◌, ◌++◌, ◌∷◌, [], length, slice_get, IfOk, IfErr, IfSome, OnOk, Some, option_map, true};
+ghost use Rattle.std.specs.Option.{option_and_then};
+ghost use Rattle.rma_call.specs.declared.what.What.{What};
+ghost use Rattle.rma_call.specs.Call.{no_calls};
+ghost use Rattle.rma_field.specs.Sites.{site};
+ghost use Rattle.rma_field.specs.Steps.{Fails, Gives};
+ghost use Rattle.rma_parse.specs.declared.event.Event.{Event};
+ghost use Rattle.rma_reader.specs.Reading.{IsEvent, IsRead, IsSite};
+ghost use Rattle.rma_reader.specs.inside.Split.{stated_at};
+ghost use Rattle.rma_reader.specs.inside.Tables.{AddsSites, AddsWhats, Extends, IsNumbered, Reads};
+
+use crate::key::key_of;
+use crate::known_sites::KnownSites;
+use crate::read_line::{ReadEvent, ReadLine};
+use indexmap::IndexMap;
+use rma_base::{FormReason, LineNo, Memory, NameError, Site};
+use rma_call::{CallList, What};
+use rma_parse::{Event, ParseError, ParseFault, Stated};
+use std::alloc::Global;
+use std::marker::Model;
+
+/// The calls of a log. What is read of a line has the numbers of their tables.
+#[derive(Drop)]
+pub(crate) struct NumberedCalls {
+    /// The calls.
+    list: CallList,
+    /// The number of each site, by the key of its text. Of two texts with one key the first keeps the key.
+    sites: IndexMap<u64, u32>,
+    /// The sites that come again.
+    known: KnownSites,
+}
+
+impl Model for NumberedCalls {
+    ghost use Rattle.std.specs.Prelude.{length};
+    ghost use Rattle.rma_call.specs.Call.{CallTable};
+    ghost use Rattle.rma_reader.specs.inside.SiteSlots.{AreNumbered};
+    ghost use Rattle.rma_reader.specs.inside.Tables.{AreBelow};
+
+    ghost Value = { CallTable };
+
+    ghost view = { λ calls. calls.list };
+
+    ghost invariant = { λ calls. AreBelow (length calls.list.sites) calls.sites × AreNumbered calls.list calls.known.slots.items };
+}
+
+impl NumberedCalls {
+    /// No calls.
+    pub(crate) fn new(alloc: Global) -> NumberedCalls
+        ensures { result ≡ no_calls }
+    {
+        NumberedCalls {
+            list: CallList::new(alloc),
+            sites: IndexMap::new(alloc),
+            known: KnownSites::new(alloc),
+        }
+    }
+
+    /// The calls.
+    #[inline]
+    pub(crate) fn list(&self) -> &CallList
+        ensures { result.now ≡ self.now }
+    {
+        &self.list
+    }
+
+    /// The calls, where no more are read.
+    pub(crate) fn into_list(self) -> CallList
+        ensures { result ≡ self }
+    {
+        self.list
+    }
+
+    /// Appends the call of these numbers.
+    #[inline]
+    pub(crate) fn push(
+        &mut self,
+        line: LineNo,
+        site: Option<u32>,
+        what: u32,
+        request: Option<u32>,
+    ) -> Result<(), Memory>
+        requires site { IfSome site (λ number. number < length self.old.sites) }
+        requires what { what < length self.old.whats }
+        requires request { IfSome request (λ number. number + 1 < 2 ^ 32) }
+        ensures ok { OnOk result ((value : What) → slice_get self.old.whats what ≡ Some value → self.new ≡ record self.old {
+          calls = self.old.calls ++ record { line = line; site = option_and_then (slice_get self.old.sites) site; what = value; request = request } ∷ [];
+        }) }
+        ensures whats { self.new.whats ≡ self.old.whats }
+    {
+        self.list.push(line, site, what, request)
+    }
+
+    /// What the line states, by numbers.
+    pub(crate) fn read(&mut self, alloc: Global, stated: Stated) -> Result<ReadLine, Memory>
+        ensures read { IfOk result (λ read. IsRead self.new read stated) }
+        ensures extends { Extends self.old self.new }
+    {
+        let Stated { event, site } = stated;
+        let event = self.read_event(event)?;
+        let site = self.read_site(alloc, site)?;
+        Ok(ReadLine { event, site })
+    }
+
+    /// What is read of a line whose words state this event, and this is the text of its site.
+    #[inline]
+    pub(crate) fn read_at(
+        &mut self,
+        alloc: Global,
+        event: ReadEvent,
+        site: Option<&[u8]>,
+    ) -> Result<Option<ReadLine>, ParseError>
+        ensures read { (stated : Event) → IsEvent self.old event stated → Reads self.new result (stated_at stated (option_map (λ text. text.now) site.entry)) }
+        ensures adds { AddsSites self.old self.new }
+    {
+        let Some(text) = site else {
+            return Ok(Some(ReadLine { event, site: None }));
+        };
+        let site = Some(self.site(alloc, text)?);
+        Ok(Some(ReadLine { event, site }))
+    }
+
+    /// The event, where what a call does has a number.
+    pub(crate) fn read_event(&mut self, event: Event) -> Result<ReadEvent, Memory>
+        ensures event { IfOk result (λ read. IsEvent self.new read event) }
+        ensures adds { AddsWhats self.old self.new }
+    {
+        match event {
+            Event::Header {
+                version,
+                rank,
+                size,
+            } => Ok(ReadEvent::Header {
+                version,
+                rank,
+                size,
+            }),
+            Event::End => Ok(ReadEvent::End),
+            Event::Call { what, request } => {
+                let what = self.list.add_what(what)?;
+                Ok(ReadEvent::Call { what, request })
+            }
+        }
+    }
+
+    /// The number of the site, if there is one.
+    fn read_site(&mut self, alloc: Global, site: Option<Site>) -> Result<Option<u32>, Memory>
+        ensures site { IfOk result (λ number. IsSite self.new number site) }
+        ensures adds { AddsSites self.old self.new }
+    {
+        let Some(site) = site else {
+            return Ok(None);
+        };
+        match self.site(alloc, site.bytes()) {
+            Ok(number) => Ok(Some(number)),
+            Err(_) => Err(Memory),
+        }
+    }
+
+    /// The number of the site of this text.
+    #[inline]
+    fn site(&mut self, alloc: Global, text: &[u8]) -> Result<u32, ParseError>
+        ensures ok { IfOk result (λ number. IsNumbered self.new text.now number) }
+        ensures err { IfErr result (λ error. Fails error (site text.now)) }
+        ensures adds { AddsSites self.old self.new }
+    {
+        let key = key_of(text);
+        match self.known.number(key, text) {
+            Some(number) => Ok(number),
+            None => self.look_up(alloc, key, text),
+        }
+    }
+
+    /// The number of a site that is not known to come again, of this key.
+    #[inline(never)]
+    fn look_up(&mut self, alloc: Global, key: u64, text: &[u8]) -> Result<u32, ParseError>
+        ensures ok { IfOk result (λ number. IsNumbered self.new text.now number) }
+        ensures err { IfErr result (λ error. Fails error (site text.now)) }
+        ensures adds { AddsSites self.old self.new }
+    {
+        match self.sites.get(&key).copied() {
+            Some(number) => {
+                if self.has(number, text) {
+                    self.note(alloc, key, text, number)
+                } else {
+                    self.new_site(alloc, text)
+                }
+            }
+            None => self.keep_site(alloc, key, text),
+        }
+    }
+
+    /// The number of a site that comes again, which is known from now on.
+    fn note(&mut self, alloc: Global, key: u64, text: &[u8], number: u32) -> Result<u32, ParseError>
+        requires { IsNumbered self.old text.now number }
+        ensures ok { IfOk result (λ number. IsNumbered self.new text.now number) }
+        ensures err { IfErr result (λ error. Fails error (site text.now)) }
+        ensures adds { AddsSites self.old self.new }
+    {
+        match self.known.keep(alloc, key, text, number, self.sites.len()) {
+            Ok(()) => Ok(number),
+            Err(Memory) => Err(ParseError::Memory),
+        }
+    }
+
+    /// Whether the site of this number has this text.
+    #[inline]
+    fn has(&self, number: u32, text: &[u8]) -> bool
+        requires { number < length self.now.sites }
+        ensures { result ≡ true → IsNumbered self.now text.now number }
+    {
+        self.list.site(number).bytes() == text
+    }
+
+    /// The number of a site whose key is new.
+    #[inline(never)]
+    fn keep_site(&mut self, alloc: Global, key: u64, text: &[u8]) -> Result<u32, ParseError>
+        ensures ok { IfOk result (λ number. IsNumbered self.new text.now number) }
+        ensures err { IfErr result (λ error. Fails error (site text.now)) }
+        ensures adds { AddsSites self.old self.new }
+    {
+        let number = self.new_site(alloc, text)?;
+        match self.sites.insert(key, number) {
+            Ok(_) => Ok(number),
+            Err(_) => Err(ParseError::Memory),
+        }
+    }
+
+    /// The number of a site that is not known.
+    #[inline(never)]
+    fn new_site(&mut self, alloc: Global, text: &[u8]) -> Result<u32, ParseError>
+        ensures ok { IfOk result (λ number. IsNumbered self.new text.now number) }
+        ensures err { IfErr result (λ error. Fails error (site text.now)) }
+        ensures adds { AddsSites self.old self.new }
+    {
+        let site = new_site(alloc, text)?;
+        match self.list.add_site(site) {
+            Ok(number) => Ok(number),
+            Err(Memory) => Err(ParseError::Memory),
+        }
+    }
+}
+
+/// The site of this text.
+fn new_site(alloc: Global, text: &[u8]) -> Result<Site, ParseError>
+    ensures { Gives result (site text.now) }
+{
+    match Site::new(alloc, text) {
+        Ok(site) => Ok(site),
+        Err(NameError::Bad) => Err(ParseError::Fault(ParseFault {
+            reason: FormReason::BadName,
+        })),
+        Err(NameError::Memory) => Err(ParseError::Memory),
+    }
+}
