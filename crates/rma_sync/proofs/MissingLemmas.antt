@@ -9,11 +9,10 @@ use Rattle.std.specs.HashMap.{HashMap}
 use Rattle.std.specs.declared.hash.FoldHasher.{FoldHasher}
 use Rattle.std.specs.declared.hash.BuildHasherDefault.{BuildHasherDefault}
 use Rattle.std.specs.Cmp.Lexicographic.{pointwise, same_text, nat_list_eq_equiv}
-use Rattle.rma_call.specs.declared.call.RankCalls.{RankCalls}
 use Rattle.rma_sync.specs.declared.kind.Kind.{Kind}
 use Rattle.rma_sync.specs.declared.missing.MissingOfKind.{MissingOfKind}
 use Rattle.rma_base.specs.declared.rank.Rank.{Rank}
-use Rattle.rma_call.specs.declared.call.Call.{Call}
+use Rattle.rma_call.specs.Call.{Call, RankCalls}
 use Rattle.rma_sync.specs.declared.kind.Kind.TheVariants as kind
 use Rattle.rma_sync.specs.Collective.{made, named, is_on, count_of, walked, walked_all}
 use Rattle.rma_sync.specs.inside.Scan.{IsBalanced, AreBalanced}

@@ -1,6 +1,6 @@
 -- What is kept of the calls of a run, with one more rank.
 use Rattle.std.proofs.Common.{◌≡◌, ℕ, ◌+◌, ◌≤◌, List, [], refl, sym, subst, ◌∙◌, append-nil, arith}
-use Rattle.rma_call.specs.declared.call.RankCalls.{RankCalls}
+use Rattle.rma_call.specs.Call.{RankCalls}
 use Rattle.rma_sync.specs.declared.kind.Kind.{Kind}
 use Rattle.rma_sync.specs.declared.kind.Kind.TheVariants as kind
 use Rattle.rma_sync.specs.declared.scan.Scan.{Scan}

@@ -1,5 +1,5 @@
 -- The calls of the ranks so far, with one more call or one more rank.
-use Rattle.std.proofs.Common.{◌≡◌, ℕ, zero, suc, ◌+◌, ◌≢◌, Bool, true, false, cond, List, [], ◌∷◌, ◌++◌, length, Option, Some, None, nat_eq, eqb, refl, sym, ap, subst, ◌∙◌, append_assoc, arith}
+use Rattle.std.proofs.Common.{◌≡◌, ℕ, zero, suc, ◌+◌, ◌≢◌, Bool, true, false, cond, List, [], ◌∷◌, ◌++◌, length, take, slice_get, Option, Some, None, nat_eq, eqb, refl, sym, ap, subst, ◌∙◌, append_assoc, arith}
 use Rattle.std.specs.List.{cons_option}
 use Rattle.std.specs.Option.{option_map_or}
 use Rattle.std.specs.Cmp.Lexicographic.{pointwise, same_text}
@@ -9,15 +9,15 @@ use Rattle.std.proofs.lemmas.List.{flat_map_more}
 use Rattle.std.proofs.lemmas.List.Elements.{filter_map-append}
 use Rattle.std.proofs.lemmas.List.Sums.{sum_by-append, sum_by-cons}
 use Rattle.rma_base.specs.declared.rank.Rank.{Rank}
-use Rattle.rma_call.specs.declared.call.Call.{Call}
-use Rattle.rma_call.specs.declared.call.RankCalls.{RankCalls}
+use Rattle.rma_call.specs.Call.{Call, RankCalls}
 use Rattle.rma_call.specs.declared.what.What.{What}
 use Rattle.rma_sync.specs.declared.kind.Kind.{Kind}
 use Rattle.rma_sync.specs.declared.call_count.CallCounts.{CallCounts}
 use Rattle.rma_sync.specs.Collective.{named, is_on, count_of, made, made_on, so_far, walked, walked_all, collective_at, collectives}
 use Rattle.rma_sync.specs.Declaration.{declaration_of, declarations_of, declarations}
 use Rattle.rma_sync.specs.inside.CallCount.{counted, AreCallCounts}
-use Rattle.rma_sync.proofs.WalkLemmas.{walked_push}
+use Rattle.rma_sync.specs.inside.NameCount.{AreCounts, IsCounted}
+use Rattle.rma_sync.proofs.WalkLemmas.{taken_there, walked_push}
 use Rattle.rma_sync.proofs.CallCountLemmas.{AreCallCounts_same, AreCallCounts_counted}
 
 -- ---- what is listed of the calls
@@ -73,6 +73,15 @@ count_of_push : (kind : Kind) (name : List ℕ) (before : List Call) (call : Cal
 count_of_push kind name before call =
     let one = λ (c : Call). cond (is_on kind name c) 1 0 in
     sum_by-append one before (call ∷ []) ∙ ap (λ n. count_of kind name before + n) (sum_by-cons one call [] ∙ omega arith)
+
+-- the numbers with the next call
+pub AreCounts_counted : (kind : Kind) (calls : List Call) (i : ℕ) (call : Call) (old new : List (List ℕ × ℕ)) → slice_get calls i ≡ Some call →
+    AreCounts kind (take i calls) old → IsCounted kind old new call → AreCounts kind (take (i + 1) calls) new
+AreCounts_counted kind calls i call old new there are counted = λ name.
+    counted name
+    ∙ ap (λ n. n + cond (is_on kind name call) 1 0) (are name)
+    ∙ sym (count_of_push kind name (take i calls) call)
+    ∙ ap (count_of kind name) (sym (taken_there calls i call there))
 
 module _ (kind : Kind) (name : List ℕ) (done : List RankCalls) (own : RankCalls) (before : List Call) (index : ℕ) (at : length done ≡ index) where
   pub made_now : made kind (so_far done own before) index name ≡ count_of kind name before

@@ -1,15 +1,20 @@
 -- One more element at a loop's step.
-use Rattle.std.proofs.Common.{◌≡◌, ℕ, ◌+◌, ◌<◌, List, [], ◌∷◌, ◌++◌, length, get_or, take, Option, Some, None, refl, sym, ap, ◌∙◌}
+use Rattle.std.proofs.Common.{◌≡◌, ℕ, ◌+◌, ◌<◌, List, [], ◌∷◌, ◌++◌, length, get_or, take, Option, Some, None, slice_get, refl, sym, ap, ◌∙◌}
 use Rattle.rma_base.specs.declared.rank.Rank.{Rank}
-use Rattle.rma_call.specs.declared.call.Call.{Call}
+use Rattle.rma_call.specs.Call.{Call}
 use Rattle.rma_sync.specs.Collective.{walked}
 use Rattle.std.specs.List.{filter_map, flat_map, cons_option}
 use Rattle.std.proofs.lemmas.List.{take_more, append_assoc, append-nil, flat_map_more}
 use Rattle.std.proofs.lemmas.List.Elements.{filter_map-append}
+use Rattle.std.proofs.lemmas.Option.{slice_get_within, get_or_from_slice_get}
 
 -- the prefix with the element after it
 pub taken : {X : Type 0} (xs : List X) (i : ℕ) (x : X) → i < length xs → x ≡ get_or xs i x → take (i + 1) xs ≡ take i xs ++ x ∷ []
 taken xs i x lt is = take_more xs i x lt ∙ ap (λ y. take i xs ++ y ∷ []) (sym is)
+
+-- the same of the element that stands there
+pub taken_there : {X : Type 0} (xs : List X) (i : ℕ) (x : X) → slice_get xs i ≡ Some x → take (i + 1) xs ≡ take i xs ++ x ∷ []
+taken_there xs i x there = taken xs i x (slice_get_within xs i x there) (sym (get_or_from_slice_get xs i x x there))
 
 module _ {X Y : Type 0} where
   -- what a map that may skip makes of one more element

@@ -24,7 +24,7 @@ same_ranks first own = pointwise nat_eq own first
 
 -- the window that a call creates, and what it is created with
 abbrev pub created : What → Option (List ℕ × WindowAttributes)
-created (Sync (Window (Create window comm base size unit model ops))) = Some (window, record { comm = comm; model = model; ops = ops })
+created (Sync (Window (Create window comm base size unit model ops dynamic))) = Some (window, record { comm = comm; model = model; ops = ops })
 created _ = None
 
 -- whether two memory models are the same

@@ -6,8 +6,7 @@ use Rattle.std.specs.Option.{option_map_or}
 use Rattle.std.specs.Cmp.Lexicographic.{pointwise}
 use Rattle.rma_base.specs.declared.rank.Rank.{Rank}
 use Rattle.rma_base.specs.declared.line.LineNo.{LineNo}
-use Rattle.rma_call.specs.declared.call.Call.{Call}
-use Rattle.rma_call.specs.declared.call.RankCalls.{RankCalls}
+use Rattle.rma_call.specs.Call.{Call, RankCalls}
 use Rattle.rma_call.specs.declared.what.What.{What}
 use Rattle.rma_call.specs.declared.what.What.TheVariants.{Sync}
 use Rattle.rma_call.specs.declared.what.SyncCall.TheVariants.{Frame, Window}
@@ -19,12 +18,12 @@ use Rattle.rma_sync.specs.declared.kind.Kind.TheVariants as kind
 -- the communicator of a collective call
 abbrev pub comm_of : What → Option (List ℕ)
 comm_of (Sync (Frame (Barrier comm))) = Some comm
-comm_of (Sync (Window (Create window comm base size unit model ops))) = Some comm
+comm_of (Sync (Window (Create window comm base size unit model ops dynamic))) = Some comm
 comm_of _ = None
 
 -- the window that a collective call creates: a barrier creates none
 abbrev pub window_of : What → Option (List ℕ)
-window_of (Sync (Window (Create window comm base size unit model ops))) = Some window
+window_of (Sync (Window (Create window comm base size unit model ops dynamic))) = Some window
 window_of _ = None
 
 -- the window that a call frees

@@ -3,9 +3,8 @@ use Rattle.std.specs.Prelude.{ℕ, List, Bool, Option, option_map, find, nat_eq}
 use Rattle.std.specs.List.{filter_map, flat_map}
 use Rattle.std.specs.Cmp.Lexicographic.{pointwise}
 use Rattle.rma_base.specs.declared.rank.Rank.{Rank}
-use Rattle.rma_call.specs.declared.call.Call.{Call}
+use Rattle.rma_call.specs.Call.{Call, RankCalls}
 use Rattle.rma_call.specs.declared.what.What.{What}
-use Rattle.rma_call.specs.declared.call.RankCalls.{RankCalls}
 use Rattle.rma_sync.specs.declared.declaration.Declaration.{Declaration}
 
 -- what a call of a rank declares, where it is of the kind

@@ -20,7 +20,7 @@ pub(crate) fn counts_by_rank(
 {
     let mut counts_by_rank = Sequence::new(alloc);
     for rank in ranks {
-        let counts = name_count::count_all(alloc, kind, rank.calls.as_slice())?;
+        let counts = name_count::count_all(alloc, kind, rank.calls())?;
         counts_by_rank.push(counts)?;
     }
     Ok(counts_by_rank)

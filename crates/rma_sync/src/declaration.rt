@@ -1,12 +1,13 @@
 //! What the calls of a run declare: communicators and windows, each with its attributes.
 ghost use Rattle.std.specs.Prelude.{◌≡◌, ◌++◌, [], OnOk, IfOk, option_copied};
 ghost use Rattle.std.specs.List.{cons_option};
+ghost use Rattle.rma_call.specs.Call.{call_of};
 ghost use Rattle.rma_sync.specs.Declaration.{declaration_of, first_of};
 
 use crate::first_index::first_indexes;
 use indexmap::IndexMap;
 use rma_base::{LineNo, Memory, Name, Rank, Sequence};
-use rma_call::{Call, What};
+use rma_call::{CallRef, What};
 use std::alloc::Global;
 use std::marker::Model;
 
@@ -92,12 +93,12 @@ impl<T: Attributes> Declarations<T> {
 /// Appends what a call declares, if it is of the kind.
 pub fn push_declaration<T: Attributes>(
     rank: Rank,
-    call: &Call,
+    call: CallRef<'_>,
     list: &mut Sequence<Declaration<T>>,
 ) -> Result<(), Memory>
-    ensures { OnOk result (list.new ≡ list.old ++ cons_option (declaration_of T.stated rank call.now) []) }
+    ensures { OnOk result (list.new ≡ list.old ++ cons_option (declaration_of T.stated rank (call_of call.entry)) []) }
 {
-    match T::of(call.what.get()) {
+    match T::of(call.what) {
         Ok(Some((name, attributes))) => list.push(Declaration {
             rank,
             line: call.line,

@@ -1,8 +1,7 @@
 //! The calls of all ranks that free windows.
 ghost use Rattle.std.specs.Prelude.{◌≡◌, ◌++◌, [], ◌∷◌, ℕ, List, true, length, nat_eq, OnOk, if◌then◌else◌};
 ghost use Rattle.std.specs.Cmp.Lexicographic.{pointwise};
-ghost use Rattle.rma_call.specs.declared.call.Call.{Call};
-ghost use Rattle.rma_call.specs.declared.call.RankCalls.{RankCalls};
+ghost use Rattle.rma_call.specs.Call.{Call, RankCalls, call_of};
 ghost use Rattle.rma_sync.specs.declared.kind.Kind.TheVariants as kind;
 ghost use Rattle.rma_sync.specs.Collective.{so_far};
 ghost use Rattle.rma_sync.specs.inside.CallCount.{counted, call_counts_of};
@@ -14,7 +13,7 @@ use crate::kind::{self, Kind};
 use crate::member::Members;
 use indexmap::IndexMap;
 use rma_base::{Memory, Name};
-use rma_call::Call;
+use rma_call::CallRef;
 use std::alloc::Global;
 
 /// How many calls each rank makes that free a window.
@@ -34,11 +33,16 @@ impl FreeCounts {
     }
 
     /// Counts a call of the current rank, if it frees a window.
-    pub(crate) fn scan(&mut self, alloc: Global, index: usize, call: &Call) -> Result<(), Memory>
+    pub(crate) fn scan(
+        &mut self,
+        alloc: Global,
+        index: usize,
+        call: CallRef<'_>,
+    ) -> Result<(), Memory>
         ensures { OnOk result ((done : List RankCalls) (own : RankCalls) (before : List Call) → length done ≡ index
-            → AreFrees (so_far done own before) index self.old → AreFrees (so_far done own (before ++ call.now ∷ [])) index self.new) }
+            → AreFrees (so_far done own before) index self.old → AreFrees (so_far done own (before ++ call_of call.entry ∷ [])) index self.new) }
     {
-        let Some(window) = kind::freed(call) else {
+        let Some(window) = kind::freed(call.what) else {
             return Ok(());
         };
         count(alloc, &mut self.windows, window, index)?;

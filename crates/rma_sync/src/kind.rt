@@ -3,7 +3,7 @@ ghost use Rattle.std.specs.Prelude.{◌≡◌, option_copied};
 ghost use Rattle.rma_sync.specs.Collective.{comm_of, window_of, freed, named};
 
 use rma_base::Name;
-use rma_call::{Call, FrameCall, SyncCall, What, WindowCall};
+use rma_call::{FrameCall, SyncCall, What, WindowCall};
 
 /// A kind of calls that every member has to make.
 #[derive(Clone, Copy, Debug, PartialEq, Eq)]
@@ -15,20 +15,20 @@ pub enum Kind {
 }
 
 /// What a call of this kind is on.
-pub(crate) fn named(kind: Kind, call: &Call) -> Option<&Name>
-    ensures { option_copied result ≡ named kind call.now.what }
+pub(crate) fn named(kind: Kind, what: &What) -> Option<&Name>
+    ensures { option_copied result ≡ named kind what.now }
 {
     match kind {
-        Kind::Collective => comm_of(call),
-        Kind::Free => freed(call),
+        Kind::Collective => comm_of(what),
+        Kind::Free => freed(what),
     }
 }
 
 /// The communicator of a collective call.
-pub(crate) fn comm_of(call: &Call) -> Option<&Name>
-    ensures { option_copied result ≡ comm_of call.now.what }
+pub(crate) fn comm_of(what: &What) -> Option<&Name>
+    ensures { option_copied result ≡ comm_of what.now }
 {
-    match call.what.get() {
+    match what {
         What::Sync(SyncCall::Frame(FrameCall::Barrier { comm }))
         | What::Sync(SyncCall::Window(WindowCall::Create { comm, .. })) => Some(comm),
         _ => None,
@@ -36,20 +36,20 @@ pub(crate) fn comm_of(call: &Call) -> Option<&Name>
 }
 
 /// The window that a collective call creates: a barrier creates none.
-pub(crate) fn window_of(call: &Call) -> Option<&Name>
-    ensures { option_copied result ≡ window_of call.now.what }
+pub(crate) fn window_of(what: &What) -> Option<&Name>
+    ensures { option_copied result ≡ window_of what.now }
 {
-    match call.what.get() {
+    match what {
         What::Sync(SyncCall::Window(WindowCall::Create { window, .. })) => Some(window),
         _ => None,
     }
 }
 
 /// The window that a call frees.
-pub(crate) fn freed(call: &Call) -> Option<&Name>
-    ensures { option_copied result ≡ freed call.now.what }
+pub(crate) fn freed(what: &What) -> Option<&Name>
+    ensures { option_copied result ≡ freed what.now }
 {
-    match call.what.get() {
+    match what {
         What::Sync(SyncCall::Window(WindowCall::Free { window })) => Some(window),
         _ => None,
     }

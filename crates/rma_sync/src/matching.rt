@@ -1,6 +1,6 @@
 //! All calls that the calls of other ranks do not match.
 ghost use Rattle.std.specs.Prelude.{◌≡◌, ◌++◌, [], ℕ, List, true, IfOk, OnOk};
-ghost use Rattle.rma_call.specs.declared.call.RankCalls.{RankCalls};
+ghost use Rattle.rma_call.specs.Call.{RankCalls};
 ghost use Rattle.rma_sync.specs.inside.Round.{AreRounds};
 ghost use Rattle.rma_sync.specs.inside.Scan.{AreFrees};
 ghost use Rattle.rma_sync.specs.inside.Member.{AreMembers};

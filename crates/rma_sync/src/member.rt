@@ -1,6 +1,6 @@
 //! Who has to make a call: the members of its communicator, or of the communicator of its window.
 ghost use Rattle.std.specs.Prelude.{◌≡◌, List, IfOk};
-ghost use Rattle.rma_call.specs.declared.call.RankCalls.{RankCalls};
+ghost use Rattle.rma_call.specs.Call.{RankCalls};
 ghost use Rattle.rma_sync.specs.Declaration.{declarations};
 ghost use Rattle.rma_sync.specs.Attribute.{declared, created};
 ghost use Rattle.rma_sync.specs.Member.{members_of_comm, members};
@@ -35,7 +35,7 @@ impl Members {
     {
         let comms = Declarations::new(alloc, comms)?;
         let creations = Declarations::new(alloc, creations)?;
-        let everyone = ranks.iter().map(|rank| rank.rank.0).collect(alloc)?;
+        let everyone = ranks.iter().map(|rank| rank.rank().0).collect(alloc)?;
         Ok(Members {
             comms,
             creations,

@@ -1,8 +1,7 @@
 //! Calls that some member does not make.
 ghost use Rattle.std.specs.Prelude.{◌≡◌, ◌+◌, ◌<◌, ◌^◌, ◌++◌, ◌∷◌, [], ℕ, List, IfOk, OnOk};
 ghost use Rattle.std.specs.Option.{option_or};
-ghost use Rattle.rma_call.specs.declared.call.Call.{Call};
-ghost use Rattle.rma_call.specs.declared.call.RankCalls.{RankCalls};
+ghost use Rattle.rma_call.specs.Call.{Call, RankCalls, call_of};
 ghost use Rattle.rma_sync.specs.declared.kind.Kind.{Kind};
 ghost use Rattle.rma_sync.specs.declared.kind.Kind.TheVariants as kind;
 ghost use Rattle.rma_sync.specs.Collective.{walked};
@@ -18,7 +17,7 @@ use crate::member::Members;
 use crate::{by_rank, name_count};
 use indexmap::IndexMap;
 use rma_base::{MatchReason, Memory, Name, Rank, Sequence};
-use rma_call::{Call, MatchFault, RankCalls};
+use rma_call::{CallRef, MatchFault, RankCalls};
 use std::alloc::Global;
 
 /// What tells the missing calls of a kind.
@@ -82,14 +81,14 @@ impl MissingOfKind {
         members: &Members,
         counts: &IndexMap<Name, usize>,
         rank: Rank,
-        call: &Call,
+        call: CallRef<'_>,
     ) -> Result<Option<MatchFault>, Memory>
         ensures fault { IfOk result (λ fault. (kind : Kind) (ranks : List RankCalls) (before : List Call) → AreMembers ranks members.now
-            → IsMissingOfKind kind ranks self.old → AreCounts kind before counts.now.entries → fault ≡ missing_of kind ranks rank before call.now) }
+            → IsMissingOfKind kind ranks self.old → AreCounts kind before counts.now.entries → fault ≡ missing_of kind ranks rank before (call_of call.entry)) }
         ensures missing { OnOk result ((kind : Kind) (ranks : List RankCalls) → AreMembers ranks members.now → IsMissingOfKind kind ranks self.old
             → IsMissingOfKind kind ranks self.new) }
     {
-        let Some(name) = kind::named(self.kind, call) else {
+        let Some(name) = kind::named(self.kind, call.what) else {
             return Ok(None);
         };
         let number = name_count::count(counts, name);
@@ -119,21 +118,18 @@ impl MissingCalls {
         collectives: &IndexMap<Name, usize>,
         frees: &IndexMap<Name, usize>,
         rank: Rank,
-        call: &Call,
+        call: CallRef<'_>,
     ) -> Result<Option<MatchFault>, Memory>
         ensures fault { IfOk result (λ fault. (ranks : List RankCalls) (before : List Call) → AreMissingCalls ranks self.old
             → AreCounts kind.Collective before collectives.now.entries → AreCounts kind.Free before frees.now.entries
-            → fault ≡ missing_at ranks rank before call.now) }
+            → fault ≡ missing_at ranks rank before (call_of call.entry)) }
         ensures missing { OnOk result ((ranks : List RankCalls) → AreMissingCalls ranks self.old → AreMissingCalls ranks self.new) }
     {
         let collective = self
             .collectives
             .judge(&self.members, collectives, rank, call)?;
         let free = self.frees.judge(&self.members, frees, rank, call)?;
-        Ok(match collective {
-            Some(fault) => Some(fault),
-            None => free,
-        })
+        Ok(collective.or(free))
     }
 }
 
@@ -166,8 +162,10 @@ fn judge_rank(
 {
     let mut collectives = IndexMap::new(alloc);
     let mut frees = IndexMap::new(alloc);
-    for call in rank.calls.as_slice() {
-        let fault = missing.judge(&collectives, &frees, rank.rank, call)?;
+    let calls = rank.calls();
+    for i in 0..calls.len() {
+        let call = calls.get(i);
+        let fault = missing.judge(&collectives, &frees, rank.rank(), call)?;
         push_some(faults, fault)?;
         name_count::note(Kind::Collective, &mut collectives, call)?;
         name_count::note(Kind::Free, &mut frees, call)?;
@@ -186,8 +184,8 @@ fn reaches(fewest: Option<usize>, number: usize) -> bool
 }
 
 /// The fault of a call, if some member does not make it.
-fn fault_if(lacking: bool, rank: Rank, call: &Call) -> Option<MatchFault>
-    ensures { result ≡ fault_if lacking rank call.now }
+fn fault_if(lacking: bool, rank: Rank, call: CallRef<'_>) -> Option<MatchFault>
+    ensures { result ≡ fault_if lacking rank (call_of call.entry) }
 {
     if !lacking {
         return None;

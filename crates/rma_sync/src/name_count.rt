@@ -1,11 +1,12 @@
 //! How many calls of a kind a rank makes on each name.
 ghost use Rattle.std.specs.Prelude.{◌≡◌, ℕ, ◌+◌, ◌<◌, ◌^◌, List, OnOk, IfOk};
+ghost use Rattle.rma_call.specs.Call.{call_of};
 ghost use Rattle.rma_sync.specs.inside.NameCount.{count_in, IsCounted, AreCounts};
 
 use crate::kind::{self, Kind};
 use indexmap::IndexMap;
 use rma_base::{Memory, Name};
-use rma_call::Call;
+use rma_call::{CallList, CallRef};
 use std::alloc::Global;
 
 /// The number of calls on the name.
@@ -22,12 +23,12 @@ pub(crate) fn count(counts: &IndexMap<Name, usize>, name: &Name) -> usize
 pub(crate) fn note(
     kind: Kind,
     counts: &mut IndexMap<Name, usize>,
-    call: &Call,
+    call: CallRef<'_>,
 ) -> Result<(), Memory>
     requires { (name : List ℕ) → count_in counts.old.entries name + 1 < 2 ^ 64 }
-    ensures { OnOk result (IsCounted kind counts.old.entries counts.new.entries call.now) }
+    ensures { OnOk result (IsCounted kind counts.old.entries counts.new.entries (call_of call.entry)) }
 {
-    let Some(name) = kind::named(kind, call) else {
+    let Some(name) = kind::named(kind, call.what) else {
         return Ok(());
     };
     if let Some(number) = counts.get_mut(name) {
@@ -45,13 +46,13 @@ pub(crate) fn note(
 pub(crate) fn count_all(
     alloc: Global,
     kind: Kind,
-    calls: &[Call],
+    calls: &CallList,
 ) -> Result<IndexMap<Name, usize>, Memory>
-    ensures { IfOk result (λ counts. AreCounts kind calls.now counts.entries) }
+    ensures { IfOk result (λ counts. AreCounts kind calls.now.calls counts.entries) }
 {
     let mut counts = IndexMap::new(alloc);
-    for call in calls {
-        match note(kind, &mut counts, call) {
+    for i in 0..calls.len() {
+        match note(kind, &mut counts, calls.get(i)) {
             Ok(()) => {}
             Err(error) => return Err(error),
         }

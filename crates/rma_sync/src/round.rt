@@ -3,8 +3,7 @@ ghost use Rattle.std.specs.Prelude.{◌≡◌, ◌++◌, [], ◌∷◌, ℕ, Lis
 ghost use Rattle.std.specs.List.{cons_option};
 ghost use Rattle.std.specs.Option.{option_and_then};
 ghost use Rattle.std.specs.Cmp.Lexicographic.{pointwise};
-ghost use Rattle.rma_call.specs.declared.call.Call.{Call};
-ghost use Rattle.rma_call.specs.declared.call.RankCalls.{RankCalls};
+ghost use Rattle.rma_call.specs.Call.{Call, RankCalls, call_of};
 ghost use Rattle.rma_sync.specs.Collective.{so_far};
 ghost use Rattle.rma_sync.specs.declared.kind.Kind.TheVariants as kind;
 ghost use Rattle.rma_sync.specs.inside.Member.{AreMembers};
@@ -19,7 +18,7 @@ use crate::kind::{self, Kind};
 use crate::member::Members;
 use indexmap::IndexMap;
 use rma_base::{LineNo, MatchReason, Memory, Name, Rank, Sequence};
-use rma_call::{Call, MatchFault};
+use rma_call::{CallRef, MatchFault};
 use std::alloc::Global;
 
 /// The first collective call of a round.
@@ -67,18 +66,18 @@ impl CommRounds {
         &mut self,
         index: usize,
         rank: Rank,
-        call: &Call,
+        call: CallRef<'_>,
         faults: &mut Sequence<MatchFault>,
     ) -> Result<(), Memory>
-        ensures joined { OnOk result (self.new ≡ joined self.old index (own_of rank call.now)) }
-        ensures faults { OnOk result (faults.new ≡ faults.old ++ cons_option (option_and_then (λ first. differs first (own_of rank call.now))
+        ensures joined { OnOk result (self.new ≡ joined self.old index (own_of rank (call_of call.entry))) }
+        ensures faults { OnOk result (faults.new ≡ faults.old ++ cons_option (option_and_then (λ first. differs first (own_of rank (call_of call.entry)))
             (slice_get self.old.firsts (number_in self.old.call_counts index))) []) }
     {
         let number = self.call_counts.count(index)?;
         if number < self.firsts.len() {
             return push_some(faults, difference(self.firsts.get(number), rank, call));
         }
-        let window = copied(kind::window_of(call))?;
+        let window = copied(kind::window_of(call.what))?;
         self.firsts.push(First {
             rank,
             line: call.line,
@@ -105,12 +104,12 @@ impl Rounds {
         alloc: Global,
         index: usize,
         rank: Rank,
-        call: &Call,
+        call: CallRef<'_>,
     ) -> Result<(), Memory>
         ensures { OnOk result ((done : List RankCalls) (own : RankCalls) (before : List Call) → length done ≡ index → own.rank ≡ rank
-            → AreRounds (so_far done own before) index self.old → AreRounds (so_far done own (before ++ call.now ∷ [])) index self.new) }
+            → AreRounds (so_far done own before) index self.old → AreRounds (so_far done own (before ++ call_of call.entry ∷ [])) index self.new) }
     {
-        let Some(comm) = kind::comm_of(call) else {
+        let Some(comm) = kind::comm_of(call.what) else {
             return Ok(());
         };
         self.join(alloc, comm, index, rank, call)?;
@@ -124,11 +123,11 @@ impl Rounds {
         comm: &Name,
         index: usize,
         rank: Rank,
-        call: &Call,
+        call: CallRef<'_>,
     ) -> Result<(), Memory>
         ensures joined { OnOk result ((name : List ℕ) → rounds_of self.new.comms.entries name
-            ≡ (if pointwise nat_eq comm.now name then joined (rounds_of self.old.comms.entries comm.now) index (own_of rank call.now) else rounds_of self.old.comms.entries name)) }
-        ensures faults { OnOk result (self.new.faults ≡ self.old.faults ++ cons_option (option_and_then (λ first. differs first (own_of rank call.now))
+            ≡ (if pointwise nat_eq comm.now name then joined (rounds_of self.old.comms.entries comm.now) index (own_of rank (call_of call.entry)) else rounds_of self.old.comms.entries name)) }
+        ensures faults { OnOk result (self.new.faults ≡ self.old.faults ++ cons_option (option_and_then (λ first. differs first (own_of rank (call_of call.entry)))
             (first_at self.old.comms.entries comm.now (number_in (rounds_of self.old.comms.entries comm.now).call_counts index))) []) }
     {
         if let Some(comm_rounds) = self.comms.get_mut(comm) {
@@ -166,10 +165,10 @@ impl Rounds {
 }
 
 /// The fault of a call that differs from the first of its round.
-fn difference(first: &First, rank: Rank, call: &Call) -> Option<MatchFault>
-    ensures { result ≡ differs first.now (own_of rank call.now) }
+fn difference(first: &First, rank: Rank, call: CallRef<'_>) -> Option<MatchFault>
+    ensures { result ≡ differs first.now (own_of rank (call_of call.entry)) }
 {
-    let same = match (&first.window, kind::window_of(call)) {
+    let same = match (&first.window, kind::window_of(call.what)) {
         (None, None) => true,
         (Some(window), Some(own)) => own == window,
         (None, Some(_)) | (Some(_), None) => false,

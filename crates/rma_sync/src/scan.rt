@@ -1,7 +1,6 @@
 //! The calls of a run, scanned once.
 ghost use Rattle.std.specs.Prelude.{◌≡◌, ◌+◌, ◌++◌, [], ◌∷◌, List, length, IfOk, OnOk};
-ghost use Rattle.rma_call.specs.declared.call.Call.{Call};
-ghost use Rattle.rma_call.specs.declared.call.RankCalls.{RankCalls};
+ghost use Rattle.rma_call.specs.Call.{Call, RankCalls, call_of};
 ghost use Rattle.rma_sync.specs.Collective.{so_far};
 ghost use Rattle.rma_sync.specs.inside.Scan.{HasScanned};
 
@@ -10,7 +9,7 @@ use crate::declaration::{Declaration, push_declaration};
 use crate::free::FreeCounts;
 use crate::round::Rounds;
 use rma_base::{Memory, Rank, RankSet, Sequence};
-use rma_call::{Call, RankCalls};
+use rma_call::{CallRef, RankCalls};
 use std::alloc::Global;
 
 /// What the calls of a run declare, the rounds of their collective calls, and how often windows are freed.
@@ -51,16 +50,23 @@ impl Scan {
         ensures { OnOk result ((done : List RankCalls) → length done ≡ index → HasScanned done index self.old
             → HasScanned (done ++ rank.now ∷ []) (index + 1) self.new) }
     {
-        for call in rank.calls.as_slice() {
-            self.scan(alloc, index, rank.rank, call)?;
+        let calls = rank.calls();
+        for i in 0..calls.len() {
+            self.scan(alloc, index, rank.rank(), calls.get(i))?;
         }
         Ok(())
     }
 
     /// Scans the next call of the current rank.
-    fn scan(&mut self, alloc: Global, index: usize, rank: Rank, call: &Call) -> Result<(), Memory>
+    fn scan(
+        &mut self,
+        alloc: Global,
+        index: usize,
+        rank: Rank,
+        call: CallRef<'_>,
+    ) -> Result<(), Memory>
         ensures { OnOk result ((done : List RankCalls) (own : RankCalls) (before : List Call) → length done ≡ index → own.rank ≡ rank
-            → HasScanned (so_far done own before) index self.old → HasScanned (so_far done own (before ++ call.now ∷ [])) index self.new) }
+            → HasScanned (so_far done own before) index self.old → HasScanned (so_far done own (before ++ call_of call.entry ∷ [])) index self.new) }
     {
         push_declaration(rank, call, &mut self.comms)?;
         push_declaration(rank, call, &mut self.creations)?;

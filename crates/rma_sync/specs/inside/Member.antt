@@ -1,6 +1,6 @@
 -- What is kept of the communicators and windows of a run.
 use Rattle.std.specs.Prelude.{◌≡◌, List}
-use Rattle.rma_call.specs.declared.call.RankCalls.{RankCalls}
+use Rattle.rma_call.specs.Call.{RankCalls}
 use Rattle.rma_sync.specs.declared.member.Members.{Members}
 use Rattle.rma_sync.specs.Declaration.{declarations}
 use Rattle.rma_sync.specs.Attribute.{declared, created}

@@ -2,7 +2,7 @@
 use Rattle.std.specs.Prelude.{◌≡◌, ℕ, List, Option, Some, nat_eq}
 use Rattle.std.specs.Map.{lookup}
 use Rattle.std.specs.Cmp.Lexicographic.{pointwise}
-use Rattle.rma_call.specs.declared.call.RankCalls.{RankCalls}
+use Rattle.rma_call.specs.Call.{RankCalls}
 use Rattle.rma_sync.specs.declared.kind.Kind.{Kind}
 use Rattle.rma_sync.specs.declared.kind.Kind.TheVariants.{Collective, Free}
 use Rattle.rma_sync.specs.declared.missing.MissingOfKind.{MissingOfKind}

@@ -1,6 +1,6 @@
 -- How many calls of a kind a rank makes on each name.
 use Rattle.std.specs.Prelude.{◌≡◌, ℕ, ◌+◌, List, unwrap_or, if◌then◌else◌}
-use Rattle.rma_call.specs.declared.call.Call.{Call}
+use Rattle.rma_call.specs.Call.{Call}
 use Rattle.rma_sync.specs.declared.kind.Kind.{Kind}
 use Rattle.rma_sync.specs.Collective.{is_on, count_of}
 use Rattle.rma_sync.specs.inside.FirstIndex.{index_of}

@@ -4,8 +4,7 @@ use Rattle.std.specs.Map.{lookup}
 use Rattle.std.specs.Option.{option_or}
 use Rattle.std.specs.Cmp.Lexicographic.{pointwise}
 use Rattle.rma_base.specs.declared.rank.Rank.{Rank}
-use Rattle.rma_call.specs.declared.call.Call.{Call}
-use Rattle.rma_call.specs.declared.call.RankCalls.{RankCalls}
+use Rattle.rma_call.specs.Call.{Call, RankCalls}
 use Rattle.rma_call.specs.declared.match_fault.MatchFault.{MatchFault}
 use Rattle.rma_sync.specs.declared.kind.Kind.TheVariants as kind
 use Rattle.rma_sync.specs.declared.round.First.{First}

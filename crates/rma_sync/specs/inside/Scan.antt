@@ -1,7 +1,7 @@
 -- What is kept of the calls of a run when they are scanned once.
 use Rattle.std.specs.Prelude.{◌≡◌, ℕ, ◌≤◌, List, true, nat_le}
 use Rattle.std.specs.List.{list_all}
-use Rattle.rma_call.specs.declared.call.RankCalls.{RankCalls}
+use Rattle.rma_call.specs.Call.{RankCalls}
 use Rattle.rma_sync.specs.declared.kind.Kind.{Kind}
 use Rattle.rma_sync.specs.declared.kind.Kind.TheVariants as kind
 use Rattle.rma_sync.specs.declared.free.FreeCounts.{FreeCounts}

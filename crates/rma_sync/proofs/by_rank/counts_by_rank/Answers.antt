@@ -1,6 +1,5 @@
 use Rattle.std.proofs.Common.{List, ◌+◌, ◌++◌, [], ◌∷◌, take, sym, subst}
-use Rattle.rma_call.specs.declared.call.Call.{Call}
-use Rattle.rma_call.specs.declared.call.RankCalls.{RankCalls}
+use Rattle.rma_call.specs.Call.{Call, RankCalls}
 use Rattle.rma_sync.specs.inside.NameCount.{AreCounts}
 use Rattle.rma_sync.specs.inside.ByRank.{Numbers, AreCountsByRank}
 use Rattle.rma_sync.proofs.WalkLemmas.{taken}
@@ -18,4 +17,4 @@ loop-rank-preserved c =
     let S : List RankCalls → Type 0 = λ rs. AreCountsByRank c.args.kind rs (c.loop-rank.counts_by_rank ++ counts ∷ []) in
     subst Q (sym c.in_ok-push.ensures.ok)
     (subst S (sym (taken ranks i rank c.loop-rank-test.true c.rank-item.is))
-    (AreCountsByRank_push c.args.kind (take i ranks) c.loop-rank.counts_by_rank rank counts c.loop-rank.invariant (subst P c.as_slice.ensures c.in_ok-counts.ensures)))
+    (AreCountsByRank_push c.args.kind (take i ranks) c.loop-rank.counts_by_rank rank counts c.loop-rank.invariant (subst P c.calls.ensures c.in_ok-counts.ensures)))

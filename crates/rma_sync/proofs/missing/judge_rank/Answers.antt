@@ -1,32 +1,37 @@
-use Rattle.std.proofs.Common.{[], ◌++◌, take, ap, sym, ◌∙◌, append_assoc, arith}
-use Rattle.std.proofs.lemmas.Grind.{common_steps}
+use Rattle.std.proofs.Common.{◌≡◌, Some, slice_get, [], ◌++◌, take, ap, sym, ◌∙◌, append_assoc}
 use Rattle.std.specs.List.{cons_option}
+use Rattle.rma_base.specs.declared.rank.Rank.{Rank}
+use Rattle.rma_call.specs.Call.{call_of}
+use Rattle.rma_sync.specs.declared.kind.Kind.TheVariants as kind
 use Rattle.rma_sync.specs.Collective.{walked}
 use Rattle.rma_sync.specs.Missing.{missing_at}
-use Rattle.rma_sync.proofs.WalkLemmas.{taken, walked_push}
+use Rattle.rma_sync.proofs.WalkLemmas.{taken_there, walked_push}
+use Rattle.rma_sync.proofs.SoFarLemmas.{AreCounts_counted}
 use Rattle.rma_sync.proofs.missing.judge_rank.Goals as goal
 
-pub loop-call-preserved : goal.loop-call-preserved
-loop-call-preserved c =
+pub loop-i-preserved : goal.loop-i-preserved
+loop-i-preserved c =
     let rank = c.args.rank.now.rank in
-    let calls = c.as_slice-call-items.result.now in
-    let i = c.loop-call.call-index in
-    let call = c.call-item.result in
+    let calls = c.args.rank.now.calls in
+    let i = c.loop-i.i in
+    let call = call_of c.get-call.result in
+    let there : slice_get calls i ≡ Some call = rw (← c.calls-calls.ensures) c.get-call.ensures in
+    let before = take i calls in
+    let so_far = c.loop-i.invariant in
     let faults = c.args.faults.now in
     record {
-      collectives = λ name. grind (arith, common_steps, c.in_ok-note.ensures name, c.loop-call.invariant.collectives name);
-      frees = λ name. grind (arith, common_steps, c.in_ok-note-2.ensures name, c.loop-call.invariant.frees name);
+      collectives = AreCounts_counted kind.Collective calls i call c.loop-i.collectives.entries c.note.new.counts.entries there so_far.collectives c.in_ok-note.ensures;
+      frees = AreCounts_counted kind.Free calls i call c.loop-i.frees.entries c.note-in-loop-i.new.counts.entries there so_far.frees c.in_ok-note-2.ensures;
       judged = λ ranks missing.
-          let so_far = c.loop-call.invariant.judged ranks missing in
+          let judged = so_far.judged ranks missing in
           let judge = missing_at ranks in
-          let walk = walked judge rank [] in
-          let own = cons_option (judge rank (take i calls) call) [] in (
-            c.in_ok-fault.ensures.missing ranks so_far.0,
+          let own = cons_option (judge rank before call) [] in (
+            c.in_ok-fault.ensures.missing ranks judged.0,
             c.in_ok-push_some.ensures
-                ∙ ap (λ fault. c.loop-call.faults ++ cons_option fault [])
-                (c.in_ok-fault.ensures.fault ranks (take i calls) so_far.0 c.loop-call.invariant.collectives c.loop-call.invariant.frees)
-                ∙ ap (λ l. l ++ own) so_far.1
-                ∙ append_assoc faults (walk (take i calls)) own
-                ∙ ap (λ l. faults ++ l) (sym (walked_push judge rank [] (take i calls) call) ∙ ap walk (sym (taken calls i call c.loop-call-test.true c.call-item.is))),
+                ∙ ap (λ fault. c.loop-i.faults ++ cons_option fault [])
+                (c.in_ok-fault.ensures.fault ranks before judged.0 so_far.collectives so_far.frees ∙ ap (λ (r : Rank). judge r before call) c.rank.ensures)
+                ∙ ap (λ l. l ++ own) judged.1
+                ∙ append_assoc faults (walked judge rank [] before) own
+                ∙ ap (λ l. faults ++ l) (sym (walked_push judge rank [] before call) ∙ ap (walked judge rank []) (sym (taken_there calls i call there))),
           );
     }

@@ -1,5 +1,5 @@
 use Rattle.std.proofs.Common.{[], ◌++◌, ◌∙◌, ap}
-use Rattle.rma_call.specs.declared.call.RankCalls.{RankCalls}
+use Rattle.rma_call.specs.Call.{RankCalls}
 use Rattle.rma_sync.specs.Collective.{walked}
 use Rattle.rma_sync.specs.Missing.{missing_at}
 use Rattle.rma_sync.proofs.WalkLemmas.{flat_map_taken}

@@ -1,5 +1,6 @@
 use Rattle.std.proofs.Common.{◌≡◌, Some, None, cond, sym, ap, ◌∙◌}
 use Rattle.std.specs.Option.{option_copied}
+use Rattle.rma_call.specs.Call.{call_of}
 use Rattle.rma_sync.specs.declared.kind.Kind.TheVariants as kind
 use Rattle.rma_sync.specs.Collective.{freed}
 use Rattle.rma_sync.specs.inside.CallCount.{counted, call_counts_of}
@@ -8,7 +9,7 @@ use Rattle.rma_sync.proofs.free.FreeCounts.scan.Goals as goal
 
 pub returns-in_default : goal.returns-in_default
 returns-in_default c = λ done own before at are name.
-    let call = c.args.call.now in
+    let call = call_of c.args.call in
     let call_counts = call_counts_of c.args.self.now.windows.entries name in
     let none : freed call.what ≡ None = sym c.freed.ensures ∙ ap option_copied c.in_default.is in
     AreCallCounts_scanned kind.Free name done own before call c.args.index at call_counts call_counts (are name)
@@ -16,7 +17,7 @@ returns-in_default c = λ done own before at are name.
 
 pub returns : goal.returns
 returns c = λ done own before at are name.
-    let call = c.args.call.now in
+    let call = call_of c.args.call in
     let index = c.args.index in
     let window = c.in-Some.window.now in
     let old = c.args.self.now.windows.entries in

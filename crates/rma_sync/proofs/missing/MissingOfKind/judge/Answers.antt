@@ -1,5 +1,6 @@
 use Rattle.std.proofs.Common.{◌≡◌, List, ℕ, Some, ap, sym, ◌∙◌}
 use Rattle.std.specs.Option.{option_copied, option_and_then}
+use Rattle.rma_call.specs.Call.{call_of}
 use Rattle.rma_sync.specs.Collective.{named, count_of}
 use Rattle.rma_sync.specs.inside.ByRank.{is_reached}
 use Rattle.rma_sync.specs.Missing.{fault_if, lacks}
@@ -7,7 +8,7 @@ use Rattle.rma_sync.proofs.missing.MissingOfKind.judge.Goals as goal
 
 pub returns-clause-fault : goal.returns-clause-fault
 returns-clause-fault c = λ kind ranks before members missing counted.
-    let call = c.args.call.now in
+    let call = call_of c.args.call in
     let name = c.in-Some.name.now in
     let fewest = c.in_ok-fewest.fewest in
     let at : named kind call.what ≡ Some name = ap (λ k. named k call.what) (sym missing.kind_is) ∙ sym c.named.ensures ∙ ap option_copied c.in-Some.is in

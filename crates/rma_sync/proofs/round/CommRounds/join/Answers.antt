@@ -2,6 +2,7 @@ use Rattle.std.proofs.Common.{◌≤◌, ◌++◌, [], length, sym, ap, ◌∙�
 use Rattle.std.specs.List.{cons_option}
 use Rattle.std.specs.Option.{option_and_then}
 use Rattle.std.proofs.lemmas.Option.{slice_get_past}
+use Rattle.rma_call.specs.Call.{call_of}
 use Rattle.rma_sync.specs.declared.round.First.{First}
 use Rattle.rma_sync.specs.inside.CallCount.{number_in}
 use Rattle.rma_sync.specs.Round.{differs}
@@ -16,5 +17,5 @@ returns-clause-faults c =
     let number = number_in c.args.self.now.call_counts c.args.index in
     let past : length firsts ≤ number = omega (arith, c.len.ensures, c.in_ok-number.ensures.number) in
     sym (append-nil faults)
-    ∙ ap (λ o. faults ++ cons_option (option_and_then (λ (first : First). differs first (own_of c.args.rank c.args.call.now)) o) [])
+    ∙ ap (λ o. faults ++ cons_option (option_and_then (λ (first : First). differs first (own_of c.args.rank (call_of c.args.call))) o) [])
     (sym (slice_get_past firsts number past))

@@ -1,5 +1,5 @@
 use Rattle.std.proofs.Common.{List}
-use Rattle.rma_call.specs.declared.call.RankCalls.{RankCalls}
+use Rattle.rma_call.specs.Call.{RankCalls}
 use Rattle.rma_sync.specs.declared.kind.Kind.TheVariants as kind
 use Rattle.rma_sync.specs.declared.round.CommRounds.{CommRounds}
 use Rattle.rma_sync.specs.inside.Member.{AreMembers}

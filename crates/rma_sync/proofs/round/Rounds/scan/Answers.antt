@@ -3,6 +3,7 @@ use Rattle.std.specs.Option.{option_copied, option_and_then}
 use Rattle.std.specs.List.{cons_option}
 use Rattle.std.specs.Cmp.Lexicographic.{pointwise}
 use Rattle.rma_base.specs.declared.rank.Rank.{Rank}
+use Rattle.rma_call.specs.Call.{call_of}
 use Rattle.rma_sync.specs.Collective.{comm_of}
 use Rattle.rma_sync.specs.inside.CallCount.{number_in}
 use Rattle.rma_sync.specs.Round.{differs}
@@ -12,12 +13,12 @@ use Rattle.rma_sync.proofs.round.Rounds.scan.Goals as goal
 
 pub returns-in_default : goal.returns-in_default
 returns-in_default c = λ done own before at rank are.
-    let none : comm_of c.args.call.now.what ≡ None = sym c.comm_of.ensures ∙ ap option_copied c.in_default.is in
-    AreRounds_none done own before c.args.call.now c.args.index c.args.self.now at none are
+    let none : comm_of c.args.call.what.now ≡ None = sym c.comm_of.ensures ∙ ap option_copied c.in_default.is in
+    AreRounds_none done own before (call_of c.args.call) c.args.index c.args.self.now at none are
 
 pub returns : goal.returns
 returns c = λ done own before at rank are.
-    let call = c.args.call.now in
+    let call = call_of c.args.call in
     let index = c.args.index in
     let comm = c.in-Some.comm.now in
     let old = c.args.self.now.comms.entries in

@@ -1,6 +1,6 @@
 use Rattle.std.proofs.Common.{◌≡◌, ◌+◌, ℕ, List, length, take, sym, subst, arith, length-take}
 use Rattle.std.proofs.lemmas.List.{take_all}
-use Rattle.rma_call.specs.declared.call.RankCalls.{RankCalls}
+use Rattle.rma_call.specs.Call.{RankCalls}
 use Rattle.rma_sync.specs.inside.Scan.{HasScanned}
 use Rattle.rma_sync.proofs.WalkLemmas.{taken}
 use Rattle.rma_sync.proofs.scan.Scan.new.Goals as goal

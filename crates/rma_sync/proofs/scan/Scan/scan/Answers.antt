@@ -1,6 +1,7 @@
 use Rattle.std.proofs.Common.{◌++◌, [], sym, ap, ◌∙◌}
 use Rattle.std.specs.List.{cons_option}
 use Rattle.rma_base.specs.declared.rank.Rank.{Rank}
+use Rattle.rma_call.specs.Call.{call_of}
 use Rattle.rma_sync.specs.Collective.{so_far}
 use Rattle.rma_sync.specs.Declaration.{declaration_of, declarations}
 use Rattle.rma_sync.specs.Attribute.{declared, created}
@@ -9,7 +10,7 @@ use Rattle.rma_sync.proofs.scan.Scan.scan.Goals as goal
 
 pub returns : goal.returns
 returns c = λ done own before at rank has.
-    let call = c.args.call.now in
+    let call = call_of c.args.call in
     record {
       comms_are = c.in_ok-push_declaration.ensures
           ∙ ap (λ l. l ++ cons_option (declaration_of declared c.args.rank call) []) has.comms_are
