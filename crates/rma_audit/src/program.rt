@@ -15,8 +15,8 @@ use rma_report::{Findings, write_text};
 use rma_stream::Audit;
 use std::alloc::Global;
 
-/// How many bytes are read at once: a piece of every log, and what its book keeps of it, stay in the caches together.
-const ROOM: usize = 16_384;
+/// How many bytes are read at once. What a book keeps has left the caches when its turn comes again, so turns are long.
+const ROOM: usize = 65_536;
 
 /// Does what the words of the command line say: opens the logs that they name, in order, one log a rank; reads them
 /// to their ends; audits them; and writes the report to `out`.

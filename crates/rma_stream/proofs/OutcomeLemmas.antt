@@ -3,7 +3,7 @@ use Rattle.std.proofs.Common.{◌≡◌, ℕ, ◌+◌, ◌<◌, true, false, eqb
 use Rattle.std.proofs.lemmas.Bool.{eqb-true, eqb-false}
 use Rattle.std.proofs.lemmas.List.{drop_more}
 use Rattle.rma_lex.specs.Checked.{checked_lines}
-use Rattle.rma_call.specs.declared.call.RankCalls.{RankCalls}
+use Rattle.rma_call.specs.Call.{RankCalls}
 use Rattle.rma_book.specs.declared.fault.BookEnd.{BookEnd}
 use Rattle.rma_book.specs.declared.fault.BookEnd.TheVariants.{Calls, Fault}
 use Rattle.rma_book.specs.declared.fault.FormFault.{FormFault}

@@ -2,7 +2,7 @@
 use Rattle.std.specs.Prelude.{◌≡◌, ℕ, ◌+◌, List, [], ◌∷◌, length, map, sum_by}
 use Rattle.rma_lex.specs.Checked.{checked_lines}
 use Rattle.rma_lex.specs.Line.{lines}
-use Rattle.rma_call.specs.declared.call.RankCalls.{RankCalls}
+use Rattle.rma_call.specs.Call.{RankCalls}
 use Rattle.rma_book.specs.declared.fault.BookEnd.{BookEnd}
 use Rattle.rma_book.specs.declared.fault.BookEnd.TheVariants.{Calls, Fault}
 use Rattle.rma_book.specs.Ends.{IsEnd}

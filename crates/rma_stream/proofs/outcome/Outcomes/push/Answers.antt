@@ -1,5 +1,5 @@
 use Rattle.std.proofs.Common.{◌++◌, ◌∷◌, [], List, ap, sym, ◌∙◌, arith}
-use Rattle.rma_call.specs.declared.call.RankCalls.{RankCalls}
+use Rattle.rma_call.specs.Call.{RankCalls}
 use Rattle.rma_report.specs.declared.finding.Finding.{Finding}
 use Rattle.rma_report.specs.declared.finding.Finding.TheVariants.{Malformed}
 use Rattle.rma_stream.specs.Findings.{bad_lines}
