@@ -2,6 +2,7 @@
 use rma_audit::{Status, run};
 use rma_io::{MemoryLogs, MemorySink, SureLogs, SureSink};
 use std::alloc::{AllocError, Global};
+use std::process::Abort;
 use std::str::from_utf8;
 use std::test::Fail;
 
@@ -12,7 +13,7 @@ struct Case {
     report: &'static str,
 }
 
-const CASES: [Case; 16] = [
+static CASES: [Case; 16] = [
     Case {
         logs: &["rma 1 0 2\nbarrier world\nend\n", "rma 1 1 2\nend\n"],
         status: Status::Findings,
@@ -149,117 +150,140 @@ fn byte_by_byte(alloc: Global, ranks: usize) -> Result<Vec<(u32, u32)>, AllocErr
     Ok(cuts)
 }
 
-/// What an audit of these logs answers and writes, where the source is read by these cuts and fails at these calls,
-/// and the sink fails at these puts.
+/// The words that audit so many logs.
+fn words_of(alloc: Global, count: usize) -> Result<Vec<String>, AllocError> {
+    let names = names(alloc, count)?;
+    words(alloc, names.as_slice())
+}
+
+/// A sink that fails at these puts.
+fn sink_of(alloc: Global, fails: &[(u32, u32)]) -> Result<MemorySink, AllocError> {
+    let room = vec![in alloc; 0; 1000]?;
+    Ok(MemorySink::new(room, fails.to_vec(alloc)?))
+}
+
+/// The status, and the text that was kept.
+fn with_text(alloc: Global, status: Status, kept: &[u8]) -> Result<(Status, String), Fail> {
+    let text = from_utf8(kept).unwrap_or("?");
+    Ok((status, String::from_str(alloc, text)?))
+}
+
+/// What these words answer and write over the logs, where the source is read by these cuts and fails at these calls.
+fn answered(
+    alloc: Global,
+    words: &[String],
+    logs: &[&str],
+    cuts: &[(u32, u32)],
+    fails: &[u32],
+    sink: &mut MemorySink,
+) -> Result<(Status, String), Fail> {
+    let files = files(alloc, logs)?;
+    let cuts = cuts.to_vec(alloc)?;
+    let fails = fails.to_vec(alloc)?;
+    let mut source = MemoryLogs::new(alloc, files, cuts, fails);
+    let status = run(alloc, words, &mut source, sink);
+    with_text(alloc, status, sink.kept())
+}
+
+/// What an audit of all the logs answers and writes, where the sink fails at these puts.
 fn audited(
     alloc: Global,
     logs: &[&str],
-    cuts: Vec<(u32, u32)>,
-    fails: Vec<u32>,
-    put_fails: Vec<(u32, u32)>,
+    cuts: &[(u32, u32)],
+    fails: &[u32],
+    put_fails: &[(u32, u32)],
 ) -> Result<(Status, String), Fail> {
-    let words = words(alloc, names(alloc, logs.len())?.as_slice())?;
-    let mut source = MemoryLogs::new(alloc, files(alloc, logs)?, cuts, fails);
-    let mut sink = MemorySink::new(vec![in alloc; 0; 1000]?, put_fails);
-    let status = run(alloc, words.as_slice(), &mut source, &mut sink);
-    let text = from_utf8(sink.kept()).unwrap_or("?");
-    Ok((status, String::from_str(alloc, text)?))
+    let words = words_of(alloc, logs.len())?;
+    let mut sink = sink_of(alloc, put_fails)?;
+    answered(alloc, words.as_slice(), logs, cuts, fails, &mut sink)
+}
+
+fn check_cuts(
+    rt: &impl Abort,
+    alloc: Global,
+    case: &Case,
+    cuts: &[(u32, u32)],
+) -> Result<(), Fail> {
+    let (status, report) = audited(alloc, case.logs, cuts, &[], &[])?;
+    assert!(rt;
+        status == case.status && report.as_str() == case.report,
+        "{report}"
+    );
+    Ok(())
+}
+
+/// The logs from the lowest rank, a byte of each in turn, and from the last rank.
+fn check_case(rt: &impl Abort, alloc: Global, case: &Case) -> Result<(), Fail> {
+    let ranks = case.logs.len();
+    let last = ranks.saturating_sub(1).min(64) as u32;
+    let each = byte_by_byte(alloc, ranks)?;
+    check_cuts(rt, alloc, case, &[])?;
+    check_cuts(rt, alloc, case, each.as_slice())?;
+    check_cuts(rt, alloc, case, &[(last, 1000)])
 }
 
 #[test]
 fn reports_are_the_same_however_logs_are_cut(rt: HostRuntime) -> Result<(), Fail> {
-    let alloc = rt.alloc();
     for case in &CASES {
-        let ranks = case.logs.len();
-        let last_first = vec![in alloc; (ranks.saturating_sub(1).min(64) as u32, 1000)]?;
-        for cuts in [Vec::new(alloc), byte_by_byte(alloc, ranks)?, last_first] {
-            let (status, report) = audited(
-                alloc,
-                case.logs,
-                cuts,
-                Vec::new(alloc),
-                Vec::new(alloc),
-            )?;
-            assert_eq!(rt; status, case.status);
-            assert_eq!(rt; report.as_str(), case.report);
-        }
+        check_case(&rt, rt.alloc(), case)?;
     }
     Ok(())
 }
 
+/// The log of a run of one rank.
+static LOG: [&str; 1] = ["rma 1 0 1\nend\n"];
+
 #[test]
 fn faults_are_answered_and_nothing_else_is_written(rt: HostRuntime) -> Result<(), Fail> {
-    let alloc = rt.alloc();
-    let log = ["rma 1 0 1\nend\n"];
-    let fault = Status::ReadFault { recorded: 0 };
-    for fails in [0, 1, 2] {
-        let (status, report) = audited(
-            alloc,
-            &log,
-            Vec::new(alloc),
-            vec![in alloc; fails]?,
-            Vec::new(alloc),
-        )?;
-        assert_eq!(rt; status, fault);
-        assert_eq!(rt; report.as_str(), "");
+    for fails in 0..3 {
+        let (status, report) = audited(rt.alloc(), &LOG, &[], &[fails], &[])?;
+        assert!(rt; status == (Status::ReadFault { recorded: 0 }) && report.is_empty());
     }
-    let (status, report) = audited(
-        alloc,
-        &log,
-        Vec::new(alloc),
-        Vec::new(alloc),
-        vec![in alloc; (0, 3)]?,
-    )?;
-    assert_eq!(rt; status, Status::WriteFault);
-    assert_eq!(rt; report.as_str(), "rma");
+    let (status, report) = audited(rt.alloc(), &LOG, &[], &[], &[(0, 3)])?;
+    assert!(rt; status == Status::WriteFault && report.as_str() == "rma");
     Ok(())
+}
+
+/// Words that are no command.
+static FAULTY: [&[&str]; 7] = [
+    &[],
+    &["audit"],
+    &["Audit", "0"],
+    &["audit", ""],
+    &["audit", "-0"],
+    &["audit", "--limit", "x", "0"],
+    &["trial", "8", "10", "7"],
+];
+
+fn strings(alloc: Global, texts: &[&str]) -> Result<Vec<String>, AllocError> {
+    let mut strings = Vec::new(alloc);
+    for text in texts {
+        strings.push(String::from_str(alloc, text)?)?;
+    }
+    Ok(strings)
+}
+
+/// What these words answer and write over the logs.
+fn said(alloc: Global, words: &[String], logs: &[&str]) -> Result<(Status, String), Fail> {
+    let mut sink = sink_of(alloc, &[])?;
+    answered(alloc, words, logs, &[], &[], &mut sink)
 }
 
 #[test]
 fn words_that_are_no_command_are_usage(rt: HostRuntime) -> Result<(), Fail> {
-    let alloc = rt.alloc();
-    let faulty: [&[&str]; 7] = [
-        &[],
-        &["audit"],
-        &["Audit", "0"],
-        &["audit", ""],
-        &["audit", "-0"],
-        &["audit", "--limit", "x", "0"],
-        &["trial", "8", "10", "7"],
-    ];
-    for texts in faulty {
-        let mut words = Vec::new(alloc);
-        for text in texts {
-            words.push(String::from_str(alloc, text)?)?;
-        }
-        let mut source = MemoryLogs::new(
-            alloc,
-            files(alloc, &["rma 1 0 1\nend\n"])?,
-            Vec::new(alloc),
-            Vec::new(alloc),
-        );
-        let mut sink = MemorySink::new(vec![in alloc; 0; 1000]?, Vec::new(alloc));
-        let status = run(alloc, words.as_slice(), &mut source, &mut sink);
-        assert_eq!(rt; status, Status::Usage);
-        assert_eq!(rt; sink.kept().len(), 0);
+    for texts in &FAULTY {
+        let words = strings(rt.alloc(), texts)?;
+        let (status, report) = said(rt.alloc(), words.as_slice(), &LOG)?;
+        assert!(rt; status == Status::Usage && report.is_empty());
     }
     Ok(())
 }
 
 #[test]
 fn a_name_that_is_not_there_is_a_read_fault(rt: HostRuntime) -> Result<(), Fail> {
-    let alloc = rt.alloc();
-    let words = words(alloc, names(alloc, 2)?.as_slice())?;
-    let mut source = MemoryLogs::new(
-        alloc,
-        files(alloc, &["rma 1 0 2\nend\n"])?,
-        Vec::new(alloc),
-        Vec::new(alloc),
-    );
-    let mut sink = MemorySink::new(vec![in alloc; 0; 1000]?, Vec::new(alloc));
-    let status = run(alloc, words.as_slice(), &mut source, &mut sink);
-    assert_eq!(rt; status, Status::ReadFault { recorded: 0 });
-    assert_eq!(rt; sink.kept().len(), 0);
+    let words = words_of(rt.alloc(), 2)?;
+    let (status, report) = said(rt.alloc(), words.as_slice(), &["rma 1 0 2\nend\n"])?;
+    assert!(rt; status == (Status::ReadFault { recorded: 0 }) && report.is_empty());
     Ok(())
 }
 
