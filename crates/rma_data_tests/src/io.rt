@@ -73,16 +73,16 @@ fn two_files(alloc: Global, cuts: &[(u32, u32)], fails: &[u32]) -> Result<Memory
 
 /// How two files are read: the cuts, the numbers of the calls that fail, what is opened and what each open answers, and the
 /// sizes of the rooms with what each pull answers.
-struct Session {
+struct Reading {
     cuts: &'static [(u32, u32)],
     fails: &'static [u32],
     opens: &'static [(&'static str, Result<(), OpenFault>)],
     pulls: &'static [(usize, &'static str)],
 }
 
-static SESSIONS: [Session; 3] = [
+static READINGS: [Reading; 3] = [
     // By the cuts, and then from the lowest rank.
-    Session {
+    Reading {
         cuts: &[(1, 2), (0, 0), (5, 3), (0, 9), (1, 1), (1, 4)],
         fails: &[],
         opens: &[("a", Ok(())), ("b", Ok(()))],
@@ -97,14 +97,14 @@ static SESSIONS: [Session; 3] = [
         ],
     },
     // A file that is named twice is two logs.
-    Session {
+    Reading {
         cuts: &[(1, 2)],
         fails: &[],
         opens: &[("b", Ok(())), ("b", Ok(()))],
         pulls: &[(8, "1:xy"), (8, "0:xyz"), (8, "1:z"), (8, "done")],
     },
     // Calls that fail are counted over opens and pulls.
-    Session {
+    Reading {
         cuts: &[],
         fails: &[1, 4, 6],
         opens: &[
@@ -124,17 +124,17 @@ static SESSIONS: [Session; 3] = [
     },
 ];
 
-fn check_session(rt: &impl Abort, alloc: Global, session: &Session) -> Result<(), AllocError> {
-    assert!(rt; session.opens.len() < 100 && session.pulls.len() < 100);
-    let mut source = two_files(alloc, session.cuts, session.fails)?;
-    check_opens(rt, &mut source, session.opens);
-    check_pulls(rt, alloc, &mut source, session.pulls)
+fn check_reading(rt: &impl Abort, alloc: Global, reading: &Reading) -> Result<(), AllocError> {
+    assert!(rt; reading.opens.len() < 100 && reading.pulls.len() < 100);
+    let mut source = two_files(alloc, reading.cuts, reading.fails)?;
+    check_opens(rt, &mut source, reading.opens);
+    check_pulls(rt, alloc, &mut source, reading.pulls)
 }
 
 #[test]
 fn files_are_read_as_their_cuts_and_faults_say(rt: HostRuntime) -> Result<(), Fail> {
-    for session in &SESSIONS {
-        check_session(&rt, rt.alloc(), session)?;
+    for reading in &READINGS {
+        check_reading(&rt, rt.alloc(), reading)?;
     }
     Ok(())
 }
