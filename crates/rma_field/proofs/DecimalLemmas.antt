@@ -1,6 +1,6 @@
 -- Reading a number back that was written in decimal digits.
-use Rattle.std.proofs.Common.{◌≡◌, ℕ, ◌^◌, ◌<◌, ◌≤◌, Bool, true, false, ◌&&◌, List, [], ◌∷◌, length, Some, Ok, refl, sym, ap, ◌∙◌, ⊎_elim, arith, eqb, leb, not}
-use Rattle.std.specs.Prelude.{decimal, nat_eq, codes, pos}
+use Rattle.std.proofs.Common.{◌≡◌, ℕ, suc, ◌^◌, ◌<◌, ◌≤◌, Bool, true, false, ◌&&◌, List, [], ◌∷◌, length, Some, Ok, refl, sym, ap, ◌∙◌, ⊎_elim, arith, eqb, leb, not}
+use Rattle.std.specs.Prelude.{decimal, nat_eq, codes, pos, negsuc, option_map}
 use Rattle.std.specs.Char.{digit_value, is_digit}
 use Rattle.std.specs.List.{list_all, starts_with}
 use Rattle.std.specs.Str.Parse.{digits_value, IsNumeral, AllDigits}
@@ -8,7 +8,7 @@ use Rattle.std.proofs.lemmas.Bool.{lt-ltb, le-leb, ne_eqb, eqb-true, cases_Bool,
 use Rattle.std.proofs.lemmas.Bool.Decides.{nat_tests}
 use Rattle.std.proofs.lemmas.Fmt.{decimal_is_IsNumeral}
 use Rattle.rma_base.proofs.NameLemmas.{and_left, and_right}
-use Rattle.rma_field.specs.Numbers.{number, natural}
+use Rattle.rma_field.specs.Numbers.{magnitude, number, natural, signed}
 
 -- a decimal digit
 abbrev pub is_decimal : ℕ → Bool
@@ -65,6 +65,17 @@ module _ (n : ℕ) (low : n < 2 ^ 64) where
 
   pub number_decimal : number (decimal n) ≡ Some (pos n)
   number_decimal = number_digits (decimal n) (decimal_is_IsNumeral n low).0 ∙ ap (λ m. Some (pos m)) (decimal_is_IsNumeral n low).1
+
+magnitude_digits : (digits : List ℕ) → IsNumeral 10 digits → magnitude digits ≡ Some (digits_value 10 digits)
+magnitude_digits digits (some, all) =
+    let decimals : list_all is_decimal digits ≡ true = all_decimal digits all in
+    rw (not_hexadecimal digits decimals, some_digits digits some, all_digits digits all) refl
+
+-- so do they behind a `-`
+pub number_minus : (n : ℕ) → suc n < 2 ^ 64 → number (45 ∷ decimal (suc n)) ≡ Some (negsuc n)
+number_minus n low =
+    let read : magnitude (decimal (suc n)) ≡ Some (suc n) = magnitude_digits (decimal (suc n)) (decimal_is_IsNumeral (suc n) low).0 ∙ ap Some (decimal_is_IsNumeral (suc n) low).1 in
+    ap (option_map (signed true)) read
 
 pub natural_decimal : (low high n : ℕ) → n < 2 ^ 64 → low ≤ n → n ≤ high → natural low high (decimal n) ≡ Ok n
 natural_decimal low high n small from to = rw (number_decimal n small, le-leb low n from, le-leb n high to) refl

@@ -4,6 +4,7 @@ pub mod KeyLemmas
 pub mod DivisionLemmas
 pub mod JoinLemmas
 pub mod DecimalLemmas
+pub mod IntegerLemmas
 pub mod RisingLemmas
 pub mod RankTextLemmas
 pub mod AssertionLemmas

@@ -1,6 +1,7 @@
 -- The kinds of fields, what a field of each kind stands for, and how that is written (docs/FORMAT.md).
-use Rattle.std.specs.Prelude.{ℕ, Bool, ◌-◌, List, [], ◌∷◌, Option, Some, None, Result, Ok, Err, codes, decimal, find, nat_eq, if◌then◌else◌}
+use Rattle.std.specs.Prelude.{ℕ, ℤ, Bool, ◌-◌, List, [], ◌∷◌, Option, Some, None, Result, Ok, Err, codes, decimal, find, nat_eq, if◌then◌else◌}
 use Rattle.std.specs.Cmp.Lexicographic.{pointwise}
+use Rattle.std.specs.Fmt.{signed_decimal}
 use Rattle.rma_base.specs.declared.form_reason.FormReason.{FormReason}
 use Rattle.rma_base.specs.declared.form_reason.FormReason.TheVariants.{BadName, BadWord}
 use Rattle.rma_base.specs.declared.rank.Rank.{Rank}
@@ -15,9 +16,12 @@ use Rattle.rma_base.specs.Version.{version_word, ranks_of}
 use Rattle.rma_base.specs.Window.{model_word, ops_word}
 use Rattle.rma_call.specs.declared.epoch.LockKind.{LockKind}
 use Rattle.rma_call.specs.declared.epoch.LockKind.TheVariants.{Exclusive, Shared}
+use Rattle.rma_datatype.specs.declared.make.Order.{Order}
+use Rattle.rma_datatype.specs.declared.make.Order.TheVariants.{LastFastest, FirstFastest}
 use Rattle.rma_datatype.specs.declared.operation.Op.{Op}
 use Rattle.rma_datatype.specs.declared.operation.Op.TheVariants as op
 use Rattle.rma_datatype.specs.Operation.{op_word}
+use Rattle.rma_field.specs.Integers.{integer_of}
 use Rattle.rma_field.specs.Numbers.{natural}
 use Rattle.rma_field.specs.Ranks.{rank_set, ranks_text}
 use Rattle.rma_field.specs.Steps.{◌>>=◌}
@@ -34,6 +38,8 @@ pub data Kind : Type 0 where
   size : Kind
   -- a number from the first to the second
   number : ℕ → ℕ → Kind
+  -- a number from minus the first to the second
+  integer : ℕ → ℕ → Kind
   -- a set of ranks
   ranks : Kind
   -- the target of an RMA call: a rank, or the word `null`
@@ -46,6 +52,8 @@ pub data Kind : Type 0 where
   operation : Kind
   -- whether a lock is exclusive or shared
   lock : Kind
+  -- which dimension of an array varies fastest
+  order : Kind
 
 -- what a good field of that kind stands for
 abbrev pub Value : Kind → Type 0
@@ -54,12 +62,14 @@ Value name = List ℕ
 Value rank = Rank
 Value size = ℕ
 Value (number low high) = ℕ
+Value (integer low high) = ℤ
 Value ranks = List ℕ
 Value target = Option Rank
 Value model = WinModel
 Value operations = AccOps
 Value operation = Op
 Value lock = LockKind
+Value order = Order
 
 -- the field is that word
 abbrev pub is_word : List ℕ → List ℕ → Bool
@@ -105,6 +115,9 @@ operation_of text = known (find (λ op. is_word (op_word op) text) all_operation
 abbrev pub lock_of : List ℕ → Result LockKind FormReason
 lock_of text = if is_word (codes "excl") text then Ok Exclusive else (if is_word (codes "shared") text then Ok Shared else Err BadWord)
 
+abbrev pub order_of : List ℕ → Result Order FormReason
+order_of text = if is_word (codes "c") text then Ok LastFastest else (if is_word (codes "fortran") text then Ok FirstFastest else Err BadWord)
+
 -- what a field stands for in a log of this version, or why it is bad
 abbrev pub meaning : Version → (kind : Kind) → List ℕ → Result (Value kind) FormReason
 meaning v version text = version_of text
@@ -112,12 +125,14 @@ meaning v name text = name_of text
 meaning v rank text = rank_of v text
 meaning v size text = natural 1 (ranks_of v) text
 meaning v (number low high) text = natural low high text
+meaning v (integer low high) text = integer_of low high text
 meaning v ranks text = rank_set (last_rank v) text
 meaning v target text = target_of v text
 meaning v model text = model_of text
 meaning v operations text = operations_of text
 meaning v operation text = operation_of text
 meaning v lock text = lock_of text
+meaning v order text = order_of text
 
 -- the word of a target
 abbrev pub target_text : Option Rank → List ℕ
@@ -129,6 +144,11 @@ abbrev pub lock_word : LockKind → List ℕ
 lock_word Exclusive = codes "excl"
 lock_word Shared = codes "shared"
 
+-- the word of an order of dimensions
+abbrev pub order_word : Order → List ℕ
+order_word LastFastest = codes "c"
+order_word FirstFastest = codes "fortran"
+
 -- how a value is written, with each number in decimal digits
 abbrev pub written : (kind : Kind) → Value kind → List ℕ
 written version v = version_word v
@@ -136,9 +156,11 @@ written name text = text
 written rank r = decimal r.0
 written size n = decimal n
 written (number low high) n = decimal n
+written (integer low high) z = signed_decimal z
 written ranks them = ranks_text them
 written target t = target_text t
 written model which = model_word which
 written operations which = ops_word which
 written operation which = op_word which
 written lock which = lock_word which
+written order which = order_word which

@@ -6,6 +6,7 @@ pub use Rattle.rma_base.specs.Window
 pub use Rattle.rma_call.specs.Assertion
 pub use Rattle.rma_datatype.specs.Operation
 pub mod Numbers
+pub mod Integers
 pub mod Steps
 pub mod Ranks
 pub mod Kinds

@@ -1,6 +1,6 @@
 //! Fields that are one of some words.
 ghost use Rattle.std.specs.Prelude.{◌≡◌, find};
-ghost use Rattle.rma_field.specs.Kinds.{version_of, model_of, operations_of, operation_of, lock_of, is_word, lock_word, all_operations};
+ghost use Rattle.rma_field.specs.Kinds.{version_of, model_of, operations_of, operation_of, lock_of, order_of, is_word, lock_word, order_word, all_operations};
 ghost use Rattle.rma_field.specs.Steps.{Gives};
 ghost use Rattle.rma_datatype.specs.Operation.{op_word};
 
@@ -8,7 +8,7 @@ use crate::number::refused;
 use crate::parse_error::ParseError;
 use rma_base::{AccOps, FormReason, Version, WinModel};
 use rma_call::LockKind;
-use rma_datatype::Op;
+use rma_datatype::{Op, Order};
 
 // Each operation once.
 const OPERATIONS: [Op; 12] = [
@@ -105,6 +105,29 @@ pub fn lock_word(kind: LockKind) -> &'static str
     match kind {
         LockKind::Exclusive => "excl",
         LockKind::Shared => "shared",
+    }
+}
+
+/// The field as an order of the dimensions of an array.
+pub fn order_field(text: &[u8]) -> Result<Order, ParseError>
+    ensures { Gives result (order_of text.now) }
+{
+    if is_word(text, b"c") {
+        Ok(Order::LastFastest)
+    } else if is_word(text, b"fortran") {
+        Ok(Order::FirstFastest)
+    } else {
+        Err(refused(FormReason::BadWord))
+    }
+}
+
+/// The word of an order of the dimensions of an array.
+pub fn order_word(order: Order) -> &'static str
+    ensures { result.now ≡ order_word order }
+{
+    match order {
+        Order::LastFastest => "c",
+        Order::FirstFastest => "fortran",
     }
 }
 

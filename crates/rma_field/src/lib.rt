@@ -8,6 +8,7 @@
 
 mod assertion_field;
 mod field;
+mod integer_field;
 mod number;
 mod number_key;
 mod parse_error;
@@ -17,8 +18,10 @@ mod texts;
 
 pub use assertion_field::assertions_field;
 pub use field::{
-    is_word, lock_field, lock_word, model_field, operation_field, operations_field, version_field,
+    is_word, lock_field, lock_word, model_field, operation_field, operations_field, order_field,
+    order_word, version_field,
 };
+pub use integer_field::{int, integer};
 pub use number::{natural, rank_field, refused, size_field};
 pub use parse_error::{ParseError, ParseFault};
 pub use rank_set::{ranks_field, ranks_text, target_field, target_text};

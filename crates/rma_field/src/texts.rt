@@ -1,5 +1,5 @@
 //! The names and the sites of one log.
-ghost use Rattle.std.specs.Prelude.{◌≡◌};
+ghost use Rattle.std.specs.Prelude.{◌≡◌, IfErr, IfOk};
 ghost use Rattle.rma_field.specs.Kinds.{name_of};
 ghost use Rattle.rma_field.specs.Sites.{site};
 ghost use Rattle.rma_field.specs.Steps.{Gives};
@@ -7,15 +7,21 @@ ghost use Rattle.rma_field.specs.Steps.{Gives};
 use crate::number::refused;
 use crate::parse_error::ParseError;
 use indexmap::IndexMap;
-use rma_base::{FormReason, Name, NameError, Site};
+use rma_base::{FormReason, Memory, Name, NameError, Site};
 use std::alloc::Global;
 use std::hash::{FoldHasher, Hasher};
 use std::marker::Model;
 
-/// The names and the sites of one log. Each is kept once, so that what comes again takes no memory.
+// How many names are at hand.
+const AT_HAND: usize = 256;
+
+/// The names and the sites of one log. Each is kept once, so that what comes again takes no memory; the name of a request is
+/// kept for a while alone, since a log may have as many as it has lines.
 #[derive(Drop)]
 pub struct Texts {
     alloc: Global,
+    // The names that came last, each in the slot that the key of its text gives: none, or `AT_HAND` of them.
+    at_hand: Vec<Option<Name>>,
     // Each by the key of its text. Of two texts with one key the first is kept.
     names: IndexMap<u64, Name>,
     sites: IndexMap<u64, Site>,
@@ -32,6 +38,7 @@ impl Texts {
     pub fn new(alloc: Global) -> Texts {
         Texts {
             alloc,
+            at_hand: Vec::new(alloc),
             names: IndexMap::new(alloc),
             sites: IndexMap::new(alloc),
         }
@@ -43,18 +50,51 @@ impl Texts {
     }
 
     /// The field as a name.
+    #[inline]
     pub fn name(&mut self, text: &[u8]) -> Result<Name, ParseError>
         ensures { Gives result (name_of text.now) }
     {
         let key = key_of(text);
+        match self.at_hand.get(slot_of(key)) {
+            Some(Some(known)) if known.bytes() == text => copied(known),
+            _ => self.kept_name(key, text),
+        }
+    }
+
+    /// The field as the name of a request.
+    #[inline]
+    pub fn request(&mut self, text: &[u8]) -> Result<Name, ParseError>
+        ensures { Gives result (name_of text.now) }
+    {
+        let key = key_of(text);
+        match self.at_hand.get(slot_of(key)) {
+            Some(Some(known)) if known.bytes() == text => copied(known),
+            _ => self.new_request(key, text),
+        }
+    }
+
+    // A name that is not at hand.
+    #[inline(never)]
+    fn kept_name(&mut self, key: u64, text: &[u8]) -> Result<Name, ParseError>
+        ensures { Gives result (name_of text.now) }
+    {
         match self.names.get(&key) {
-            Some(known) if known.bytes() == text => match known.copy() {
-                Ok(name) => Ok(name),
-                Err(_) => Err(ParseError::Memory),
-            },
+            Some(known) if known.bytes() == text => {
+                let name = copied(known)?;
+                self.put_at_hand(key, name)
+            }
             Some(_) => new_name(self.alloc, text),
             None => self.keep_name(key, text),
         }
+    }
+
+    // The name of a request that is not at hand.
+    #[inline(never)]
+    fn new_request(&mut self, key: u64, text: &[u8]) -> Result<Name, ParseError>
+        ensures { Gives result (name_of text.now) }
+    {
+        let name = new_name(self.alloc, text)?;
+        self.put_at_hand(key, name)
     }
 
     // A name that comes for the first time.
@@ -63,13 +103,29 @@ impl Texts {
         ensures { Gives result (name_of text.now) }
     {
         let name = new_name(self.alloc, text)?;
-        let Ok(kept) = name.copy() else {
-            return Err(ParseError::Memory);
-        };
+        let kept = copied(&name)?;
         match self.names.insert(key, kept) {
-            Ok(_) => Ok(name),
+            Ok(_) => self.put_at_hand(key, name),
             Err(_) => Err(ParseError::Memory),
         }
+    }
+
+    // Has the name at hand, and answers it.
+    fn put_at_hand(&mut self, key: u64, name: Name) -> Result<Name, ParseError>
+        ensures ok { IfOk result (λ same. same ≡ name) }
+        ensures err { IfErr result (λ error. error ≡ ParseError.Memory) }
+    {
+        if self.at_hand.is_empty() {
+            match no_names(self.alloc) {
+                Ok(slots) => self.at_hand = slots,
+                Err(_) => return Err(ParseError::Memory),
+            }
+        }
+        let same = copied(&name)?;
+        if let Some(slot) = self.at_hand.get_mut(slot_of(key)) {
+            *slot = Some(name);
+        }
+        Ok(same)
     }
 
     /// The text behind an `@` as a site.
@@ -100,6 +156,33 @@ impl Texts {
             Ok(_) => Ok(site),
             Err(_) => Err(ParseError::Memory),
         }
+    }
+}
+
+// Slots without names.
+fn no_names(alloc: Global) -> Result<Vec<Option<Name>>, Memory> {
+    let mut slots = Vec::with_capacity(alloc, AT_HAND)?;
+    for _ in 0..AT_HAND {
+        slots.push(None)?;
+    }
+    Ok(slots)
+}
+
+// The slot of a name of this key.
+#[inline]
+fn slot_of(key: u64) -> usize {
+    (key % AT_HAND as u64) as usize
+}
+
+// The same name.
+#[inline]
+fn copied(name: &Name) -> Result<Name, ParseError>
+    ensures ok { IfOk result (λ same. same ≡ name.now) }
+    ensures err { IfErr result (λ error. error ≡ ParseError.Memory) }
+{
+    match name.copy() {
+        Ok(name) => Ok(name),
+        Err(_) => Err(ParseError::Memory),
     }
 }
 

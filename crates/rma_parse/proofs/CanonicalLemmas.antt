@@ -20,10 +20,10 @@ use Rattle.rma_parse.specs.Canonical.{canonical, site_suffix, spelled}
 use Rattle.rma_parse.specs.Fields.{Values, all_written, made_of}
 use Rattle.rma_parse.specs.Forms.{form_at, form_of, event_in, event_of, is_in, kind_words, version_in}
 use Rattle.rma_parse.specs.Lines.{begins_with, behind_at, counted, fields_of, last_or, read_words, reading, site_of, site_text, stated_by, stated_in, states}
-use Rattle.rma_parse.specs.Tails.{TailValue, tail_of, tail_words}
-use Rattle.rma_parse.proofs.HeadLemmas.{form_of_in, head_tells, kind_of, narrow_kinds, no_comment, plain_head, verb_of, version_at, version_found, version_tail, version_written, written_event}
+use Rattle.rma_parse.specs.Tails.{TailValue, tail_counted, tail_of, tail_words}
+use Rattle.rma_parse.proofs.HeadLemmas.{form_of_in, head_tells, kind_of, narrow_kinds, no_comment, plain_head, verb_of, version_at, version_counted, version_found, version_tail, version_written, written_event}
 use Rattle.rma_parse.proofs.KindLemmas.{AllGood, bind_ok, length_spells, made_from, made_of_spells, plain_spells}
-use Rattle.rma_parse.proofs.LineLemmas.{counted_enough}
+use Rattle.rma_parse.proofs.LineLemmas.{counted_behind, counted_enough}
 use Rattle.rma_parse.proofs.PlainLemmas.{is_plain, no_site, unbroken_site, unbroken_words}
 use Rattle.rma_parse.proofs.TailLemmas.{IsGoodTail, plain_tail, tail_counted_spell, tail_good, tail_spell}
 use Rattle.rma_parse.proofs.WordLemmas.{is_unbroken, texts_fields_join}
@@ -57,9 +57,10 @@ site_of_good (Some text) found is =
     (λ (bad : is_site text ≡ false). absurd (let wrong = rw bad at is in cc wrong))
     (cases_Bool (is_site text))
 
-event_statable : (v : Version) (form : LineForm) (texts : List (List ℕ)) (event : Event) (site : Option (List ℕ)) → is_in v form ≡ true → event_of v form texts ≡ Ok event → IsGoodSite site
+event_statable : (v : Version) (form : LineForm) (texts : List (List ℕ)) (event : Event) (site : Option (List ℕ)) → is_in v form ≡ true
+    → tail_counted v (form_at form).tail (drop (length (form_at form).kinds) texts) ≡ Ok tt → event_of v form texts ≡ Ok event → IsGoodSite site
     → IsStatable v (record { event = event; site = site })
-event_statable v form texts event site there is good_site =
+event_statable v form texts event site there counts is good_site =
     let w = version_in v form texts in
     let made = bind_ok (made_of w (form_at form).kinds (form_at form).event texts) _ event is in
     let behind = bind_ok (tail_of w (form_at form).tail (drop (length (form_at form).kinds) texts)) _ event made.2 in
@@ -71,7 +72,7 @@ event_statable v form texts event site there is good_site =
       values = found.0.values;
       good = subst (λ u. AllGood u (form_at form).kinds found.0.values) (sym found.1) found.0.good;
       tail = behind.0;
-      good_tail = subst (λ u. IsGoodTail u (form_at form).tail behind.0) (sym found.1) (tail_good w form _ behind.0 behind.1);
+      good_tail = subst (λ u. IsGoodTail u (form_at form).tail behind.0) (sym found.1) (tail_good w form _ behind.0 (version_counted v form texts _ counts) behind.1);
       is = ap (λ make. make behind.0) found.0.is ∙ same;
       site = good_site;
     }
@@ -84,7 +85,7 @@ stated_by_statable v verb rest stated is =
     let made = bind_ok (event_of v formed.0 (drop (kind_words formed.0) (fields_of rest))) _ stated sited.2 in
     let same : record { event = made.0; site = sited.0 } ≡ stated = cc made.2 in
     subst (IsStatable v) same
-    (event_statable v formed.0 _ made.0 sited.0 (form_of_in v verb (fields_of rest) formed.0 formed.1) made.1 (site_of_good (site_text rest) sited.0 sited.1))
+    (event_statable v formed.0 _ made.0 sited.0 (form_of_in v verb (fields_of rest) formed.0 formed.1) (counted_behind v formed.0 (fields_of rest) counts.1) made.1 (site_of_good (site_text rest) sited.0 sited.1))
 
 read_words_statable : (v : Version) (words : List (List ℕ)) (stated : Stated) → read_words v words ≡ Ok (Some stated) → IsStatable v stated
 read_words_statable v [] stated is = absurd (cc is)

@@ -9,7 +9,8 @@ use Rattle.rma_parse.specs.Forms.{event_of, form_at}
 use Rattle.rma_parse.specs.Tails.{received, tail_of}
 use Rattle.rma_parse.specs.declared.event.Event.{Event}
 use Rattle.rma_parse.specs.declared.form.LineForm.{LineForm}
-use Rattle.rma_parse.proofs.SeenLemmas.{from_place, texts_each}
+use Rattle.rma_parse.specs.inside.Places.{from_place}
+use Rattle.rma_parse.proofs.SeenLemmas.{texts_each}
 
 -- what was read of the fields at their places, and of the rest, is what the fields of the form state
 pub read_rest : (v : Version) (form at : LineForm) (fields : List (Bor (List ℕ))) (other : Bor (List ℕ)) (rest : List (List ℕ)) (result : Result Event ParseError)

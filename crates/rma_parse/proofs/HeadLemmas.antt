@@ -11,7 +11,7 @@ use Rattle.rma_field.specs.Kinds.{is_word, known, version, version_of}
 use Rattle.rma_parse.specs.Fields.{Values, all_written, made_of}
 use Rattle.rma_parse.specs.Forms.{filled, form_at, form_of, form_of_kind, form_of_verb, forms, has_verb, has_words, is_in, named_version, version_in, words_of}
 use Rattle.rma_parse.specs.Lines.{begins_with}
-use Rattle.rma_parse.specs.Tails.{TailValue, tail_words}
+use Rattle.rma_parse.specs.Tails.{TailValue, tail_counted, tail_words}
 use Rattle.rma_parse.specs.declared.event.Event.{Event}
 use Rattle.rma_parse.specs.declared.form.LineForm.{LineForm}
 use Rattle.rma_parse.specs.declared.form.LineForm.TheVariants as form
@@ -53,6 +53,7 @@ head_tells One form.Reduce there fields = absurd (false≢true there)
 head_tells One form.Allreduce there fields = absurd (false≢true there)
 head_tells One form.Allgather there fields = absurd (false≢true there)
 head_tells One form.Alltoall there fields = absurd (false≢true there)
+head_tells One form.Poll there fields = absurd (false≢true there)
 head_tells Two form.Header there fields = refl
 head_tells _ _ there fields = refl
 
@@ -135,6 +136,12 @@ pub version_tail : (v : Version) (form : LineForm) (values : Values (form_at for
     → IsGoodTail (version_at v form values) (form_at form).tail tail → IsGoodTail v (form_at form).tail tail
 version_tail v form.Header values tail good = tt
 version_tail v _ values tail good = good
+
+-- a form whose words behind its fields were counted in the version of the log is read in it
+pub version_counted : (v : Version) (form : LineForm) (texts words : List (List ℕ)) → tail_counted v (form_at form).tail words ≡ Ok tt
+    → tail_counted (version_in v form texts) (form_at form).tail words ≡ Ok tt
+version_counted v form.Header texts words counts = counts
+version_counted v _ texts words counts = counts
 
 seen_kind : (kind : Option (Bor (List ℕ))) (fields : List (List ℕ)) (it : List ℕ) → MatchOption kind (fields ≡ []) (λ word. (rest : List (List ℕ)) × (fields ≡ word.now ∷ rest))
     → option_map (λ text. text.now) kind ≡ Some it → (rest : List (List ℕ)) × (fields ≡ it ∷ rest)

@@ -13,16 +13,19 @@ use Rattle.rma_base.specs.declared.window.AccOps.TheVariants.{SameOp, SameOpNoOp
 use Rattle.rma_base.specs.Name.{is_name}
 use Rattle.rma_base.specs.Version.{ranks_of}
 use Rattle.rma_call.specs.declared.epoch.LockKind.TheVariants.{Exclusive, Shared}
+use Rattle.rma_datatype.specs.declared.make.Order.TheVariants.{LastFastest, FirstFastest}
 use Rattle.rma_datatype.specs.declared.operation.Op.TheVariants as op
-use Rattle.rma_field.specs.Kinds.{Kind, version, name, rank, size, number, ranks, target, model, operations, operation, lock, Value, meaning, name_of, rank_of, target_of, is_word, last_rank, written, target_text}
+use Rattle.rma_field.specs.Integers.{IsBetween}
+use Rattle.rma_field.specs.Kinds.{Kind, version, name, rank, size, number, integer, ranks, target, model, operations, operation, lock, order, Value, meaning, name_of, rank_of, target_of, is_word, last_rank, written, target_text}
 use Rattle.rma_field.specs.Numbers.{natural, natural_within, number_within}
 use Rattle.rma_field.specs.Numbers as numbers
 use Rattle.rma_field.specs.Steps.{◌>>=◌}
 use Rattle.rma_field.proofs.DecimalLemmas.{is_decimal, some_decimal, decimal_decimal, natural_decimal}
+use Rattle.rma_field.proofs.IntegerLemmas.{integer_between, integer_decimal}
 use Rattle.rma_field.proofs.RankTextLemmas.{first_differs, rank_set_text, rank_set_rises}
 use Rattle.rma_field.proofs.RisingLemmas.{Rises}
-use Rattle.rma_parse.specs.Fields.{Values, Made, made_of, all_written}
-use Rattle.rma_parse.proofs.PlainLemmas.{is_plain, plain_name, plain_decimal, plain_ranks}
+use Rattle.rma_parse.specs.Fields.{Values, Made, made_of, all_written, values_of}
+use Rattle.rma_parse.proofs.PlainLemmas.{is_plain, plain_name, plain_decimal, plain_ranks, plain_signed}
 
 -- the last rank of any version
 few_ranks : (v : Version) → last_rank v ≤ 1023
@@ -45,16 +48,19 @@ IsGood v name text = is_name text ≡ true
 IsGood v rank r = r.0 ≤ last_rank v
 IsGood v size n = (1 ≤ n) × (n ≤ ranks_of v)
 IsGood v (number low high) n = (low ≤ n) × (n ≤ high)
+IsGood v (integer low high) z = IsBetween low high z
 IsGood v ranks them = Rises (last_rank v) 0 them
 IsGood v target t = IsGoodTarget v t
 IsGood v model which = Unit {0}
 IsGood v operations which = Unit {0}
 IsGood v operation which = Unit {0}
 IsGood v lock which = Unit {0}
+IsGood v order which = Unit {0}
 
 -- numbers of the kind have 64 bits
 abbrev pub is_narrow : Kind → Bool
 is_narrow (number low high) = nat_lt high (2 ^ 64)
+is_narrow (integer low high) = nat_lt low (2 ^ 64) && nat_lt high (2 ^ 64)
 is_narrow _ = true
 
 natural_within_range : (low high n : ℕ) (z : ℤ) → natural_within low high z ≡ Ok n → (low ≤ n) × (n ≤ high)
@@ -111,15 +117,23 @@ meaning_good v name text value is = name_good text value is
 meaning_good v rank text value is = rank_good v text value is
 meaning_good v size text value is = natural_range 1 (ranks_of v) value text is
 meaning_good v (number low high) text value is = natural_range low high value text is
+meaning_good v (integer low high) text value is = integer_between low high text value is
 meaning_good v ranks text value is = rank_set_rises (last_rank v) text value is
 meaning_good v target text value is = target_good v text value is
 meaning_good v model text value is = tt
 meaning_good v operations text value is = tt
 meaning_good v operation text value is = tt
 meaning_good v lock text value is = tt
+meaning_good v order text value is = tt
 
 narrow : (high n : ℕ) → nat_lt high (2 ^ 64) ≡ true → n ≤ high → n < 2 ^ 64
 narrow high n low to = let less : high < 2 ^ 64 = ltb-true high (2 ^ 64) low in omega arith
+
+narrow_low : (low high : ℕ) → (nat_lt low (2 ^ 64) && nat_lt high (2 ^ 64)) ≡ true → low < 2 ^ 64
+narrow_low low high narrow = ltb-true low (2 ^ 64) (and_left (nat_lt low (2 ^ 64)) _ narrow)
+
+narrow_high : (low high : ℕ) → (nat_lt low (2 ^ 64) && nat_lt high (2 ^ 64)) ≡ true → high < 2 ^ 64
+narrow_high low high narrow = ltb-true high (2 ^ 64) (and_right (nat_lt low (2 ^ 64)) _ narrow)
 
 pub narrow_rank : (v : Version) (n : ℕ) → n ≤ last_rank v → n < 2 ^ 64
 narrow_rank v n to = let few = few_ranks v in omega arith
@@ -149,6 +163,7 @@ meaning_spell v name low text good = rw good refl
 meaning_spell v rank low r good = rank_spell v r good
 meaning_spell v size low n good = natural_decimal 1 (ranks_of v) n (narrow_size v n good.1) good.0 good.1
 meaning_spell v (number from to) low n good = natural_decimal from to n (narrow to n low good.1) good.0 good.1
+meaning_spell v (integer from to) low z good = integer_decimal from to z (narrow_low from to low) (narrow_high from to low) good
 meaning_spell v ranks low them good = rank_set_text (last_rank v) them (few_ranks v) good
 meaning_spell v target low t good = target_spell v t good
 meaning_spell v model low Separate good = refl
@@ -169,6 +184,8 @@ meaning_spell v operation low op.Replace good = refl
 meaning_spell v operation low op.NoOp good = refl
 meaning_spell v lock low Exclusive good = refl
 meaning_spell v lock low Shared good = refl
+meaning_spell v order low LastFastest good = refl
+meaning_spell v order low FirstFastest good = refl
 
 plain_target : (v : Version) (t : Option Rank) → IsGoodTarget v t → is_plain (target_text t) ≡ true
 plain_target v None good = refl
@@ -182,6 +199,7 @@ plain_spell v name low text good = plain_name text good
 plain_spell v rank low r good = plain_decimal r.0 (narrow_rank v r.0 good)
 plain_spell v size low n good = plain_decimal n (narrow_size v n good.1)
 plain_spell v (number from to) low n good = plain_decimal n (narrow to n low good.1)
+plain_spell v (integer from to) low z good = plain_signed from to z (narrow_low from to low) (narrow_high from to low) good
 plain_spell v ranks low them good = plain_ranks (last_rank v) them (few_ranks v) good
 plain_spell v target low t good = plain_target v t good
 plain_spell v model low Separate good = refl
@@ -202,6 +220,8 @@ plain_spell v operation low op.Replace good = refl
 plain_spell v operation low op.NoOp good = refl
 plain_spell v lock low Exclusive good = refl
 plain_spell v lock low Shared good = refl
+plain_spell v order low LastFastest good = refl
+plain_spell v order low FirstFastest good = refl
 
 -- each value is a good one
 abbrev pub AllGood : Version → (kinds : List Kind) → Values kinds → Type 0
@@ -252,3 +272,21 @@ first_value v kind kinds make text texts made is =
     let step = bind_ok (meaning v kind text) (λ value. made_of v kinds (make value) texts) made is in
     let rest = made_of_good v kinds (make step.0) texts made step.2 in
     (record { values = (step.0, rest.values); good = (meaning_good v kind text step.0 step.1, rest.good); is = rest.is }, step.1)
+
+-- the values of fields are good ones
+pub values_of_good : (v : Version) (kinds : List Kind) (texts : List (List ℕ)) (values : Values kinds) → values_of v kinds texts ≡ Ok values → AllGood v kinds values
+values_of_good v [] texts values is = tt
+values_of_good v (kind ∷ kinds) [] values is = absurd (cc is)
+values_of_good v (kind ∷ kinds) (text ∷ texts) values is =
+    let first = bind_ok (meaning v kind text) (λ value. values_of v kinds texts >>= λ more. Ok (value, more)) values is in
+    let rest = bind_ok (values_of v kinds texts) (λ more. Ok (first.0, more)) values first.2 in
+    let same : (first.0, rest.0) ≡ values = cc rest.2 in
+    subst (AllGood v (kind ∷ kinds)) same (meaning_good v kind text first.0 first.1, values_of_good v kinds texts rest.0 rest.1)
+
+-- the words of good values have these values, whatever stands behind them
+pub values_of_spells : (v : Version) (kinds : List Kind) → list_all is_narrow kinds ≡ true → (values : Values kinds) → AllGood v kinds values → (behind : List (List ℕ))
+    → values_of v kinds (all_written kinds values ++ behind) ≡ Ok values
+values_of_spells v [] low values good behind = refl
+values_of_spells v (kind ∷ kinds) low values good behind =
+    ap (λ read. read >>= λ value. values_of v kinds (all_written kinds values.1 ++ behind) >>= λ more. Ok (value, more)) (meaning_spell v kind (and_left (is_narrow kind) _ low) values.0 good.0)
+    ∙ ap (λ read. read >>= λ more. Ok (values.0, more)) (values_of_spells v kinds (and_right (is_narrow kind) _ low) values.1 good.1 behind)

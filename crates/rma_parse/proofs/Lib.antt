@@ -3,6 +3,8 @@ pub mod SeenLemmas
 pub mod WordLemmas
 pub mod PlainLemmas
 pub mod KindLemmas
+pub mod ItemLemmas
+pub mod GroupLemmas
 pub mod TailLemmas
 pub mod HeadLemmas
 pub mod CanonicalLemmas

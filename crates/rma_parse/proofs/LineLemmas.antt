@@ -3,7 +3,7 @@ use Rattle.std.proofs.Common.{◌≡◌, ℕ, ◌+◌, ◌-◌, ◌≤◌, true,
 use Rattle.std.specs.Prelude.{is_some, find, not, nat_lt, IsNone, IfSome, MatchOption, Some, None, if◌then◌else◌}
 use Rattle.std.proofs.Common.{Bor}
 use Rattle.std.proofs.lemmas.Bool.{cases_Bool, le-ltb}
-use Rattle.std.proofs.lemmas.List.{length-map}
+use Rattle.std.proofs.lemmas.List.{drop-drop, length-map}
 use Rattle.std.proofs.Common.{length-take-le}
 use Rattle.std.proofs.Math.Seq.{take-length}
 use Rattle.rma_base.specs.declared.form_reason.FormReason.{FormReason}
@@ -65,6 +65,17 @@ pub counted_enough : (v : Version) (form : LineForm) (words : List (List ℕ)) (
 counted_enough v form words least is enough =
     let more : nat_lt (length words) (kind_words form + length (form_at form).kinds) ≡ false = rw is at enough in
     rw (more, is) refl
+
+-- what stands behind as many fields as the form has was counted
+pub counted_behind : (v : Version) (form : LineForm) (words : List (List ℕ)) → counted v form words ≡ Ok tt
+    → tail_counted v (form_at form).tail (drop (length (form_at form).kinds) (drop (kind_words form) words)) ≡ Ok tt
+counted_behind v form words is =
+    let least = kind_words form + length (form_at form).kinds in
+    ⊎_elim
+    (λ (few : nat_lt (length words) least ≡ true). absurd (let bad = rw (counted_few v form words least refl few) at is in cc bad))
+    (λ (enough : nat_lt (length words) least ≡ false).
+    ap (tail_counted v (form_at form).tail) (drop-drop (length (form_at form).kinds) (kind_words form) words) ∙ sym (counted_enough v form words least refl enough) ∙ is)
+    (cases_Bool (nat_lt (length words) least))
 
 -- the same of fields
 pub counted_fields : (v : Version) (form : LineForm) (fields : List (Bor (List ℕ))) (least : ℕ) → least ≡ kind_words form + length (form_at form).kinds → least ≤ length fields

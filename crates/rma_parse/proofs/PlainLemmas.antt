@@ -1,6 +1,7 @@
 -- Words without a blank and without `@`.
-use Rattle.std.proofs.Common.{◌≡◌, ℕ, ◌^◌, ◌<◌, ◌≤◌, ◌&&◌, not, Bool, true, false, List, [], ◌∷◌, length, map, refl, ◌∙◌, arith, eqb}
-use Rattle.std.specs.Prelude.{decimal}
+use Rattle.std.proofs.Common.{◌≡◌, ℕ, ℤ, suc, ◌^◌, ◌<◌, ◌≤◌, ◌&&◌, not, Bool, true, false, List, [], ◌∷◌, length, map, refl, ◌∙◌, arith, eqb}
+use Rattle.std.specs.Prelude.{decimal, pos, negsuc}
+use Rattle.std.specs.Fmt.{signed_decimal}
 use Rattle.std.specs.List.{list_all, join_with_byte}
 use Rattle.std.proofs.lemmas.Bool.{false≢true}
 use Rattle.std.proofs.lemmas.Bool.Decides.{nat_tests}
@@ -9,6 +10,7 @@ use Rattle.rma_base.proofs.NameLemmas.{and_left, and_right}
 use Rattle.rma_base.specs.Name.{is_name, begins_name, continues_name}
 use Rattle.rma_base.specs.Site.{is_site, is_site_byte}
 use Rattle.rma_lex.specs.Field.{is_field}
+use Rattle.rma_field.specs.Integers.{IsBetween}
 use Rattle.rma_field.specs.Ranks.{ranks_text}
 use Rattle.rma_parse.specs.Lines.{begins_with}
 use Rattle.rma_field.proofs.DecimalLemmas.{is_decimal, some_decimal, decimal_decimal}
@@ -53,6 +55,11 @@ plain_name (byte ∷ bytes) good =
 
 pub plain_decimal : (n : ℕ) → n < 2 ^ 64 → is_plain (decimal n) ≡ true
 plain_decimal n low = plain_some (decimal n) (some_decimal n low) (each is_decimal is_plain_byte plain_digit (decimal n) (decimal_decimal n low))
+
+pub plain_signed : (low high : ℕ) (z : ℤ) → low < 2 ^ 64 → high < 2 ^ 64 → IsBetween low high z → is_plain (signed_decimal z) ≡ true
+plain_signed low high (pos n) small large to = plain_decimal n (omega arith)
+plain_signed low high (negsuc n) small large from =
+    each is_decimal is_plain_byte plain_digit (decimal (suc n)) (decimal_decimal (suc n) (omega arith))
 
 plain_join : (first : List ℕ) (more : List (List ℕ)) → list_all (list_all is_decimal) (first ∷ more) ≡ true → list_all is_plain_byte (join_with_byte 44 (first ∷ more)) ≡ true
 plain_join first [] all = each is_decimal is_plain_byte plain_digit first (and_left (list_all is_decimal first) _ all)

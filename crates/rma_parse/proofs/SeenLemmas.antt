@@ -10,6 +10,7 @@ use Rattle.std.proofs.lemmas.Option.{none-some}
 use Rattle.rma_parse.proofs.LineLemmas.{fields_front}
 use Rattle.rma_parse.specs.Lines.{fields_of}
 use Rattle.rma_field.specs.Texts.{texts_at}
+use Rattle.rma_parse.specs.inside.Places.{from_place}
 
 -- one more word is kept
 texts_more : (items : List (Bor (List ℕ))) (text : Bor (List ℕ)) (later : List (List ℕ)) → texts_at (items ++ text ∷ []) ++ later ≡ texts_at items ++ text.now ∷ later
@@ -83,11 +84,6 @@ texts_behind from items = ap texts_at (take_all from items) ∙ sym (drop-map (�
 
 pub texts_front : (to : ℕ) (items : List (Bor (List ℕ))) → texts_at (take to items) ≡ take to (texts_at items)
 texts_front to items = sym (take-map (λ text. text.now) to items)
-
--- so many texts from a place on
-abbrev pub from_place : List (Bor (List ℕ)) → Bor (List ℕ) → ℕ → ℕ → List (List ℕ)
-from_place items other place zero = []
-from_place items other place (suc n) = (get_or items place other).now ∷ from_place items other (suc place) n
 
 from_place_behind : (item : Bor (List ℕ)) (items : List (Bor (List ℕ))) (other : Bor (List ℕ)) (place n : ℕ) → from_place (item ∷ items) other (suc place) n ≡ from_place items other place n
 from_place_behind item items other place zero = refl

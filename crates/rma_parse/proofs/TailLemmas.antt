@@ -18,11 +18,13 @@ use Rattle.rma_field.specs.Kinds.{is_word, last_rank, rank_of}
 use Rattle.rma_field.specs.Numbers.{natural}
 use Rattle.rma_field.proofs.AssertionLemmas.{asserts_asserted}
 use Rattle.rma_field.proofs.DecimalLemmas.{natural_decimal}
-use Rattle.rma_parse.specs.Tails.{Tail, closed, received, asserted, TailValue, allowed_in, tail_counted, tail_of, tail_words}
+use Rattle.rma_parse.specs.Groups as group
+use Rattle.rma_parse.specs.Tails.{Tail, closed, received, asserted, groups, TailValue, allowed_in, tail_counted, tail_of, tail_words}
 use Rattle.rma_parse.specs.Forms.{form_at}
 use Rattle.rma_parse.specs.declared.form.LineForm.{LineForm}
 use Rattle.rma_parse.specs.declared.form.LineForm.TheVariants as form
 use Rattle.rma_parse.proofs.KindLemmas.{bind_ok, narrow_rank, natural_range, rank_good, rank_spell}
+use Rattle.rma_parse.proofs.GroupLemmas.{AreGoodItems, all_words, items_counted, items_spell, plain_items}
 use Rattle.rma_parse.proofs.PlainLemmas.{is_plain, plain_decimal}
 
 -- a source and a tag of a version, or none
@@ -35,6 +37,7 @@ abbrev pub IsGoodTail : Version → (tail : Tail) → TailValue tail → Type 0
 IsGoodTail v closed value = Unit {0}
 IsGoodTail v received value = IsGoodReceived v value
 IsGoodTail v (asserted one two) value = assertions_of v (allowed_in v (asserted one two)) (assertion_words value) ≡ Ok value
+IsGoodTail v (groups kind least most) value = AreGoodItems v kind value × (tail_counted v (groups kind least most) (all_words kind value) ≡ Ok tt)
 
 received_good : (v : Version) (words : List (List ℕ)) (value : Option Received) → tail_of v received words ≡ Ok value → IsGoodReceived v value
 received_good v [] value is = let same : None ≡ value = cc is in subst (IsGoodReceived v) same tt
@@ -147,19 +150,24 @@ lone_two_good words value is = let said = within Two (Nocheck ∷ []) words valu
 
 -- what stands behind the fields of a form is a good value
 pub tail_good : (v : Version) (form : LineForm) (words : List (List ℕ)) (value : TailValue (form_at form).tail)
-    → tail_of v (form_at form).tail words ≡ Ok value → IsGoodTail v (form_at form).tail value
-tail_good v form.Wait words value is = received_good v words value is
-tail_good One form.Fence words value is = fence_one_good words value is
-tail_good Two form.Fence words value is = fence_two_good words value is
-tail_good One form.Post words value is = none_one_good words value is
-tail_good Two form.Post words value is = post_two_good words value is
-tail_good One form.Start words value is = none_one_good words value is
-tail_good Two form.Start words value is = lone_two_good words value is
-tail_good One form.Lock words value is = none_one_good words value is
-tail_good Two form.Lock words value is = lone_two_good words value is
-tail_good One form.LockAll words value is = none_one_good words value is
-tail_good Two form.LockAll words value is = lone_two_good words value is
-tail_good v _ words value is = tt
+    → tail_counted v (form_at form).tail words ≡ Ok tt → tail_of v (form_at form).tail words ≡ Ok value → IsGoodTail v (form_at form).tail value
+tail_good v form.Wait words value counts is = received_good v words value is
+tail_good One form.Fence words value counts is = fence_one_good words value is
+tail_good Two form.Fence words value counts is = fence_two_good words value is
+tail_good One form.Post words value counts is = none_one_good words value is
+tail_good Two form.Post words value counts is = post_two_good words value is
+tail_good One form.Start words value counts is = none_one_good words value is
+tail_good Two form.Start words value counts is = lone_two_good words value is
+tail_good One form.Lock words value counts is = none_one_good words value is
+tail_good Two form.Lock words value counts is = lone_two_good words value is
+tail_good One form.LockAll words value counts is = none_one_good words value is
+tail_good Two form.LockAll words value counts is = lone_two_good words value is
+tail_good v form.Indexed words value counts is = items_counted v group.block 0 None words value counts is
+tail_good v form.Hindexed words value counts is = items_counted v group.byte_block 0 None words value counts is
+tail_good v form.IndexedBlock words value counts is = items_counted v group.displacement 0 None words value counts is
+tail_good v form.Struct words value counts is = items_counted v group.member 0 None words value counts is
+tail_good v form.Subarray words value counts is = items_counted v group.dimension 1 (Some 8) words value counts is
+tail_good v _ words value counts is = tt
 
 received_spell : (v : Version) (value : Option Received) → IsGoodReceived v value → tail_of v received (tail_words received value) ≡ Ok value
 received_spell v None good = refl
@@ -172,6 +180,7 @@ pub tail_spell : (v : Version) (tail : Tail) (value : TailValue tail) → IsGood
 tail_spell v closed value good = refl
 tail_spell v received value good = received_spell v value good
 tail_spell v (asserted one two) value good = good
+tail_spell v (groups kind least most) value good = items_spell v kind value good.0
 
 received_counted : (v : Version) (value : Option Received) → tail_counted v received (tail_words received value) ≡ Ok tt
 received_counted v None = refl
@@ -181,6 +190,7 @@ pub tail_counted_spell : (v : Version) (tail : Tail) (value : TailValue tail) �
 tail_counted_spell v closed value good = refl
 tail_counted_spell v received value good = received_counted v value
 tail_counted_spell v (asserted one two) value good = rw good refl
+tail_counted_spell v (groups kind least most) value good = good.1
 
 plain_assertion : (it : Assertion) → is_plain (assertion_word it) ≡ true
 plain_assertion Nocheck = refl
@@ -208,3 +218,4 @@ pub plain_tail : (v : Version) (tail : Tail) (value : TailValue tail) → IsGood
 plain_tail v closed value good = refl
 plain_tail v received value good = plain_received v value good
 plain_tail v (asserted one two) value good = plain_chosen (asserts value) all_assertions
+plain_tail v (groups kind least most) value good = plain_items v kind value good.0

@@ -26,3 +26,9 @@ abbrev pub made_of : {A : Type 0} → Version → (kinds : List Kind) → Made k
 made_of v [] made texts = Ok made
 made_of v (kind ∷ kinds) make [] = Err WrongCount
 made_of v (kind ∷ kinds) make (text ∷ texts) = meaning v kind text >>= λ value. made_of v kinds (make value) texts
+
+-- the values of the fields from left to right, as far as there are kinds: the first bad one decides
+abbrev pub values_of : Version → (kinds : List Kind) → List (List ℕ) → Result (Values kinds) FormReason
+values_of v [] texts = Ok tt
+values_of v (kind ∷ kinds) [] = Err WrongCount
+values_of v (kind ∷ kinds) (text ∷ texts) = meaning v kind text >>= λ value. values_of v kinds texts >>= λ more. Ok (value, more)

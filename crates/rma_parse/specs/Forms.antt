@@ -16,12 +16,25 @@ use Rattle.rma_call.specs.declared.window.WindowCall.TheVariants.{Create, Free, 
 use Rattle.rma_call.specs.declared.epoch.EpochCall.TheVariants.{Fence, Post, Start, Complete, Expwait, Lock, Unlock, LockAll, UnlockAll, Flush, FlushAll, FlushLocal, FlushLocalAll}
 use Rattle.rma_call.specs.declared.epoch.EpochCall.TheVariants as epoch
 use Rattle.rma_call.specs.declared.moving.MovingCall.TheVariants.{Bcast, Scatter, Gather, Reduce, Allreduce, Allgather, Alltoall}
-use Rattle.rma_field.specs.Kinds.{Kind, version, name, rank, size, number, ranks, model, operations, lock, is_word, known}
+use Rattle.rma_base.specs.declared.rank.Rank.{Rank}
+use Rattle.rma_datatype.specs.declared.make.Make.{Make}
+use Rattle.rma_datatype.specs.declared.make.Make.TheVariants.{Contiguous, Vector, Hvector, Indexed, Hindexed, IndexedBlock, Struct, Resized, Subarray}
+use Rattle.rma_field.specs.Kinds.{Kind, version, name, rank, size, number, ranks, target, model, operations, operation, lock, order, is_word, known}
 use Rattle.rma_field.specs.Steps.{◌>>=◌}
 use Rattle.rma_parse.specs.Fields.{Made, Values, all_written, made_of}
-use Rattle.rma_parse.specs.Tails.{Tail, closed, received, asserted, TailValue, tail_of, tail_words}
+use Rattle.rma_parse.specs.Groups.{int, distance}
+use Rattle.rma_parse.specs.Groups as group
+use Rattle.rma_parse.specs.Tails.{Tail, closed, received, asserted, groups, TailValue, tail_of, tail_words}
+use Rattle.rma_parse.specs.Accesses.{address, buffer_kinds, transfer_kinds, fetching_kinds, rma, transferring, fetching, accessing, buffer_values, transfer_values, fetching_values}
 use Rattle.rma_parse.specs.declared.event.Event.{Event}
-use Rattle.rma_parse.specs.declared.event.Event.TheVariants.{Header, End, Call}
+use Rattle.rma_parse.specs.declared.event.Event.TheVariants.{Header, End, Call, Datatype, Rma, Local}
+use Rattle.rma_parse.specs.declared.event.local_line.LocalAccess.{LocalAccess}
+use Rattle.rma_parse.specs.declared.event.local_line.LocalAccess.TheVariants.{Load, Store, Poll}
+use Rattle.rma_parse.specs.declared.event.rma_line.Access.{Access}
+use Rattle.rma_parse.specs.declared.event.rma_line.Access.TheVariants.{Put, Get, Accumulate, GetAccumulate, FetchAndOp, CompareAndSwap}
+use Rattle.rma_parse.specs.declared.event.rma_line.Buffer.{Buffer}
+use Rattle.rma_parse.specs.declared.event.type_line.TypeLine.{TypeLine}
+use Rattle.rma_parse.specs.declared.event.type_line.TypeLine.TheVariants as typed
 use Rattle.rma_parse.specs.declared.form.LineForm.{LineForm}
 use Rattle.rma_parse.specs.declared.form.LineForm.TheVariants as form
 
@@ -38,10 +51,6 @@ pub record Form : Type 0 where
 abbrev pub tag : Kind
 tag = number 0 2147483647
 
--- an address, or a number of bytes
-abbrev pub address : Kind
-address = number 0 281474976710656
-
 -- a number of bytes that is not 0
 abbrev pub some_bytes : Kind
 some_bytes = number 1 281474976710656
@@ -49,6 +58,14 @@ some_bytes = number 1 281474976710656
 -- a displacement unit in bytes
 abbrev pub unit : Kind
 unit = number 1 2147483647
+
+-- a row of a line of a datatype, with the word of its kind
+abbrev pub typing : List ℕ → (kinds : List Kind) → (tail : Tail) → Made kinds (TailValue tail → Event) → Form
+typing kind kinds tail event = record { verb = codes "type"; kind_word = Some kind; kinds = kinds; tail = tail; event = event }
+
+-- a row of a line that has fields alone
+abbrev pub plain : List ℕ → (kinds : List Kind) → Made kinds (Unit {0} → Event) → Form
+plain verb kinds event = record { verb = verb; kind_word = None; kinds = kinds; tail = closed; event = event }
 
 -- the rows
 abbrev pub form_at : LineForm → Form
@@ -273,6 +290,30 @@ form_at form.Alltoall = record {
   tail = closed;
   event = λ bytes comm _. Call (Sync (Moving (Alltoall bytes comm))) None;
 }
+form_at form.Contiguous = typing (codes "contiguous") (name ∷ int ∷ name ∷ []) closed (λ made count old _. Datatype (typed.Make made (Contiguous count old)))
+form_at form.Vector = typing (codes "vector") (name ∷ int ∷ int ∷ int ∷ name ∷ []) closed (λ made count long stride old _. Datatype (typed.Make made (Vector count long stride old)))
+form_at form.Hvector = typing (codes "hvector") (name ∷ int ∷ int ∷ distance ∷ name ∷ []) closed (λ made count long stride old _. Datatype (typed.Make made (Hvector count long stride old)))
+form_at form.Indexed = typing (codes "indexed") (name ∷ name ∷ []) (groups group.block 0 None) (λ made old blocks. Datatype (typed.Make made (Indexed old blocks)))
+form_at form.Hindexed = typing (codes "hindexed") (name ∷ name ∷ []) (groups group.byte_block 0 None) (λ made old blocks. Datatype (typed.Make made (Hindexed old blocks)))
+form_at form.IndexedBlock = typing (codes "indexed_block") (name ∷ int ∷ name ∷ []) (groups group.displacement 0 None) (λ made long old displacements. Datatype (typed.Make made (IndexedBlock long old displacements)))
+form_at form.Struct = typing (codes "struct") (name ∷ []) (groups group.member 0 None) (λ made members. Datatype (typed.Make made (Struct members)))
+form_at form.Resized = typing (codes "resized") (name ∷ name ∷ distance ∷ distance ∷ []) closed (λ made old lower extent _. Datatype (typed.Make made (Resized old lower extent)))
+form_at form.Subarray = typing (codes "subarray") (name ∷ order ∷ name ∷ []) (groups group.dimension 1 (Some 8)) (λ made varying old dimensions. Datatype (typed.Make made (Subarray varying old dimensions)))
+form_at form.Commit = typing (codes "commit") (name ∷ []) closed (λ datatype _. Datatype (typed.Commit datatype))
+form_at form.FreeType = typing (codes "free") (name ∷ []) closed (λ datatype _. Datatype (typed.Free datatype))
+form_at form.Put = plain (codes "put") transfer_kinds (transferring Put None)
+form_at form.Get = plain (codes "get") transfer_kinds (transferring Get None)
+form_at form.Accumulate = plain (codes "acc") (operation ∷ transfer_kinds) (λ op. transferring (Accumulate op) None)
+form_at form.GetAccumulate = plain (codes "getacc") (operation ∷ fetching_kinds) (λ op. fetching op None)
+form_at form.FetchAndOp = plain (codes "fop") (operation ∷ name ∷ target ∷ address ∷ name ∷ address ∷ address ∷ []) (λ op window to place datatype at into _. rma window to place (FetchAndOp op datatype at into) None)
+form_at form.CompareAndSwap = plain (codes "cas") (name ∷ target ∷ address ∷ name ∷ address ∷ address ∷ address ∷ []) (λ window to place datatype at compared into _. rma window to place (CompareAndSwap datatype at compared into) None)
+form_at form.Rput = plain (codes "rput") (name ∷ transfer_kinds) (λ request. transferring Put (Some request))
+form_at form.Rget = plain (codes "rget") (name ∷ transfer_kinds) (λ request. transferring Get (Some request))
+form_at form.Raccumulate = plain (codes "racc") (name ∷ operation ∷ transfer_kinds) (λ request op. transferring (Accumulate op) (Some request))
+form_at form.RgetAccumulate = plain (codes "rgetacc") (name ∷ operation ∷ fetching_kinds) (λ request op. fetching op (Some request))
+form_at form.Load = plain (codes "load") buffer_kinds (accessing Load)
+form_at form.Store = plain (codes "store") buffer_kinds (accessing Store)
+form_at form.Poll = plain (codes "poll") buffer_kinds (accessing Poll)
 
 -- each form once
 abbrev pub forms : List LineForm
@@ -281,7 +322,10 @@ forms =
     ∷ form.Wait ∷ form.Create ∷ form.Free ∷ form.Fence ∷ form.Post ∷ form.Start ∷ form.Complete ∷ form.Expwait
     ∷ form.Lock ∷ form.Unlock ∷ form.LockAll ∷ form.UnlockAll ∷ form.Flush ∷ form.FlushAll ∷ form.FlushLocal ∷ form.FlushLocalAll
     ∷ form.Sync ∷ form.Dynamic ∷ form.Attach ∷ form.Detach ∷ form.Bcast ∷ form.Scatter ∷ form.Gather ∷ form.Reduce
-    ∷ form.Allreduce ∷ form.Allgather ∷ form.Alltoall ∷ []
+    ∷ form.Allreduce ∷ form.Allgather ∷ form.Alltoall ∷ form.Contiguous ∷ form.Vector ∷ form.Hvector ∷ form.Indexed ∷ form.Hindexed
+    ∷ form.IndexedBlock ∷ form.Struct ∷ form.Resized ∷ form.Subarray ∷ form.Commit ∷ form.FreeType ∷ form.Put ∷ form.Get
+    ∷ form.Accumulate ∷ form.GetAccumulate ∷ form.FetchAndOp ∷ form.CompareAndSwap ∷ form.Rput ∷ form.Rget ∷ form.Raccumulate
+    ∷ form.RgetAccumulate ∷ form.Load ∷ form.Store ∷ form.Poll ∷ []
 
 -- forms that logs of the first version do not have
 abbrev pub is_since_two : LineForm → Bool
@@ -295,6 +339,7 @@ is_since_two form.Reduce = true
 is_since_two form.Allreduce = true
 is_since_two form.Allgather = true
 is_since_two form.Alltoall = true
+is_since_two form.Poll = true
 is_since_two _ = false
 
 -- a form with a value for each of its fields
@@ -302,6 +347,58 @@ pub record Filled : Type 0 where
   pub form : LineForm
   pub values : Values (form_at form).kinds
   pub tail : TailValue (form_at form).tail
+
+-- the form of a datatype's line, and the values that make the event
+abbrev pub made_filled : List ℕ → Make → Filled
+made_filled made (Contiguous count old) = record { form = form.Contiguous; values = (made, (count, (old, tt))); tail = tt }
+made_filled made (Vector count long stride old) = record { form = form.Vector; values = (made, (count, (long, (stride, (old, tt))))); tail = tt }
+made_filled made (Hvector count long stride old) = record { form = form.Hvector; values = (made, (count, (long, (stride, (old, tt))))); tail = tt }
+made_filled made (Indexed old blocks) = record { form = form.Indexed; values = (made, (old, tt)); tail = blocks }
+made_filled made (Hindexed old blocks) = record { form = form.Hindexed; values = (made, (old, tt)); tail = blocks }
+made_filled made (IndexedBlock long old displacements) = record { form = form.IndexedBlock; values = (made, (long, (old, tt))); tail = displacements }
+made_filled made (Struct members) = record { form = form.Struct; values = (made, tt); tail = members }
+made_filled made (Resized old lower extent) = record { form = form.Resized; values = (made, (old, (lower, (extent, tt)))); tail = tt }
+made_filled made (Subarray varying old dimensions) = record { form = form.Subarray; values = (made, (varying, (old, tt))); tail = dimensions }
+
+abbrev pub type_filled : TypeLine → Filled
+type_filled (typed.Make made make) = made_filled made make
+type_filled (typed.Commit datatype) = record { form = form.Commit; values = (datatype, tt); tail = tt }
+type_filled (typed.Free datatype) = record { form = form.FreeType; values = (datatype, tt); tail = tt }
+
+-- the form of the line of a call on a window, and the values that make the event
+abbrev pub access_filled : List ℕ → Option Rank → ℕ → Access → Option (List ℕ) → Filled
+access_filled window to place (Put it) None = record { form = form.Put; values = transfer_values window to place it; tail = tt }
+access_filled window to place (Put it) (Some request) = record { form = form.Rput; values = (request, transfer_values window to place it); tail = tt }
+access_filled window to place (Get it) None = record { form = form.Get; values = transfer_values window to place it; tail = tt }
+access_filled window to place (Get it) (Some request) = record { form = form.Rget; values = (request, transfer_values window to place it); tail = tt }
+access_filled window to place (Accumulate op it) None = record { form = form.Accumulate; values = (op, transfer_values window to place it); tail = tt }
+access_filled window to place (Accumulate op it) (Some request) = record {
+  form = form.Raccumulate;
+  values = (request, (op, transfer_values window to place it));
+  tail = tt;
+}
+access_filled window to place (GetAccumulate op it into) None = record { form = form.GetAccumulate; values = (op, fetching_values window to place it into); tail = tt }
+access_filled window to place (GetAccumulate op it into) (Some request) = record {
+  form = form.RgetAccumulate;
+  values = (request, (op, fetching_values window to place it into));
+  tail = tt;
+}
+access_filled window to place (FetchAndOp op datatype at into) request = record {
+  form = form.FetchAndOp;
+  values = (op, (window, (to, (place, (datatype, (at, (into, tt)))))));
+  tail = tt;
+}
+access_filled window to place (CompareAndSwap datatype at compared into) request = record {
+  form = form.CompareAndSwap;
+  values = (window, (to, (place, (datatype, (at, (compared, (into, tt)))))));
+  tail = tt;
+}
+
+-- the form of a local access's line, and the values that make the event
+abbrev pub local_filled : LocalAccess → Buffer → Filled
+local_filled Load it = record { form = form.Load; values = buffer_values it; tail = tt }
+local_filled Store it = record { form = form.Store; values = buffer_values it; tail = tt }
+local_filled Poll it = record { form = form.Poll; values = buffer_values it; tail = tt }
 
 -- the form of an event's line, and the values that make the event
 abbrev pub filled : Event → Filled
@@ -348,6 +445,9 @@ filled (Call (Sync (Moving (Reduce root bytes comm))) request) = record { form =
 filled (Call (Sync (Moving (Allreduce bytes comm))) request) = record { form = form.Allreduce; values = (bytes, (comm, tt)); tail = tt }
 filled (Call (Sync (Moving (Allgather bytes comm))) request) = record { form = form.Allgather; values = (bytes, (comm, tt)); tail = tt }
 filled (Call (Sync (Moving (Alltoall bytes comm))) request) = record { form = form.Alltoall; values = (bytes, (comm, tt)); tail = tt }
+filled (Datatype line) = type_filled line
+filled (Rma line request) = access_filled line.window line.target line.displacement line.access request
+filled (Local line) = local_filled line.access line.buffer
 
 -- ---- what follows from the rows
 

@@ -5,6 +5,7 @@ pub use Rattle.rma_base.specs.Version
 pub use Rattle.rma_base.specs.Window
 pub use Rattle.rma_call.specs.Assertion
 pub use Rattle.rma_field.specs.Assertions
+pub use Rattle.rma_field.specs.Integers
 pub use Rattle.rma_field.specs.Kinds
 pub use Rattle.rma_field.specs.Numbers
 pub use Rattle.rma_field.specs.Ranks
@@ -13,7 +14,9 @@ pub use Rattle.rma_field.specs.Steps
 pub use Rattle.rma_field.specs.Texts
 pub use Rattle.rma_lex.specs.Field
 pub mod Fields
+pub mod Groups
 pub mod Tails
+pub mod Accesses
 pub mod Forms
 pub mod Lines
 pub mod Canonical

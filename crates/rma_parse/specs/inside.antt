@@ -3,3 +3,6 @@ pub mod TailKinds
 pub mod Suffix
 pub mod Creations
 pub mod Kind
+pub mod Places
+pub mod Continued
+pub mod AccessWords

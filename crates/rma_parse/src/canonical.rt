@@ -6,7 +6,7 @@ ghost use Rattle.rma_parse.specs.Canonical.{canonical, site_suffix, spelled};
 ghost use Rattle.rma_parse.specs.Lines.{states};
 
 use crate::event::{Event, Stated};
-use crate::form::{epoch, frame, message, moving, window};
+use crate::form::{datatype, epoch, frame, local, message, moving, rma, window};
 use rma_base::{Memory, Name, Site};
 use rma_call::{SyncCall, What};
 use std::alloc::Global;
@@ -44,6 +44,9 @@ fn event_line(alloc: Global, event: &Event) -> Result<String, Memory>
         } => frame::header_line(alloc, *version, *rank, *size),
         Event::End => frame::end_line(alloc),
         Event::Call { what, request } => call_line(alloc, what, request),
+        Event::Datatype(line) => datatype::line(alloc, line),
+        Event::Rma { line, request } => rma::line(alloc, line, request),
+        Event::Local(line) => local::line(alloc, line),
     }
 }
 

@@ -1,6 +1,13 @@
 //! What the lines of a log state.
+pub(crate) mod local_line;
+pub(crate) mod rma_line;
+pub(crate) mod type_line;
+
+pub use local_line::{LocalAccess, LocalLine};
 use rma_base::{Name, Rank, Site, Version};
 use rma_call::What;
+pub use rma_line::{Access, Buffer, RmaLine, Transfer};
+pub use type_line::TypeLine;
 
 /// What a line states.
 #[derive(Debug, Drop)]
@@ -32,4 +39,15 @@ pub enum Event {
         /// The request that it makes or completes.
         request: Option<Name>,
     },
+    /// Something happens to a datatype.
+    Datatype(TypeLine),
+    /// The rank makes a call that accesses the part of a target.
+    Rma {
+        /// What it does.
+        line: RmaLine,
+        /// The request that it makes.
+        request: Option<Name>,
+    },
+    /// The rank accesses its own memory.
+    Local(LocalLine),
 }

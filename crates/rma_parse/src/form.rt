@@ -1,15 +1,19 @@
 //! The table of the forms of lines. `specs/Forms.antt` has the same rows.
-ghost use Rattle.std.specs.Prelude.{◌≡◌, ◌+◌, ◌≤◌, length, find, option_map, is_some, true, IfSome};
+ghost use Rattle.std.specs.Prelude.{◌≡◌, ◌+◌, ◌≤◌, length, find, option_map, is_some, true, None, IfSome};
 ghost use Rattle.rma_parse.specs.Forms.{form_at, forms, has_verb, has_words, is_in, is_since_two, kind_words};
 ghost use Rattle.rma_parse.specs.Tails.{allowed_in};
 ghost use Rattle.rma_parse.specs.inside.Kind.{IsKind};
-ghost use Rattle.rma_parse.specs.inside.TailKinds.{tail_kind};
+ghost use Rattle.rma_parse.specs.inside.TailKinds.{HasWords, tail_kind};
 
+pub(crate) mod datatype;
 pub(crate) mod epoch;
 pub(crate) mod frame;
+pub(crate) mod group;
 mod likely;
+pub(crate) mod local;
 pub(crate) mod message;
 pub(crate) mod moving;
+pub(crate) mod rma;
 pub(crate) mod window;
 
 use likely::likely;
@@ -89,10 +93,58 @@ pub enum LineForm {
     Allgather,
     /// `alltoall`
     Alltoall,
+    /// `type contiguous`
+    Contiguous,
+    /// `type vector`
+    Vector,
+    /// `type hvector`
+    Hvector,
+    /// `type indexed`
+    Indexed,
+    /// `type hindexed`
+    Hindexed,
+    /// `type indexed_block`
+    IndexedBlock,
+    /// `type struct`
+    Struct,
+    /// `type resized`
+    Resized,
+    /// `type subarray`
+    Subarray,
+    /// `type commit`
+    Commit,
+    /// `type free`
+    FreeType,
+    /// `put`
+    Put,
+    /// `get`
+    Get,
+    /// `acc`
+    Accumulate,
+    /// `getacc`
+    GetAccumulate,
+    /// `fop`
+    FetchAndOp,
+    /// `cas`
+    CompareAndSwap,
+    /// `rput`
+    Rput,
+    /// `rget`
+    Rget,
+    /// `racc`
+    Raccumulate,
+    /// `rgetacc`
+    RgetAccumulate,
+    /// `load`
+    Load,
+    /// `store`
+    Store,
+    /// `poll`
+    Poll,
 }
 
 // Each form once.
-const FORMS: [LineForm; 35] = [
+const FORMS: [LineForm; 59] = [
     LineForm::Header,
     LineForm::End,
     LineForm::Comm,
@@ -128,6 +180,30 @@ const FORMS: [LineForm; 35] = [
     LineForm::Allreduce,
     LineForm::Allgather,
     LineForm::Alltoall,
+    LineForm::Contiguous,
+    LineForm::Vector,
+    LineForm::Hvector,
+    LineForm::Indexed,
+    LineForm::Hindexed,
+    LineForm::IndexedBlock,
+    LineForm::Struct,
+    LineForm::Resized,
+    LineForm::Subarray,
+    LineForm::Commit,
+    LineForm::FreeType,
+    LineForm::Put,
+    LineForm::Get,
+    LineForm::Accumulate,
+    LineForm::GetAccumulate,
+    LineForm::FetchAndOp,
+    LineForm::CompareAndSwap,
+    LineForm::Rput,
+    LineForm::Rget,
+    LineForm::Raccumulate,
+    LineForm::RgetAccumulate,
+    LineForm::Load,
+    LineForm::Store,
+    LineForm::Poll,
 ];
 
 // A row of the table: the verb, the word of its kind behind some verbs, and the number of further fields.
@@ -147,6 +223,15 @@ pub(crate) enum TailKind {
     Received,
     /// Words of assertions.
     Asserted,
+    /// Groups of words.
+    Groups {
+        /// How many words each has.
+        size: usize,
+        /// How many groups there are at least.
+        least: usize,
+        /// How many there are at most, if that is bounded.
+        most: Option<usize>,
+    },
 }
 
 impl LineForm {
@@ -193,6 +278,30 @@ impl LineForm {
             LineForm::Allreduce => ("allreduce", None, 2),
             LineForm::Allgather => ("allgather", None, 2),
             LineForm::Alltoall => ("alltoall", None, 2),
+            LineForm::Contiguous => ("type", Some("contiguous"), 3),
+            LineForm::Vector => ("type", Some("vector"), 5),
+            LineForm::Hvector => ("type", Some("hvector"), 5),
+            LineForm::Indexed => ("type", Some("indexed"), 2),
+            LineForm::Hindexed => ("type", Some("hindexed"), 2),
+            LineForm::IndexedBlock => ("type", Some("indexed_block"), 3),
+            LineForm::Struct => ("type", Some("struct"), 1),
+            LineForm::Resized => ("type", Some("resized"), 4),
+            LineForm::Subarray => ("type", Some("subarray"), 3),
+            LineForm::Commit => ("type", Some("commit"), 1),
+            LineForm::FreeType => ("type", Some("free"), 1),
+            LineForm::Put => ("put", None, 8),
+            LineForm::Get => ("get", None, 8),
+            LineForm::Accumulate => ("acc", None, 9),
+            LineForm::GetAccumulate => ("getacc", None, 12),
+            LineForm::FetchAndOp => ("fop", None, 7),
+            LineForm::CompareAndSwap => ("cas", None, 7),
+            LineForm::Rput => ("rput", None, 9),
+            LineForm::Rget => ("rget", None, 9),
+            LineForm::Raccumulate => ("racc", None, 10),
+            LineForm::RgetAccumulate => ("rgetacc", None, 13),
+            LineForm::Load => ("load", None, 3),
+            LineForm::Store => ("store", None, 3),
+            LineForm::Poll => ("poll", None, 3),
         };
         Row { verb, kind, fields }
     }
@@ -211,7 +320,8 @@ impl LineForm {
             | LineForm::Reduce
             | LineForm::Allreduce
             | LineForm::Allgather
-            | LineForm::Alltoall => true,
+            | LineForm::Alltoall
+            | LineForm::Poll => true,
             _ => false,
         }
     }
@@ -228,7 +338,8 @@ impl LineForm {
 
     /// What may stand behind the fields.
     pub(crate) fn tail(self) -> TailKind
-        ensures { result ≡ tail_kind (form_at self).tail }
+        ensures is { result ≡ tail_kind (form_at self).tail }
+        ensures words { HasWords result }
     {
         match self {
             LineForm::Wait => TailKind::Received,
@@ -237,6 +348,14 @@ impl LineForm {
             | LineForm::Start
             | LineForm::Lock
             | LineForm::LockAll => TailKind::Asserted,
+            LineForm::IndexedBlock => any_groups(1),
+            LineForm::Indexed | LineForm::Hindexed => any_groups(2),
+            LineForm::Struct => any_groups(3),
+            LineForm::Subarray => TailKind::Groups {
+                size: 3,
+                least: 1,
+                most: Some(8),
+            },
             _ => TailKind::Closed,
         }
     }
@@ -350,5 +469,16 @@ impl LineForm {
             .iter()
             .copied()
             .find(|form| form.has_words(version, verb, kind))
+    }
+}
+
+// Any number of groups of so many words.
+fn any_groups(size: usize) -> TailKind
+    ensures { result ≡ TailKind.Groups size 0 None }
+{
+    TailKind::Groups {
+        size,
+        least: 0,
+        most: None,
     }
 }

@@ -5,12 +5,15 @@ ghost use Rattle.rma_field.specs.Steps.{Gives, Passes};
 ghost use Rattle.rma_field.specs.Texts.{texts_at};
 ghost use Rattle.rma_parse.specs.Forms.{form_at, form_of, form_of_kind, event_of, kind_words};
 ghost use Rattle.rma_parse.specs.Lines.{counted, fields_of, reading, site_of, stated_by, stated_in};
-ghost use Rattle.rma_parse.specs.Tails.{tail_counted};
+ghost use Rattle.rma_parse.specs.Tails.{groups_counted, tail_counted};
 ghost use Rattle.rma_parse.specs.inside.Words.{as_found};
 
-use crate::event::{Event, Stated};
-use crate::form::{LineForm, TailKind, epoch, frame, message, moving, window};
-use crate::words::{Seen, Words, begins_with};
+use crate::event::{Event, LocalAccess, Stated};
+use crate::form::rma::Movement;
+use crate::form::{
+    LineForm, TailKind, datatype, epoch, frame, local, message, moving, rma, window,
+};
+use crate::words::{Seen, Words, begins_with, behind};
 use rma_base::{FormReason, Site, Version};
 use rma_field::{ParseError, Texts, assertions_field, refused};
 use rma_lex::{TokenIter, tokens};
@@ -111,15 +114,6 @@ fn counted<'w, 'a>(
     Ok(behind(fields, kind_words))
 }
 
-// The fields from an index on.
-fn behind<'w, 'a>(fields: &'w [&'a [u8]], from: usize) -> &'w [&'a [u8]]
-    requires { from ≤ length fields.now }
-    ensures texts { texts_at result.now ≡ drop from (texts_at fields.now) }
-    ensures number { length result.now + from ≡ length fields.now }
-{
-    &fields[from..]
-}
-
 // Whether so many words may stand behind the fields, and words of assertions are good ones.
 fn tail_counted(version: Version, form: LineForm, words: &[&[u8]]) -> Result<(), ParseError>
     ensures { Gives result (tail_counted version (form_at form).tail (texts_at words.now)) }
@@ -131,7 +125,30 @@ fn tail_counted(version: Version, form: LineForm, words: &[&[u8]]) -> Result<(),
             Ok(_) => Ok(()),
             Err(error) => Err(error),
         },
+        TailKind::Groups { size, least, most } => groups_counted(size, least, most, words.len()),
         _ => Err(refused(FormReason::WrongCount)),
+    }
+}
+
+// Whether so many words are whole groups, and as many of them as may stand.
+fn groups_counted(
+    size: usize,
+    least: usize,
+    most: Option<usize>,
+    words: usize,
+) -> Result<(), ParseError>
+    requires { 0 < size }
+    ensures { Gives result (groups_counted size least most words) }
+{
+    let count = words / size;
+    let fits = match most {
+        Some(most) => count <= most,
+        None => true,
+    };
+    if words % size == 0 && count >= least && fits {
+        Ok(())
+    } else {
+        Err(refused(FormReason::WrongCount))
     }
 }
 
@@ -244,5 +261,29 @@ fn read_fields(
         LineForm::Allreduce => moving::allreduce(kept, fields[0], fields[1]),
         LineForm::Allgather => moving::allgather(kept, fields[0], fields[1]),
         LineForm::Alltoall => moving::alltoall(kept, fields[0], fields[1]),
+        LineForm::Contiguous => datatype::contiguous(kept, fields),
+        LineForm::Vector => datatype::vector(kept, fields),
+        LineForm::Hvector => datatype::hvector(kept, fields),
+        LineForm::Indexed => datatype::indexed(kept, fields, behind(fields, 2)),
+        LineForm::Hindexed => datatype::hindexed(kept, fields, behind(fields, 2)),
+        LineForm::IndexedBlock => datatype::indexed_block(kept, fields, behind(fields, 3)),
+        LineForm::Struct => datatype::structure(kept, fields, behind(fields, 1)),
+        LineForm::Resized => datatype::resized(kept, fields),
+        LineForm::Subarray => datatype::subarray(kept, fields, behind(fields, 3)),
+        LineForm::Commit => datatype::commit(kept, fields[0]),
+        LineForm::FreeType => datatype::free(kept, fields[0]),
+        LineForm::Put => rma::transfer(kept, version, Movement::Put, None, fields, 0),
+        LineForm::Get => rma::transfer(kept, version, Movement::Get, None, fields, 0),
+        LineForm::Accumulate => rma::accumulate(kept, version, fields),
+        LineForm::GetAccumulate => rma::get_accumulate(kept, version, fields),
+        LineForm::FetchAndOp => rma::fetch_and_op(kept, version, fields),
+        LineForm::CompareAndSwap => rma::compare_and_swap(kept, version, fields),
+        LineForm::Rput => rma::requested(kept, version, Movement::Put, fields),
+        LineForm::Rget => rma::requested(kept, version, Movement::Get, fields),
+        LineForm::Raccumulate => rma::raccumulate(kept, version, fields),
+        LineForm::RgetAccumulate => rma::rget_accumulate(kept, version, fields),
+        LineForm::Load => local::access(kept, LocalAccess::Load, fields),
+        LineForm::Store => local::access(kept, LocalAccess::Store, fields),
+        LineForm::Poll => local::access(kept, LocalAccess::Poll, fields),
     }
 }

@@ -11,7 +11,7 @@ use rma_lex::{TokenIter, tokens};
 use std::alloc::Global;
 use std::marker::Model;
 
-// The words of a line behind its verb. The first of them are at hand; no form has more.
+// The words of a line behind its verb. The first of them are at hand; only forms with groups have more.
 #[derive(Drop)]
 pub(crate) struct Words<'w, 'a> {
     line: &'a [u8],
@@ -105,11 +105,21 @@ impl<'w, 'a> Words<'w, 'a> {
 }
 
 // The first texts.
-fn first_of<'w, 'a>(texts: &'w [&'a [u8]], count: usize) -> &'w [&'a [u8]]
+pub(crate) fn first_of<'w, 'a>(texts: &'w [&'a [u8]], count: usize) -> &'w [&'a [u8]]
     requires { count ≤ length texts.now }
-    ensures { texts_at result.now ≡ take count (texts_at texts.now) }
+    ensures texts { texts_at result.now ≡ take count (texts_at texts.now) }
+    ensures number { length result.now ≡ count }
 {
     &texts[..count]
+}
+
+// The texts from an index on.
+pub(crate) fn behind<'w, 'a>(texts: &'w [&'a [u8]], from: usize) -> &'w [&'a [u8]]
+    requires { from ≤ length texts.now }
+    ensures texts { texts_at result.now ≡ drop from (texts_at texts.now) }
+    ensures number { length result.now + from ≡ length texts.now }
+{
+    &texts[from..]
 }
 
 // What was seen of some words: the first of them, how many they are, and the last.

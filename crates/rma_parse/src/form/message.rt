@@ -60,7 +60,7 @@ pub(crate) fn isend(
 ) -> Result<Event, ParseError>
     ensures { Gives result (event_of version LineForm.Isend (request.now ∷ to.now ∷ tag.now ∷ comm.now ∷ [])) }
 {
-    let request = texts.name(request)?;
+    let request = texts.request(request)?;
     let to = rank_field(version, to)?;
     let tag = natural(tag, 0, TAG)? as u32;
     let comm = texts.name(comm)?;
@@ -70,7 +70,7 @@ pub(crate) fn isend(
 pub(crate) fn irecv(texts: &mut Texts, request: &[u8], comm: &[u8]) -> Result<Event, ParseError>
     ensures { Gives result (event_of Version.Two LineForm.Irecv (request.now ∷ comm.now ∷ [])) }
 {
-    let request = texts.name(request)?;
+    let request = texts.request(request)?;
     let comm = texts.name(comm)?;
     Ok(call(MessageCall::Irecv { comm }, Some(request)))
 }
@@ -83,7 +83,7 @@ pub(crate) fn wait(
 ) -> Result<Event, ParseError>
     ensures { Gives result (event_of version LineForm.Wait (request.now ∷ texts_at rest.now)) }
 {
-    let request = texts.name(request)?;
+    let request = texts.request(request)?;
     let received = received_field(version, rest)?;
     Ok(call(MessageCall::Wait { received }, Some(request)))
 }

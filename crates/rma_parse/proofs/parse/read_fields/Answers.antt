@@ -1,10 +1,7 @@
-use Rattle.std.proofs.Common.{Bor, List, ℕ, []}
+use Rattle.rma_parse.specs.inside.Places.{nowhere}
 use Rattle.rma_parse.specs.declared.form.LineForm.TheVariants as form
 use Rattle.rma_parse.proofs.FieldLemmas.{read_as, read_rest}
 use Rattle.rma_parse.proofs.parse.read_fields.Goals as goal
-
-abbrev nowhere : Bor (List ℕ)
-nowhere = record { ref_ptr = (0, 0); now = [] }
 
 pub returns-in-Header : goal.returns-in-Header
 returns-in-Header c = read_as c.args.version _ form.Header c.args.fields.now nowhere _ c.in-Header.is c.requires c.header.ensures
@@ -110,3 +107,75 @@ returns-in-Allgather c = read_as c.args.version _ form.Allgather c.args.fields.n
 
 pub returns-in-Alltoall : goal.returns-in-Alltoall
 returns-in-Alltoall c = read_as c.args.version _ form.Alltoall c.args.fields.now nowhere _ c.in-Alltoall.is c.requires c.alltoall.ensures
+
+pub returns-in-Contiguous : goal.returns-in-Contiguous
+returns-in-Contiguous c = read_as c.args.version _ form.Contiguous c.args.fields.now nowhere _ c.in-Contiguous.is c.requires c.contiguous.ensures
+
+pub returns-in-Vector : goal.returns-in-Vector
+returns-in-Vector c = read_as c.args.version _ form.Vector c.args.fields.now nowhere _ c.in-Vector.is c.requires c.vector.ensures
+
+pub returns-in-Hvector : goal.returns-in-Hvector
+returns-in-Hvector c = read_as c.args.version _ form.Hvector c.args.fields.now nowhere _ c.in-Hvector.is c.requires c.hvector.ensures
+
+pub returns-in-Indexed : goal.returns-in-Indexed
+returns-in-Indexed c = read_rest c.args.version _ form.Indexed c.args.fields.now nowhere _ _ c.in-Indexed.is c.requires c.behind-in-Indexed.ensures.texts c.indexed.ensures
+
+pub returns-in-Hindexed : goal.returns-in-Hindexed
+returns-in-Hindexed c = read_rest c.args.version _ form.Hindexed c.args.fields.now nowhere _ _ c.in-Hindexed.is c.requires c.behind-in-Hindexed.ensures.texts c.hindexed.ensures
+
+pub returns-in-IndexedBlock : goal.returns-in-IndexedBlock
+returns-in-IndexedBlock c = read_rest c.args.version _ form.IndexedBlock c.args.fields.now nowhere _ _ c.in-IndexedBlock.is c.requires c.behind-in-IndexedBlock.ensures.texts c.indexed_block.ensures
+
+pub returns-in-Struct : goal.returns-in-Struct
+returns-in-Struct c = read_rest c.args.version _ form.Struct c.args.fields.now nowhere _ _ c.in-Struct.is c.requires c.behind-in-Struct.ensures.texts c.structure.ensures
+
+pub returns-in-Resized : goal.returns-in-Resized
+returns-in-Resized c = read_as c.args.version _ form.Resized c.args.fields.now nowhere _ c.in-Resized.is c.requires c.resized.ensures
+
+pub returns-in-Subarray : goal.returns-in-Subarray
+returns-in-Subarray c = read_rest c.args.version _ form.Subarray c.args.fields.now nowhere _ _ c.in-Subarray.is c.requires c.behind-in-Subarray.ensures.texts c.subarray.ensures
+
+pub returns-in-Commit : goal.returns-in-Commit
+returns-in-Commit c = read_as c.args.version _ form.Commit c.args.fields.now nowhere _ c.in-Commit.is c.requires c.commit.ensures
+
+pub returns-in-FreeType : goal.returns-in-FreeType
+returns-in-FreeType c = read_as c.args.version _ form.FreeType c.args.fields.now nowhere _ c.in-FreeType.is c.requires c.free-in-FreeType.ensures
+
+pub returns-in-Put : goal.returns-in-Put
+returns-in-Put c = read_as c.args.version _ form.Put c.args.fields.now nowhere _ c.in-Put.is c.requires c.transfer.ensures
+
+pub returns-in-Get : goal.returns-in-Get
+returns-in-Get c = read_as c.args.version _ form.Get c.args.fields.now nowhere _ c.in-Get.is c.requires c.transfer-in-Get.ensures
+
+pub returns-in-Accumulate : goal.returns-in-Accumulate
+returns-in-Accumulate c = read_as c.args.version _ form.Accumulate c.args.fields.now nowhere _ c.in-Accumulate.is c.requires c.accumulate.ensures
+
+pub returns-in-GetAccumulate : goal.returns-in-GetAccumulate
+returns-in-GetAccumulate c = read_as c.args.version _ form.GetAccumulate c.args.fields.now nowhere _ c.in-GetAccumulate.is c.requires c.get_accumulate.ensures
+
+pub returns-in-FetchAndOp : goal.returns-in-FetchAndOp
+returns-in-FetchAndOp c = read_as c.args.version _ form.FetchAndOp c.args.fields.now nowhere _ c.in-FetchAndOp.is c.requires c.fetch_and_op.ensures
+
+pub returns-in-CompareAndSwap : goal.returns-in-CompareAndSwap
+returns-in-CompareAndSwap c = read_as c.args.version _ form.CompareAndSwap c.args.fields.now nowhere _ c.in-CompareAndSwap.is c.requires c.compare_and_swap.ensures
+
+pub returns-in-Rput : goal.returns-in-Rput
+returns-in-Rput c = read_as c.args.version _ form.Rput c.args.fields.now nowhere _ c.in-Rput.is c.requires c.requested.ensures
+
+pub returns-in-Rget : goal.returns-in-Rget
+returns-in-Rget c = read_as c.args.version _ form.Rget c.args.fields.now nowhere _ c.in-Rget.is c.requires c.requested-in-Rget.ensures
+
+pub returns-in-Raccumulate : goal.returns-in-Raccumulate
+returns-in-Raccumulate c = read_as c.args.version _ form.Raccumulate c.args.fields.now nowhere _ c.in-Raccumulate.is c.requires c.raccumulate.ensures
+
+pub returns-in-RgetAccumulate : goal.returns-in-RgetAccumulate
+returns-in-RgetAccumulate c = read_as c.args.version _ form.RgetAccumulate c.args.fields.now nowhere _ c.in-RgetAccumulate.is c.requires c.rget_accumulate.ensures
+
+pub returns-in-Load : goal.returns-in-Load
+returns-in-Load c = read_as c.args.version _ form.Load c.args.fields.now nowhere _ c.in-Load.is c.requires c.access.ensures
+
+pub returns-in-Store : goal.returns-in-Store
+returns-in-Store c = read_as c.args.version _ form.Store c.args.fields.now nowhere _ c.in-Store.is c.requires c.access-in-Store.ensures
+
+pub returns-in-Poll : goal.returns-in-Poll
+returns-in-Poll c = read_as c.args.version _ form.Poll c.args.fields.now nowhere _ c.in-Poll.is c.requires c.access-in-Poll.ensures

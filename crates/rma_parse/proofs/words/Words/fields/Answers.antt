@@ -11,4 +11,4 @@ first_of-requires c =
 pub returns : goal.returns
 returns c =
     let few = subst (λ words. length (fields_of words) ≤ 16) (sym c.self.view_is) c.requires in
-    c.first_of.ensures ∙ rw (c.self.invariant.of_count, ← c.self.view_is) (first_fields c.self.inside.first.now _ c.self.invariant.of_first few)
+    c.first_of.ensures.texts ∙ rw (c.self.invariant.of_count, ← c.self.view_is) (first_fields c.self.inside.first.now _ c.self.invariant.of_first few)
