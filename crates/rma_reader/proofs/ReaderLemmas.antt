@@ -11,10 +11,9 @@ use Rattle.rma_field.specs.Steps.{Fails, ◌>>=◌}
 use Rattle.rma_parse.specs.declared.event.Event.{Event}
 use Rattle.rma_parse.specs.declared.event.Stated.{Stated}
 use Rattle.rma_parse.specs.Lines.{reading, states}
-use Rattle.rma_reader.specs.declared.known_lines.Slot.{Slot}
 use Rattle.rma_reader.specs.declared.known_sites.KnownSite.{KnownSite}
 use Rattle.rma_reader.specs.declared.read_line.ReadEvent.{ReadEvent}
-use Rattle.rma_reader.specs.declared.read_line.ReadEvent.TheVariants.{Header, End, Call}
+use Rattle.rma_reader.specs.declared.read_line.ReadEvent.TheVariants.{Header, End, Call, Typed}
 use Rattle.rma_reader.specs.declared.read_line.ReadLine.{ReadLine}
 use Rattle.rma_reader.specs.Reading.{Grows, IsEvent, IsRead, Reading}
 use Rattle.rma_reader.specs.inside.Known.{IsKnown, IsStatedBy, Known, table_of}
@@ -31,6 +30,7 @@ same_keeps old new same number value is = rw same is
 pub event_keeps : (old new : CallTable) (read : ReadEvent) (event : Event) → Keeps old.whats new.whats → IsEvent old read event → IsEvent new read event
 event_keeps old new (Header version rank size) event keeps is = is
 event_keeps old new End event keeps is = is
+event_keeps old new Typed event keeps is = is
 event_keeps old new (Call what request) event keeps is = (is.0, keeps what is.0 is.1, is.2)
 
 line_keeps : (old new : List What) → Keeps old new → (known : Option Known) → IfSome known (IsKnown old) → IfSome known (IsKnown new)
@@ -39,11 +39,11 @@ line_keeps old new keeps (Some known) kept =
     record { event = kept.event; is = event_keeps (table_of old) (table_of new) (Call known.what known.request) kept.event keeps kept.is; said = kept.said }
 
 -- the known lines stay so
-pub are_kept : (old new : List What) (slots : List Slot) → Keeps old new → AreKept old slots → AreKept new slots
-are_kept old new slots keeps = All-weaker (IsKept old) (IsKept new) (λ slot. line_keeps old new keeps slot.line) slots
+pub are_kept : (old new : List What) (slots : List (Option Known)) → Keeps old new → AreKept old slots → AreKept new slots
+are_kept old new slots keeps = All-weaker (IsKept old) (IsKept new) (line_keeps old new keeps) slots
 
 -- so they do where these words were noted
-pub are_noted : (seen : Reading) (version : Version) (old new : CallTable) (slots noted : List Slot) (words : List ℕ) (read : ReadEvent) (event : Event) → version ≡ seen.version
+pub are_noted : (seen : Reading) (version : Version) (old new : CallTable) (slots noted : List (Option Known)) (words : List ℕ) (read : ReadEvent) (event : Event) → version ≡ seen.version
     → Keeps old.whats new.whats → AreKept old.whats slots → IsEvent new read event → states seen.version words (record { event = event; site = None })
     → ((whats : List What) → AreKept whats slots → IsStatedBy version whats words read → AreKept whats noted) → AreKept new.whats noted
 are_noted seen version old new slots noted words read event same keeps kept is said note =
@@ -52,7 +52,7 @@ are_noted seen version old new slots noted words read event same keeps kept is s
 
 site_keeps : (old new : CallTable) → Keeps old.sites new.sites → (slot : Option KnownSite) → HasNumber old slot → HasNumber new slot
 site_keeps old new keeps None kept = tt
-site_keeps old new keeps (Some site) kept = record { good = kept.good; is = keeps site.number site.text.items kept.is }
+site_keeps old new keeps (Some site) kept = record { good = kept.good; is = keeps site.number site.site kept.is }
 
 -- the known sites stay so
 pub are_numbered : (old new : CallTable) (slots : List (Option KnownSite)) → Keeps old.sites new.sites → AreNumbered old slots → AreNumbered new slots
@@ -84,7 +84,7 @@ pub reads_split : (table : CallTable) (result : Result (Option ReadLine) ParseEr
 reads_split table result v line words site event split said read = subst (Reads table result) (sym (reading_split v line words site event split said)) read
 
 -- the same of words that are known
-pub reads_known : (seen : Reading) (version : Version) (calls new : CallTable) (slots : List Slot) (line words : List ℕ) (site : Option (List ℕ)) (read : ReadEvent)
+pub reads_known : (seen : Reading) (version : Version) (calls new : CallTable) (slots : List (Option Known)) (line words : List ℕ) (site : Option (List ℕ)) (read : ReadEvent)
     (result : Result (Option ReadLine) ParseError) → version ≡ seen.version → IsSplit line words site → AreKept calls.whats slots
     → ((whats : List What) → AreKept whats slots → IsStatedBy version whats words read) → ((event : Event) → IsEvent calls read event → Reads new result (stated_at event site))
     → Reads new result (reading seen.version line)

@@ -12,20 +12,23 @@ use std::alloc::Global;
 /// How many lines are known at most.
 const SLOTS: usize = 1_024;
 
-/// A slot of the table.
-#[derive(Drop)]
-struct Slot {
-    /// The key of the words that came last to this slot and were not known here.
-    key: u64,
-    /// The line that is known here.
-    line: Option<KnownLine>,
+/// What is remembered of the keys that came to a slot: parts of them.
+#[derive(Clone, Copy, Drop)]
+struct Keys {
+    /// The key of the words that are known in the slot.
+    known: u32,
+    /// The key of the words that came last to the slot and were not known.
+    last: u32,
 }
 
-/// The lines that a log repeats, each in the slot that the key of its words gives.
+/// The lines that a log repeats, each in the slot that the key of its words gives. The keys stand apart from the lines, close
+/// together: words that are not known are seldom compared with a line.
 #[derive(Drop)]
 pub(crate) struct KnownLines {
-    /// The slots, `SLOTS` of them.
-    slots: Vec<Slot>,
+    /// The keys, `SLOTS` of them.
+    keys: Vec<Keys>,
+    /// The lines, as many.
+    slots: Vec<Option<KnownLine>>,
 }
 
 impl KnownLines {
@@ -33,11 +36,13 @@ impl KnownLines {
     pub(crate) fn new(alloc: Global) -> Result<KnownLines, Memory>
         ensures { IfOk result (λ lines. (whats : List What) → AreKept whats lines.slots.items) }
     {
+        let mut keys = Vec::with_capacity(alloc, SLOTS)?;
         let mut slots = Vec::with_capacity(alloc, SLOTS)?;
         for _ in 0..SLOTS {
-            slots.push(Slot { key: 0, line: None })?;
+            keys.push(Keys { known: 0, last: 0 })?;
+            slots.push(None)?;
         }
-        Ok(KnownLines { slots })
+        Ok(KnownLines { keys, slots })
     }
 
     /// The event that these words state in this version, if they are known. This is their key.
@@ -50,14 +55,21 @@ impl KnownLines {
     ) -> Result<Option<ReadEvent>, Memory>
         ensures { IfOk result (λ event. IfSome event (λ event. (whats : List What) → AreKept whats self.now.slots.items → IsStatedBy version whats words.now event)) }
     {
+        if !self.has_key(key) {
+            return Ok(None);
+        }
         match self.slots.get(slot_of(key)) {
-            Some(
-                Slot {
-                    line: Some(line),
-                    ..
-                },
-            ) if line.is(version, words) => Ok(Some(line.event()?)),
+            Some(Some(line)) if line.is(version, words) => Ok(Some(line.event()?)),
             _ => Ok(None),
+        }
+    }
+
+    /// Whether words of this key may be known.
+    #[inline]
+    fn has_key(&self, key: u64) -> bool {
+        match self.keys.get(slot_of(key)) {
+            Some(keys) => keys.known == part_of(key),
+            None => false,
         }
     }
 
@@ -88,22 +100,25 @@ impl KnownLines {
     fn comes_again(&mut self, key: u64) -> bool
         ensures { (whats : List What) → AreKept whats self.old.slots.items → AreKept whats self.new.slots.items }
     {
-        match self.slots.get_mut(slot_of(key)) {
-            Some(slot) => {
-                let again = slot.key == key;
-                slot.key = key;
+        match self.keys.get_mut(slot_of(key)) {
+            Some(keys) => {
+                let again = keys.last == part_of(key);
+                keys.last = part_of(key);
                 again
             }
             None => false,
         }
     }
 
-    /// Keeps the line in place of the one that was known in its slot.
+    /// Keeps the line of this key in place of the one that was known in its slot.
     fn keep(&mut self, key: u64, line: KnownLine)
         ensures { (whats : List What) → AreKept whats self.old.slots.items → IsKnown whats line → AreKept whats self.new.slots.items }
     {
+        if let Some(keys) = self.keys.get_mut(slot_of(key)) {
+            keys.known = part_of(key);
+        }
         if let Some(slot) = self.slots.get_mut(slot_of(key)) {
-            slot.line = Some(line);
+            *slot = Some(line);
         }
     }
 }
@@ -112,4 +127,10 @@ impl KnownLines {
 #[inline]
 fn slot_of(key: u64) -> usize {
     (key % SLOTS as u64) as usize
+}
+
+/// The part of a key that is remembered, which its slot does not tell.
+#[inline]
+fn part_of(key: u64) -> u32 {
+    (key >> 32) as u32
 }

@@ -4,7 +4,7 @@ ghost use Rattle.rma_call.specs.Call.{CallTable};
 ghost use Rattle.rma_reader.specs.inside.Tables.{IsNumbered};
 ghost use Rattle.rma_reader.specs.inside.SiteSlots.{AreNumbered};
 
-use rma_base::Memory;
+use rma_base::{Memory, Site};
 use std::alloc::Global;
 
 /// How many slots there are at first.
@@ -13,29 +13,32 @@ const FEWEST: usize = 64;
 /// How many slots there are at most.
 const MOST: usize = 65_536;
 
+/// How many slots a site may stand in.
+const PROBES: usize = 8;
+
 /// A site and its number.
 #[derive(Drop)]
 struct KnownSite {
-    /// The key of its text.
-    key: u64,
+    /// A part of the key of its text.
+    key: u32,
     /// Its number.
     number: u32,
-    /// Its text.
-    text: Vec<u8>,
+    /// The site.
+    site: Site,
 }
 
 impl KnownSite {
-    /// Whether these are its key and its text.
+    /// Whether this is its text, of this key.
     #[inline]
     fn is(&self, key: u64, text: &[u8]) -> bool
-        ensures { result ≡ true → self.now.text.items ≡ text.now }
+        ensures { result ≡ true → self.now.site ≡ text.now }
     {
-        self.key == key && self.text.as_slice() == text
+        self.key == part_of(key) && self.site.bytes() == text
     }
 }
 
-/// The sites that a log repeats, each in the slot that its key gives, with its text beside it: the look-up of a known one
-/// reads two places of memory.
+/// The sites that a log repeats, each in one of the slots behind the one that its key gives. The look-up of a known one reads
+/// a slot, and a text that the logs of a run share.
 #[derive(Drop)]
 pub(crate) struct KnownSites {
     /// The slots: none, or a power of two.
@@ -57,39 +60,64 @@ impl KnownSites {
     pub(crate) fn number(&self, key: u64, text: &[u8]) -> Option<u32>
         ensures { IfSome result (λ number. (table : CallTable) → AreNumbered table self.now.slots.items → IsNumbered table text.now number) }
     {
-        match self.slots.get(self.slot_of(key)) {
-            Some(Some(site)) if site.is(key, text) => Some(site.number),
-            _ => None,
+        for step in 0..PROBES {
+            let Some(Some(site)) = self.slots.get(self.slot_of(key, step)) else {
+                return None;
+            };
+            if site.is(key, text) {
+                return Some(site.number);
+            }
         }
+        None
     }
 
-    /// Keeps the number of the site of this text, in place of what was known in its slot. There are so many sites.
+    /// Keeps the number of the site, whose text has this key. There are so many sites.
     pub(crate) fn keep(
         &mut self,
         alloc: Global,
         key: u64,
-        text: &[u8],
+        site: Site,
         number: u32,
         sites: usize,
     ) -> Result<(), Memory>
-        ensures { (table : CallTable) → AreNumbered table self.old.slots.items → IsNumbered table text.now number → AreNumbered table self.new.slots.items }
+        ensures { (table : CallTable) → AreNumbered table self.old.slots.items → IsNumbered table site number → AreNumbered table self.new.slots.items }
     {
-        if sites > self.slots.len() / 4 && self.slots.len() < MOST {
+        if sites > self.slots.len() / 2 && self.slots.len() < MOST {
             self.slots = empty_slots(alloc, more_slots(self.slots.len()))?;
         }
-        let text = Vec::from_slice(alloc, text)?;
-        let at = self.slot_of(key);
+        let at = self.free_slot(key);
         if let Some(slot) = self.slots.get_mut(at) {
-            *slot = Some(KnownSite { key, number, text });
+            *slot = Some(KnownSite {
+                key: part_of(key),
+                number,
+                site,
+            });
         }
         Ok(())
     }
 
-    /// The slot of a text of this key.
-    #[inline]
-    fn slot_of(&self, key: u64) -> usize {
-        key as usize & self.slots.len().wrapping_sub(1)
+    /// The first slot without a site in which a site of this key may stand, or else the first of all in which it may.
+    fn free_slot(&self, key: u64) -> usize {
+        for step in 0..PROBES {
+            let at = self.slot_of(key, step);
+            if let Some(None) = self.slots.get(at) {
+                return at;
+            }
+        }
+        self.slot_of(key, 0)
     }
+
+    /// The slots in which a site of this key may stand, one after another.
+    #[inline]
+    fn slot_of(&self, key: u64, step: usize) -> usize {
+        (key as usize).wrapping_add(step) & self.slots.len().wrapping_sub(1)
+    }
+}
+
+/// The part of a key that a slot remembers.
+#[inline]
+fn part_of(key: u64) -> u32 {
+    (key >> 32) as u32
 }
 
 /// How many slots come after so many.
@@ -97,7 +125,7 @@ fn more_slots(slots: usize) -> usize {
     if slots < FEWEST {
         FEWEST
     } else {
-        slots.saturating_mul(4)
+        slots.saturating_mul(2)
     }
 }
 

@@ -15,7 +15,9 @@ mod known_sites;
 mod line_reader;
 mod numbered_calls;
 mod read_line;
+mod shared_sites;
 mod site_split;
 
 pub use line_reader::LineReader;
 pub use read_line::{ReadEvent, ReadLine};
+pub use shared_sites::SharedSites;

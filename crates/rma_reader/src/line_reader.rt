@@ -16,6 +16,7 @@ use crate::key::key_of;
 use crate::known_lines::KnownLines;
 use crate::numbered_calls::NumberedCalls;
 use crate::read_line::{ReadEvent, ReadLine};
+use crate::shared_sites::SharedSites;
 use crate::site_split::split_site;
 use rma_base::{LineNo, Memory, Version};
 use rma_call::{CallList, What};
@@ -48,15 +49,17 @@ impl Model for LineReader {
 }
 
 impl LineReader {
-    /// A reader that read no line yet. It reads lines in the first version of the format.
-    pub fn new(alloc: Global) -> Result<LineReader, Memory>
+    /// A reader that read no line yet, of a log that shares these sites with others. It reads lines in the first version of
+    /// the format.
+    pub fn new(alloc: Global, sites: &SharedSites) -> Result<LineReader, Memory>
         ensures { IfOk result (λ reader. reader ≡ record { version = version.One; calls = no_calls }) }
     {
+        let sites = sites.share()?;
         Ok(LineReader {
             version: Version::One,
             texts: Texts::new(alloc),
             lines: KnownLines::new(alloc)?,
-            calls: NumberedCalls::new(alloc),
+            calls: NumberedCalls::new(alloc, sites),
         })
     }
 

@@ -13,6 +13,7 @@ ghost use Rattle.rma_reader.specs.inside.Tables.{AddsSites, AddsWhats, Extends, 
 use crate::key::key_of;
 use crate::known_sites::KnownSites;
 use crate::read_line::{ReadEvent, ReadLine};
+use crate::shared_sites::SharedSites;
 use indexmap::IndexMap;
 use rma_base::{FormReason, LineNo, Memory, NameError, Site};
 use rma_call::{CallList, What};
@@ -29,6 +30,8 @@ pub(crate) struct NumberedCalls {
     sites: IndexMap<u64, u32>,
     /// The sites that come again.
     known: KnownSites,
+    /// The sites of all logs of the run.
+    shared: SharedSites,
 }
 
 impl Model for NumberedCalls {
@@ -45,14 +48,15 @@ impl Model for NumberedCalls {
 }
 
 impl NumberedCalls {
-    /// No calls.
-    pub(crate) fn new(alloc: Global) -> NumberedCalls
+    /// No calls. The sites of all logs are these.
+    pub(crate) fn new(alloc: Global, shared: SharedSites) -> NumberedCalls
         ensures { result ≡ no_calls }
     {
         NumberedCalls {
             list: CallList::new(alloc),
             sites: IndexMap::new(alloc),
             known: KnownSites::new(alloc),
+            shared,
         }
     }
 
@@ -140,6 +144,7 @@ impl NumberedCalls {
                 let what = self.list.add_what(what)?;
                 Ok(ReadEvent::Call { what, request })
             }
+            Event::Datatype(_) | Event::Rma { .. } | Event::Local(_) => Ok(ReadEvent::Typed),
         }
     }
 
@@ -183,7 +188,7 @@ impl NumberedCalls {
                 if self.has(number, text) {
                     self.note(alloc, key, text, number)
                 } else {
-                    self.new_site(alloc, text)
+                    self.new_site(alloc, key, text)
                 }
             }
             None => self.keep_site(alloc, key, text),
@@ -197,7 +202,11 @@ impl NumberedCalls {
         ensures err { IfErr result (λ error. Fails error (site text.now)) }
         ensures adds { AddsSites self.old self.new }
     {
-        match self.known.keep(alloc, key, text, number, self.sites.len()) {
+        let sites = self.sites.len();
+        let Ok(site) = self.list.site(number).copy() else {
+            return Err(ParseError::Memory);
+        };
+        match self.known.keep(alloc, key, site, number, sites) {
             Ok(()) => Ok(number),
             Err(Memory) => Err(ParseError::Memory),
         }
@@ -219,7 +228,7 @@ impl NumberedCalls {
         ensures err { IfErr result (λ error. Fails error (site text.now)) }
         ensures adds { AddsSites self.old self.new }
     {
-        let number = self.new_site(alloc, text)?;
+        let number = self.new_site(alloc, key, text)?;
         match self.sites.insert(key, number) {
             Ok(_) => Ok(number),
             Err(_) => Err(ParseError::Memory),
@@ -228,14 +237,36 @@ impl NumberedCalls {
 
     /// The number of a site that is not known.
     #[inline(never)]
-    fn new_site(&mut self, alloc: Global, text: &[u8]) -> Result<u32, ParseError>
+    fn new_site(&mut self, alloc: Global, key: u64, text: &[u8]) -> Result<u32, ParseError>
         ensures ok { IfOk result (λ number. IsNumbered self.new text.now number) }
         ensures err { IfErr result (λ error. Fails error (site text.now)) }
         ensures adds { AddsSites self.old self.new }
     {
-        let site = new_site(alloc, text)?;
+        let site = self.shared_site(alloc, key, text)?;
         match self.list.add_site(site) {
             Ok(number) => Ok(number),
+            Err(Memory) => Err(ParseError::Memory),
+        }
+    }
+
+    /// The site of this text, of this key, which all logs of the run share.
+    fn shared_site(&self, alloc: Global, key: u64, text: &[u8]) -> Result<Site, ParseError>
+        ensures { Gives result (site text.now) }
+    {
+        match self.shared.site(key, text) {
+            Ok(Some(site)) => Ok(site),
+            Ok(None) => self.share(alloc, key, text),
+            Err(Memory) => Err(ParseError::Memory),
+        }
+    }
+
+    /// The site of this text, which no log had before.
+    fn share(&self, alloc: Global, key: u64, text: &[u8]) -> Result<Site, ParseError>
+        ensures { Gives result (site text.now) }
+    {
+        let site = new_site(alloc, text)?;
+        match self.shared.keep(key, &site) {
+            Ok(()) => Ok(site),
             Err(Memory) => Err(ParseError::Memory),
         }
     }

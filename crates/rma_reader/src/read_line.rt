@@ -31,4 +31,6 @@ pub enum ReadEvent {
         /// The request that it makes or completes.
         request: Option<Name>,
     },
+    /// The line speaks of datatypes. What it states is not kept.
+    Typed,
 }

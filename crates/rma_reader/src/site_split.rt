@@ -4,6 +4,8 @@ ghost use Rattle.std.specs.List.{list_all};
 ghost use Rattle.rma_lex.specs.Field.{is_blank, is_field};
 ghost use Rattle.rma_reader.specs.inside.Split.{IsSplit};
 
+use memchr::memrchr2;
+
 /// The line without its last field where that begins with `@`, and what stands there after the `@`.
 #[inline]
 pub(crate) fn split_site(line: &[u8]) -> (&[u8], Option<&[u8]>)
@@ -24,16 +26,8 @@ fn last_field(line: &[u8]) -> usize
     ensures field { list_all is_field (drop result line.now) ≡ true }
     ensures blank { 0 < result → is_blank (slice_index line.now (result - 1)) ≡ true }
 {
-    let mut start = line.len();
-    while 0 < start && !is_blank(line[start - 1]) {
-        start -= 1;
+    match memrchr2(b' ', b'\t', line) {
+        Some(blank) => blank + 1,
+        None => 0,
     }
-    start
-}
-
-#[inline]
-fn is_blank(byte: u8) -> bool
-    ensures { result ≡ is_blank byte }
-{
-    byte == b' ' || byte == b'\t'
 }

@@ -6,7 +6,7 @@ use Rattle.rma_reader.specs.inside.Tables.{IsNumbered}
 
 -- the site of a slot has its number
 abbrev pub HasNumber : CallTable → Option KnownSite → Type 0
-HasNumber table slot = IfSome slot (λ site. IsNumbered table site.text.items site.number)
+HasNumber table slot = IfSome slot (λ site. IsNumbered table site.site site.number)
 
 -- so has the site of each slot
 abbrev pub AreNumbered : CallTable → List (Option KnownSite) → Type 0

@@ -7,7 +7,7 @@ pub loop-init : goal.loop-init
 loop-init c = λ whats. All-same (IsKept whats) _ [] c.in_ok-slots.ensures.items (All-nil (IsKept whats))
 
 pub loop-preserved : goal.loop-preserved
-loop-preserved c = λ whats. All-same (IsKept whats) _ _ c.in_ok-push.ensures.items (All-push (IsKept whats) c.loop.slots.items _ (c.loop.invariant whats) tt)
+loop-preserved c = λ whats. All-same (IsKept whats) _ _ c.in_ok-push-2.ensures.items (All-push (IsKept whats) c.loop.slots.items _ (c.loop.invariant whats) tt)
 
 pub returns : goal.returns
 returns c = c.loop.invariant
