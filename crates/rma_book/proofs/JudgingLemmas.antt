@@ -5,9 +5,10 @@ use Rattle.std.specs.Option.{option_or}
 use Rattle.rma_base.specs.declared.rank.Rank.{Rank}
 use Rattle.rma_base.specs.declared.version.Version.{Version}
 use Rattle.rma_base.specs.declared.form_reason.FormReason.{FormReason}
-use Rattle.rma_base.specs.declared.form_reason.FormReason.TheVariants.{BadHeader, WrongHeader, AfterEnd, RequestPending}
+use Rattle.rma_base.specs.declared.form_reason.FormReason.TheVariants.{UnknownVerb, BadHeader, WrongHeader, AfterEnd, RequestPending}
 use Rattle.rma_parse.specs.declared.event.Event.{Event}
 use Rattle.rma_parse.specs.declared.event.Event.TheVariants.{Header, End}
+use Rattle.rma_reader.specs.Reading.{is_typed}
 use Rattle.rma_book.specs.Naming.{Attributes, attributes_of, no_attributes, is_header, is_end}
 use Rattle.rma_book.specs.Judging.{is_of_another_log, place_reason, name_reason, use_reason, reason_of}
 use Rattle.rma_book.specs.Names.{is_same}
@@ -40,9 +41,13 @@ pub of_end : (rank logs : ℕ) (book : BookState) (events : List Event) → Repr
 of_end rank logs book events h = rw (of_place rank logs book events End h refl refl, h.completed, h.made) refl
 
 pub of_call : (rank logs : ℕ) (book : BookState) (events : List Event) (event : Event) (it : Attributes) → Represents book events → is_header event ≡ false
-    → is_of_another_log rank logs event ≡ false → is_end event ≡ false → it ≡ attributes_of event
+    → is_of_another_log rank logs event ≡ false → is_end event ≡ false → is_typed event ≡ false → it ≡ attributes_of event
     → option_or (later book) (option_or (name_reason events it) (use_reason rank logs events it false)) ≡ reason_of rank logs events event
-of_call rank logs book events event it h plain own goes_on same = rw (of_place rank logs book events event h plain own, goes_on, same) refl
+of_call rank logs book events event it h plain own goes_on known same = rw (known, of_place rank logs book events event h plain own, goes_on, same) refl
+
+-- an event that speaks of datatypes has a verb that no book knows
+pub of_typed : (rank logs : ℕ) (events : List Event) (event : Event) → is_typed event ≡ true → Some UnknownVerb ≡ reason_of rank logs events event
+of_typed rank logs events event typed = rw typed refl
 
 -- an event that says nothing of names and ranks was taken
 pub IsTaken_plain : (old new : BookState) (event : Event) → attributes_of event ≡ no_attributes → new ≡ record old { begun = true; ended = new.ended }

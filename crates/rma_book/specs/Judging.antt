@@ -4,10 +4,11 @@ use Rattle.std.specs.Option.{option_or, option_map_or}
 use Rattle.std.specs.List.{list_any}
 use Rattle.rma_base.specs.Limits.{address_limit}
 use Rattle.rma_base.specs.declared.form_reason.FormReason.{FormReason}
-use Rattle.rma_base.specs.declared.form_reason.FormReason.TheVariants.{BadHeader, WrongHeader, AfterEnd, UnknownComm, UnknownWindow, UnknownRequest, NameInUse, RankTooLarge, NotInGroup, WrongWait, OutOfSpace, RequestPending, RootNotMember, NotDynamic}
+use Rattle.rma_base.specs.declared.form_reason.FormReason.TheVariants.{UnknownVerb, BadHeader, WrongHeader, AfterEnd, UnknownComm, UnknownWindow, UnknownRequest, NameInUse, RankTooLarge, NotInGroup, WrongWait, OutOfSpace, RequestPending, RootNotMember, NotDynamic}
 use Rattle.rma_base.specs.RankSet.{has_number}
 use Rattle.rma_parse.specs.declared.event.Event.{Event}
 use Rattle.rma_parse.specs.declared.event.Event.TheVariants.{Header}
+use Rattle.rma_reader.specs.Reading.{is_typed}
 use Rattle.rma_book.specs.Naming.{Attributes, attributes_of, is_header, is_end}
 use Rattle.rma_book.specs.Names.{has_comm, has_member, window_state, had_window, is_there, is_fixed, pending, has_pending}
 
@@ -90,6 +91,10 @@ abbrev pub first_that_holds : List (FormReason × Bool) → Option FormReason
 first_that_holds [] = None
 first_that_holds ((reason, holds) ∷ later) = if holds then Some reason else first_that_holds later
 
+-- whether the verb of the event is one that a book knows: those of lines that speak of datatypes are not
+abbrev pub verb_reason : Event → Option FormReason
+verb_reason event = first_that_holds ((UnknownVerb, is_typed event) ∷ [])
+
 -- whether the event stands where it may: after the header of this log, and before the end
 abbrev pub place_reason : ℕ → ℕ → List Event → Event → Option FormReason
 place_reason rank logs before event = first_that_holds (
@@ -123,5 +128,6 @@ use_reason rank logs before it ends = first_that_holds (
 abbrev pub reason_of : ℕ → ℕ → List Event → Event → Option FormReason
 reason_of rank logs before event =
     let it = attributes_of event in
-    option_or (place_reason rank logs before event)
-    (option_or (name_reason before it) (use_reason rank logs before it (ends_early before event)))
+    option_or (verb_reason event)
+    (option_or (place_reason rank logs before event)
+    (option_or (name_reason before it) (use_reason rank logs before it (ends_early before event))))

@@ -11,7 +11,7 @@ use Rattle.rma_call.specs.declared.epoch.EpochCall.TheVariants.{Fence, Post, Sta
 use Rattle.rma_call.specs.declared.epoch.EpochCall.TheVariants as epoch
 use Rattle.rma_call.specs.declared.moving.MovingCall.TheVariants.{Bcast, Scatter, Gather, Reduce, Allreduce, Allgather, Alltoall}
 use Rattle.rma_parse.specs.declared.event.Event.{Event}
-use Rattle.rma_parse.specs.declared.event.Event.TheVariants.{Header, End, Call}
+use Rattle.rma_parse.specs.declared.event.Event.TheVariants.{Header, End, Call, Datatype, Rma, Local}
 use Rattle.rma_book.specs.declared.names.WindowState.{WindowState}
 use Rattle.rma_book.specs.declared.names.WindowState.TheVariants.{Fixed, Dynamic, Freed}
 
@@ -142,3 +142,6 @@ attributes_of (Call (Sync (Moving (Allgather bytes comm))) request) = on_comm co
 attributes_of (Call (Sync (Moving (Alltoall bytes comm))) request) = on_comm comm
 attributes_of (Header version rank size) = no_attributes
 attributes_of End = no_attributes
+attributes_of (Datatype line) = no_attributes
+attributes_of (Rma line request) = no_attributes
+attributes_of (Local line) = no_attributes

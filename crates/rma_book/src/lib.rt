@@ -21,3 +21,4 @@ pub use book::{Book, Judged};
 pub use fault::{BookEnd, FormFault};
 pub use names::{Pending, WindowState};
 pub use rank_book::RankBook;
+pub use rma_reader::SharedSites;

@@ -1,11 +1,11 @@
 //! The log of one rank, as its bytes come.
-ghost use Rattle.std.specs.Prelude.{◌≡◌, ℕ, ◌+◌, ◌≤◌, List, [], ◌++◌, length, take, is_some, IfOk, OnOk, false};
+ghost use Rattle.std.specs.Prelude.{◌≡◌, ℕ, ◌+◌, ◌≤◌, List, [], ◌++◌, length, take, is_some, is_err, IfOk, IsErr, OnOk, OnErr, false};
 ghost use Rattle.rma_lex.specs.Checked.{checked_lines};
 ghost use Rattle.rma_lex.specs.Line.{lines};
 ghost use Rattle.rma_book.specs.Calls.{calls_of, end_line};
 ghost use Rattle.rma_book.specs.Ends.{IsEnd};
 ghost use Rattle.rma_book.specs.Logs.{AreGoodUntil, IsFirstFault, entries, whole_lines};
-ghost use Rattle.rma_book.specs.inside.RankState.{Represents};
+ghost use Rattle.rma_book.specs.inside.RankState.{RanOut, Represents};
 
 use crate::fault::{BookEnd, FormFault};
 use crate::reader::{Reader, read_lines};
@@ -13,6 +13,7 @@ use rma_base::limits::{FED, LINE};
 use rma_base::{LineNo, Memory, Rank};
 use rma_call::CallList;
 use rma_lex::LineCutter;
+use rma_reader::SharedSites;
 use std::alloc::Global;
 use std::marker::Model;
 
@@ -21,6 +22,10 @@ use std::marker::Model;
 pub struct RankBook {
     cutter: LineCutter,
     reader: Reader,
+    /// The first bad line in the pieces that were read.
+    fault: Option<FormFault>,
+    /// Whether memory ran out, so that no more can be said of the log.
+    ran_out: bool,
 }
 
 impl Model for RankBook {
@@ -28,7 +33,7 @@ impl Model for RankBook {
 
     ghost Value = { RankState };
 
-    ghost view = { λ log. record { text = log.cutter; reader = log.reader } };
+    ghost view = { λ log. record { text = log.cutter; reader = log.reader; fault = log.fault; ran_out = log.ran_out } };
 }
 
 impl RankBook {
@@ -36,9 +41,24 @@ impl RankBook {
     pub fn new(alloc: Global, rank: Rank, logs: u32) -> Result<RankBook, Memory>
         ensures { IfOk result (λ log. Represents rank.0 logs log []) }
     {
+        RankBook::sharing(alloc, rank, logs, &SharedSites::new(alloc)?)
+    }
+
+    /// The same, where the log shares the texts of its sites with other logs of the run.
+    pub fn sharing(
+        alloc: Global,
+        rank: Rank,
+        logs: u32,
+        sites: &SharedSites,
+    ) -> Result<RankBook, Memory>
+        ensures { IfOk result (λ log. Represents rank.0 logs log []) }
+    {
+        let reader = Reader::new(alloc, rank, logs, sites)?;
         Ok(RankBook {
             cutter: LineCutter::new(alloc),
-            reader: Reader::new(alloc, rank, logs)?,
+            fault: reader.fault,
+            reader,
+            ran_out: false,
         })
     }
 
@@ -54,7 +74,8 @@ impl RankBook {
     ///
     /// # Errors
     ///
-    /// `Memory` where memory ran out: the book no longer represents what it was fed.
+    /// `Memory` where memory ran out, in this call or in an earlier one: the book then represents no log, but the first bad
+    /// line that it had stays.
     pub fn feed(&mut self, piece: &[u8]) -> Result<(), Memory>
         requires goes_on { self.old.text.closed ≡ false }
         requires fits { self.old.text.fed + length piece.now ≤ FED }
@@ -62,10 +83,21 @@ impl RankBook {
         ensures fed { OnOk result (self.new.text.fed ≡ self.old.text.fed + length piece.now) }
         ensures kept { OnOk result (length self.new.text.rest ≤ LINE + 1) }
         ensures open { self.new.text.closed ≡ false }
+        ensures out { self.new.ran_out ≡ is_err result }
+        ensures stays_out { RanOut self.old → IsErr result }
+        ensures nothing { OnErr result ((rank logs : ℕ) (bytes : List ℕ) → ¬ Represents rank logs self.new bytes) }
+        ensures fault { OnErr result (self.new.fault ≡ self.old.fault) }
     {
+        if self.ran_out {
+            return Err(Memory);
+        }
+        // It stays so unless the piece is read to its end.
+        self.ran_out = true;
         self.cutter.feed(piece)?;
         read_lines(&mut self.cutter, &mut self.reader)?;
         self.cutter.shorten();
+        self.fault = self.reader.fault;
+        self.ran_out = false;
         Ok(())
     }
 
@@ -79,9 +111,10 @@ impl RankBook {
 
     /// The first bad line among the whole lines so far.
     pub fn state(&self) -> Option<FormFault>
-        ensures { (rank logs : ℕ) (bytes : List ℕ) → Represents rank logs self.now bytes → IsFirstFault rank logs (whole_lines bytes) result }
+        ensures first { (rank logs : ℕ) (bytes : List ℕ) → Represents rank logs self.now bytes → IsFirstFault rank logs (whole_lines bytes) result }
+        ensures fault { result ≡ self.now.fault }
     {
-        self.reader.fault
+        self.fault
     }
 
     /// The calls of the whole lines so far that stand before the first bad one.
@@ -104,10 +137,14 @@ impl RankBook {
     ///
     /// # Errors
     ///
-    /// `Memory` where memory ran out.
+    /// `Memory` where memory ran out, in this call or in an earlier one.
     pub fn end(mut self) -> Result<BookEnd, Memory>
-        ensures { IfOk result (λ end. (rank logs : ℕ) (bytes : List ℕ) → Represents rank logs self bytes → IsEnd rank logs (checked_lines bytes) end) }
+        ensures end { IfOk result (λ end. (rank logs : ℕ) (bytes : List ℕ) → Represents rank logs self bytes → IsEnd rank logs (checked_lines bytes) end) }
+        ensures stays_out { RanOut self → IsErr result }
     {
+        if self.ran_out {
+            return Err(Memory);
+        }
         self.cutter.close();
         read_lines(&mut self.cutter, &mut self.reader)?;
         let after = LineNo(self.cutter.lines() + 1);

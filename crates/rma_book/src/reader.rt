@@ -6,7 +6,7 @@ ghost use Rattle.rma_lex.specs.Line.{lines};
 ghost use Rattle.rma_lex.specs.Cutting.{Represents};
 ghost use Rattle.rma_parse.specs.declared.event.Event.TheVariants.{Header, End};
 ghost use Rattle.rma_parse.specs.declared.event.Stated.{Stated};
-ghost use Rattle.rma_reader.specs.Reading.{IsEvent, IsRead, IsSite};
+ghost use Rattle.rma_reader.specs.Reading.{IsEvent, IsRead, IsSite, is_typed};
 ghost use Rattle.rma_reader.specs.declared.read_line.ReadEvent.TheVariants as read;
 ghost use Rattle.rma_book.specs.Ends.{IsEnd};
 ghost use Rattle.rma_book.specs.Logs.{Checked};
@@ -18,7 +18,7 @@ use rma_base::{FormReason, LineNo, Memory, Name, Rank, Version};
 use rma_call::RankCalls;
 use rma_lex::{LexFault, Line, LineCutter};
 use rma_parse::ParseError;
-use rma_reader::{LineReader, ReadEvent, ReadLine};
+use rma_reader::{LineReader, ReadEvent, ReadLine, SharedSites};
 use std::alloc::Global;
 
 /// What the good lines of a log state, and the first bad one, after which nothing is read.
@@ -35,12 +35,17 @@ pub(crate) struct Reader {
 }
 
 impl Reader {
-    /// A reader of the lines of the log of a rank among so many logs.
-    pub(crate) fn new(alloc: Global, rank: Rank, logs: u32) -> Result<Reader, Memory>
+    /// A reader of the lines of the log of a rank among so many logs, which shares these sites with others.
+    pub(crate) fn new(
+        alloc: Global,
+        rank: Rank,
+        logs: u32,
+        sites: &SharedSites,
+    ) -> Result<Reader, Memory>
         ensures { IfOk result (λ reader. HasRead rank.0 logs [] reader) }
     {
         Ok(Reader {
-            lines: LineReader::new(alloc)?,
+            lines: LineReader::new(alloc, sites)?,
             book: Book::new(alloc, rank, logs),
             end: None,
             fault: None,
@@ -97,6 +102,10 @@ impl Reader {
                 Ok(())
             }
             ReadEvent::Call { what, request } => self.read_call(no, site, what, request),
+            ReadEvent::Typed => {
+                self.read_typed(no);
+                Ok(())
+            }
         }
     }
 
@@ -127,6 +136,14 @@ impl Reader {
             Some(reason) => self.refuse(no, reason),
             None => self.end = Some(no),
         }
+    }
+
+    // Judges a line that speaks of datatypes: its verb is none that a book knows.
+    fn read_typed(&mut self, no: LineNo)
+        requires { self.old.fault ≡ None }
+        ensures { (stated : Stated) → is_typed stated.event ≡ true → Reads self.old self.new no stated }
+    {
+        self.refuse(no, FormReason::UnknownVerb);
     }
 
     // Judges a call, and takes it where it is good.

@@ -1,11 +1,15 @@
 -- Books and texts, one beside the other.
-use Rattle.std.proofs.Common.{◌≡◌, ℕ, ◌<◌, List, [], ◌∷◌, ◌++◌, length, get_or, set, refl, sym, ◌∙◌, subst, inl, inr, arith, length-append}
+use Rattle.std.proofs.Common.{◌≡◌, ℕ, ◌<◌, true, false, Result, Ok, Err, List, [], ◌∷◌, ◌++◌, length, get_or, set, refl, sym, ap, ◌∙◌, subst, inl, inr, arith, length-append}
+use Rattle.std.specs.Prelude.{All, OnErr}
 use Rattle.std.proofs.Math.ListN.{length-set}
 use Rattle.std.proofs.lemmas.List.{get_or_push, get_or_append_left, get_or-set_other}
 use Rattle.std.proofs.lemmas.Grind.{get_or-set_at}
-use Rattle.std.proofs.lemmas.Bool.{cases_lt, cases_eq}
+use Rattle.std.proofs.lemmas.Bool.{cases_lt, cases_eq, false≢true}
+use Rattle.std.proofs.lemmas.List.Elements.{All-set}
+use Rattle.std.proofs.lemmas.List.Quantifiers.{any-set}
 use Rattle.rma_book.specs.inside.RankState.{RankState, Represents}
-use Rattle.rma_stream.specs.inside.Feeding.{HaveBooks}
+use Rattle.rma_book.specs.inside.RankState as book
+use Rattle.rma_stream.specs.inside.Feeding.{AreKept, HaveBooks, RanOut}
 
 -- one book more, and one text
 pub HaveBooks_push : (ranks : ℕ) (books : List RankState) (texts : List (List ℕ)) (book : RankState) (text : List ℕ) → HaveBooks ranks books texts
@@ -42,3 +46,28 @@ HaveBooks_set ranks books texts i book text there h one = record {
 pub book_at : (prefix : List RankState) (book : RankState) (back : List RankState) (d : RankState) → get_or (prefix ++ book ∷ back) (length prefix) d ≡ book
 book_at [] book back d = refl
 book_at (first ∷ prefix) book back d = book_at prefix book back d
+
+-- ---- when memory runs out
+
+-- one book ran out
+pub RanOut_set : (books : List RankState) (i : ℕ) (state : RankState) → i < length books → book.RanOut state → RanOut (set books i state)
+RanOut_set books i state there out = any-set book.RanOut books i state there out
+
+-- and no log has ended
+pub AreKept_out : (books : List RankState) (i : ℕ) (state : RankState) → i < length books → All (λ (s : RankState). s.text.closed ≡ false) books
+    → state.text.closed ≡ false → book.RanOut state → AreKept true (set books i state)
+AreKept_out books i state there go_on goes_on out = record {
+  go_on = All-set (λ (s : RankState). s.text.closed ≡ false) books i state goes_on go_on;
+  out = λ _. RanOut_set books i state there out;
+  in_memory = λ in_memory. absurd (false≢true (sym in_memory));
+}
+
+-- books of which one ran out represent no logs
+pub none_after_memory : (ranks : ℕ) (books : List RankState) (texts : List (List ℕ)) → RanOut books → HaveBooks ranks books texts → ⊥
+none_after_memory ranks books texts out h =
+    false≢true (sym (h.each out.0 out.1 out.2).in_memory ∙ ap (λ (s : RankState). s.ran_out) out.3 ∙ out.4)
+
+-- what holds in any case holds where there is an error
+pub OnErr_any : {X E B : Type 0} → (r : Result X E) → B → OnErr r B
+OnErr_any (Ok x) h = tt
+OnErr_any (Err e) h = h

@@ -1,14 +1,14 @@
 //! The audit of the logs of a run.
-ghost use Rattle.std.specs.Prelude.{◌≡◌, ℕ, ◌<◌, ◌≤◌, List, [], length, replicate, slice_index_or, IfOk, OnOk};
+ghost use Rattle.std.specs.Prelude.{◌≡◌, ℕ, ◌<◌, ◌≤◌, List, [], length, replicate, slice_index_or, IfOk, IsErr, OnOk, OnErr};
 ghost use Rattle.rma_book.specs.inside.RankState.{RankState};
-ghost use Rattle.rma_stream.specs.inside.Feeding.{HaveBooks, HasRoom, with_piece};
+ghost use Rattle.rma_stream.specs.inside.Feeding.{HaveBooks, HasRoom, RanOut, with_piece};
 ghost use Rattle.rma_stream.specs.Findings.{AreFindings, count_of_lines};
 
 use crate::outcome::Outcomes;
 use crate::pass::{all_passes, first_failing};
 use rma_base::limits::RANKS;
 use rma_base::{Memory, Rank};
-use rma_book::RankBook;
+use rma_book::{RankBook, SharedSites};
 use rma_report::Findings;
 use std::alloc::Global;
 use std::marker::Model;
@@ -20,17 +20,20 @@ pub struct Audit {
     alloc: Global,
     /// The book of each rank.
     books: Vec<RankBook>,
+    /// Whether memory ran out while one of them was fed.
+    ran_out: bool,
 }
 
 impl Model for Audit {
-    ghost use Rattle.std.specs.Prelude.{◌≡◌, false, List, All};
+    ghost use Rattle.std.specs.Prelude.{List};
     ghost use Rattle.rma_book.specs.inside.RankState.{RankState};
+    ghost use Rattle.rma_stream.specs.inside.Feeding.{AreKept};
 
     ghost Value = { List RankState };
 
     ghost view = { λ audit. audit.books.items };
 
-    ghost invariant = { λ audit. All (λ book. book.text.closed ≡ false) audit.books.items };
+    ghost invariant = { λ audit. AreKept audit.ran_out audit.books.items };
 }
 
 impl Audit {
@@ -39,11 +42,16 @@ impl Audit {
         ensures text { IfOk result (λ audit. HaveBooks ranks audit (replicate ranks [])) }
         ensures ranks { IfOk result (λ audit. length audit ≡ ranks) }
     {
+        let sites = SharedSites::new(alloc)?;
         let mut books = Vec::new(alloc);
         for rank in 0..ranks {
-            books.push(RankBook::new(alloc, Rank(rank), ranks)?)?;
+            books.push(RankBook::sharing(alloc, Rank(rank), ranks, &sites)?)?;
         }
-        Ok(Audit { alloc, books })
+        Ok(Audit {
+            alloc,
+            books,
+            ran_out: false,
+        })
     }
 
     /// How many bytes of the log of a rank it was fed.
@@ -58,24 +66,41 @@ impl Audit {
     ///
     /// # Errors
     ///
-    /// `Memory` where memory ran out: the audit no longer represents what it was fed.
+    /// `Memory` where memory ran out, in this call or in an earlier one: the audit then represents no logs.
     pub fn feed(&mut self, rank: Rank, piece: &[u8]) -> Result<(), Memory>
         requires there { rank.0 < length self.old }
         requires room { HasRoom self.old rank.0 (length piece.now) }
         ensures text { OnOk result ((ranks : ℕ) (texts : List (List ℕ)) → HaveBooks ranks self.old texts → HaveBooks ranks self.new (with_piece texts rank.0 piece.now)) }
-        ensures ranks { OnOk result (length self.new ≡ length self.old) }
+        ensures ranks { length self.new ≡ length self.old }
+        ensures out { OnErr result (RanOut self.new) }
+        ensures stays_out { RanOut self.old → IsErr result }
+        ensures nothing { OnErr result ((ranks : ℕ) (texts : List (List ℕ)) → ¬ HaveBooks ranks self.new texts) }
     {
+        if self.ran_out {
+            return Err(Memory);
+        }
+        // It stays so unless the piece is read to its end.
+        self.ran_out = true;
         let book = &mut self.books[rank.0 as usize];
         book.feed(piece)?;
+        self.ran_out = false;
         Ok(())
     }
 
     /// All logs have ended: the findings of the first failing pass, and how many lines there are.
+    ///
+    /// # Errors
+    ///
+    /// `Memory` where memory ran out, in this call or in an earlier one.
     pub fn finish(self) -> Result<Findings, Memory>
         requires { length self ≤ RANKS }
-        ensures { IfOk result (λ findings. (texts : List (List ℕ)) → HaveBooks (length texts) self texts
+        ensures stays_out { RanOut self → IsErr result }
+        ensures findings { IfOk result (λ findings. (texts : List (List ℕ)) → HaveBooks (length texts) self texts
             → (findings.ranks ≡ length texts) × (findings.lines ≡ count_of_lines texts) × AreFindings texts findings.list) }
     {
+        if self.ran_out {
+            return Err(Memory);
+        }
         let ranks = self.books.len() as u32;
         let lines = count_lines(&self.books);
         let outcomes = Outcomes::of(self.alloc, self.books)?;

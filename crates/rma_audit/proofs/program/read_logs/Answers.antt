@@ -21,7 +21,7 @@ returns-clause-judged g c =
     let texts = follows.0 in
     let taken = follows.1 in
     let in_order = ap (λ (o : Opened). o.names) c.in_ok-read_all.ensures.opened ∙ c.in_ok-open_all.ensures.all.names in
-    let found = c.in_ok-finish.ensures texts (subst (λ n. HaveBooks n c.read_all.new.audit texts) (sym taken.one_a_log) taken.read) in (
+    let found = c.in_ok-finish.ensures.findings texts (subst (λ n. HaveBooks n c.read_all.new.audit texts) (sym taken.one_a_log) taken.read) in (
       texts,
       record {
         in_order = in_order;

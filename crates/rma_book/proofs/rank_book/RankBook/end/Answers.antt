@@ -6,8 +6,8 @@ use Rattle.rma_lex.proofs.CheckLemmas.{length_checked_lines}
 use Rattle.rma_book.proofs.ReadingLemmas.{IsReading_closed, IsReading_all}
 use Rattle.rma_book.proofs.rank_book.RankBook.end.Goals as goal
 
-pub returns : goal.returns
-returns c = λ rank logs bytes h.
+pub returns-clause-end : goal.returns-clause-end
+returns-clause-end c = λ rank logs bytes h.
     let inside = c.self.inside in
     let held = subst (λ reading. Represents rank logs reading bytes) (sym c.self.view_is) h in
     let closed = IsReading_closed rank logs inside.cutter c.close.new.self bytes inside.reader (ap (λ (cutting : Cutting). cutting.handed) c.close.ensures.closed)

@@ -1,4 +1,4 @@
-use Rattle.std.proofs.Common.{◌++◌, take, ap, sym, ◌∙◌, subst}
+use Rattle.std.proofs.Common.{◌++◌, take, refl, ap, sym, ◌∙◌, subst}
 use Rattle.rma_lex.specs.Cutting.{Cutting}
 use Rattle.rma_lex.specs.Checked.{checked_lines}
 use Rattle.rma_book.specs.inside.Reading.{HasRead}
@@ -19,8 +19,10 @@ returns-clause-text c = λ rank logs bytes h.
     let same = ap (λ (cutting : Cutting). cutting.handed) c.shorten.ensures.same in
     let goes_on = c.in_ok-read_lines.ensures.closed ∙ ap (λ (cutting : Cutting). cutting.closed) fed.ok ∙ held.goes_on in
     record {
+      in_memory = refl;
       fed = c.shorten.ensures.text (bytes ++ piece) read.represents;
       goes_on = ap (λ (cutting : Cutting). cutting.closed) c.shorten.ensures.same ∙ goes_on;
       whole = same ∙ whole_handed c.read_lines.new.cutter (bytes ++ piece) read.represents goes_on c.in_ok-read_lines.ensures.none_left;
       read = subst (λ n. HasRead rank logs (take n (checked_lines (bytes ++ piece))) c.read_lines.new.reader) (sym same) read.read;
+      fault_read = refl;
     }

@@ -10,3 +10,6 @@ returns-in-Header c =
 
 pub returns-in-End : goal.returns-in-End
 returns-in-End c = λ stated is. Reads_stated c.args.self.now c.read_end.new.self c.args.no End stated c.read_end.ensures (rw c.in-End.is at is.event)
+
+pub returns-in-Typed : goal.returns-in-Typed
+returns-in-Typed c = λ stated is. c.read_typed.ensures stated (rw c.in-Typed.is at is.event)

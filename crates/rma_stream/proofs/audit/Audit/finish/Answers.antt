@@ -5,8 +5,8 @@ use Rattle.rma_stream.specs.inside.Feeding.{HaveBooks}
 use Rattle.rma_stream.specs.Findings.{found_by, first_failing}
 use Rattle.rma_stream.proofs.audit.Audit.finish.Goals as goal
 
-pub returns : goal.returns
-returns c = λ texts h.
+pub returns-clause-findings : goal.returns-clause-findings
+returns-clause-findings c = λ texts h.
     let logs = length texts in
     let books = c.self.inside.books in
     let held = subst (λ (bs : List RankState). HaveBooks logs bs texts) (sym c.self.view_is) h in
