@@ -1,15 +1,10 @@
-//! Tests of the libraries that speak of the lines of a log, through their public calls: what lines state, the log of one
-//! rank and its list of calls, how calls match, and the report. They are tables of expected values, and each call that may want memory is made
-//! once with ample memory.
+//! Tests of what the lines of a log state, through the public calls of `rma_parse`: tables of good and bad lines of every form,
+//! with expected values.
 #![tactic(auto)]
 
 #[cfg(test)]
-mod book;
+mod accesses;
 #[cfg(test)]
-mod call;
+mod calls;
 #[cfg(test)]
-mod parse;
-#[cfg(test)]
-mod report;
-#[cfg(test)]
-mod sync;
+mod datatypes;

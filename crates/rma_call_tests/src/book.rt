@@ -12,7 +12,27 @@ struct Case {
     end: Result<usize, (u32, FormReason)>,
 }
 
-static CASES: [Case; 83] = [
+static CASES: [Case; 88] = [
+    Case {
+        log: "put W 1 0 1 INT 8 1 INT\nend\n",
+        end: Err((1, FormReason::UnknownVerb)),
+    },
+    Case {
+        log: "rma 1 1 3\ntype commit N\nend\n",
+        end: Err((2, FormReason::UnknownVerb)),
+    },
+    Case {
+        log: "rma 1 1 3\nend\nload 8 1 INT\n",
+        end: Err((3, FormReason::UnknownVerb)),
+    },
+    Case {
+        log: "rma 1 1 3\nload 8 1\nend\n",
+        end: Err((2, FormReason::WrongCount)),
+    },
+    Case {
+        log: "rma 2 1 3\npoll 8 1 INT\nend\n",
+        end: Err((2, FormReason::UnknownVerb)),
+    },
     Case {
         log: "rma 1 1 3\ncomm C 0,1\nbarrier C\nwin create W C 0 8 1 unified same_op\nwin free W\nend\n",
         end: Ok(4),

@@ -1,5 +1,5 @@
 use Rattle.std.proofs.Common.{◌≡◌, false}
-use Rattle.rma_line_tests.proofs.book.ended.Given as goal
+use Rattle.rma_call_tests.proofs.book.ended.Given as goal
 
 abbrev pub invariant-loop-piece : goal.invariant-loop-piece
 invariant-loop-piece g l =
