@@ -11,33 +11,39 @@ ghost use Rattle.rma_base.specs.inside.Key.{key_of, key_writes};
 
 use crate::limits::NAME;
 use crate::memory::Memory;
+use arrayvec::ArrayString;
 use std::alloc::Global;
 use std::hash::{FoldHasher, Hash, Hasher};
 use std::marker::Model;
-use std::rc::RcStr;
+use std::rc::Rc;
 use std::str;
 use thiserror::Error;
 
-/// A name of a communicator, a window, a request or a datatype. Copies share one text, and a table finds a name by a key
-/// that is made once, with the name.
+/// A name of a communicator, a window, a request or a datatype. Copies share one place of memory, which has the text, and a
+/// key by which a table finds the name.
 #[derive(Debug, Drop)]
 pub struct Name {
-    text: RcStr<Global>,
-    // What a hasher is fed of the name.
+    shared: Rc<Keyed>,
+}
+
+/// A text with its key.
+#[derive(Debug, Drop)]
+struct Keyed {
+    /// What a hasher is fed of the text.
     key: u64,
+    text: ArrayString<NAME>,
 }
 
 impl Model for Name {
     ghost use Rattle.std.specs.Prelude.{ℕ, List, true, ◌≡◌};
-    ghost use Rattle.std.specs.Rc.{rc_str_bytes};
     ghost use Rattle.rma_base.specs.Name.{is_name};
     ghost use Rattle.rma_base.specs.inside.Key.{key_of};
 
     ghost Value = { List ℕ };
 
-    ghost view = { λ name. rc_str_bytes name.text };
+    ghost view = { λ name. name.shared.value.text.bytes };
 
-    ghost invariant = { λ name. (is_name (rc_str_bytes name.text) ≡ true) × (name.key ≡ key_of (rc_str_bytes name.text)) };
+    ghost invariant = { λ name. (is_name name.shared.value.text.bytes ≡ true) × (name.shared.value.key ≡ key_of name.shared.value.text.bytes) };
 }
 
 /// Why a text makes no name.
@@ -61,12 +67,15 @@ impl Name {
             return Err(NameError::Bad);
         }
         let key = key_of(text);
-        match str::from_utf8(text) {
-            Ok(text) => match RcStr::from_str(alloc, text) {
-                Ok(text) => Ok(Name { text, key }),
-                Err(_) => Err(NameError::Memory),
-            },
-            Err(_) => Err(NameError::Bad),
+        let Ok(text) = str::from_utf8(text) else {
+            return Err(NameError::Bad);
+        };
+        let Ok(text) = ArrayString::from(text) else {
+            return Err(NameError::Bad);
+        };
+        match Rc::new(alloc, Keyed { key, text }) {
+            Ok(shared) => Ok(Name { shared }),
+            Err(_) => Err(NameError::Memory),
         }
     }
 
@@ -74,7 +83,7 @@ impl Name {
     pub fn text(&self) -> &str
         ensures { result.now ≡ self.now }
     {
-        self.text.as_str()
+        self.shared.text.as_str()
     }
 
     /// The bytes of the name.
@@ -82,18 +91,15 @@ impl Name {
         ensures bytes { result.now ≡ self.now }
         ensures form { is_name self.now ≡ true }
     {
-        self.text.as_str().as_bytes()
+        self.shared.text.as_str().as_bytes()
     }
 
     /// A name with the same bytes.
     pub fn copy(&self) -> Result<Name, Memory>
         ensures { IfOk result (λ name. name ≡ self.now) }
     {
-        match self.text.clone() {
-            Ok(text) => Ok(Name {
-                text,
-                key: self.key,
-            }),
+        match self.shared.clone() {
+            Ok(shared) => Ok(Name { shared }),
             Err(_) => Err(Memory),
         }
     }
@@ -105,7 +111,7 @@ impl PartialEq for Name {
     ghost laws = { Cmp.partial_equiv_from_equiv nat_list_eq_equiv };
 
     fn eq(&self, other: &Self) -> bool {
-        self.text == other.text
+        self.text() == other.text()
     }
 }
 
@@ -119,7 +125,7 @@ impl Hash for Name {
     ghost respects_eq = { Prim.search (hashing, rules) };
 
     fn hash<H: Hasher>(&self, state: &mut H) {
-        state.write_u64(self.key);
+        state.write_u64(self.shared.key);
     }
 }
 

@@ -7,12 +7,14 @@ use crate::memory::Memory;
 use crate::rank::Rank;
 use std::alloc::Global;
 use std::marker::Model;
+use std::rc::Rc;
 use thiserror::Error;
 
-/// A set of ranks.
+/// A set of ranks. Copies share one list of their numbers.
 #[derive(Debug, Drop)]
 pub struct RankSet {
-    numbers: Vec<u32>,
+    /// The numbers, ascending.
+    numbers: Rc<Vec<u32>>,
 }
 
 impl Model for RankSet {
@@ -21,9 +23,9 @@ impl Model for RankSet {
 
     ghost Value = { List ℕ };
 
-    ghost view = { λ set. set.numbers.items };
+    ghost view = { λ set. set.numbers.value.items };
 
-    ghost invariant = { λ set. IsStrictlyIncreasing set.numbers.items };
+    ghost invariant = { λ set. IsStrictlyIncreasing set.numbers.value.items };
 }
 
 /// Why a list of ranks makes no set.
@@ -50,14 +52,17 @@ impl RankSet {
         for rank in ranks {
             place(&mut numbers, rank.0)?;
         }
-        Ok(RankSet { numbers })
+        match Rc::new(alloc, numbers) {
+            Ok(numbers) => Ok(RankSet { numbers }),
+            Err(_) => Err(RankSetError::Memory),
+        }
     }
 
     /// Whether the rank is in the set.
     pub fn has(&self, rank: Rank) -> bool
         ensures { result ≡ has_number rank.0 self.now }
     {
-        self.numbers.binary_search(&rank.0).is_ok()
+        self.numbers().binary_search(&rank.0).is_ok()
     }
 
     /// The numbers of the ranks, ascending.
@@ -72,8 +77,7 @@ impl RankSet {
     pub fn copy(&self) -> Result<RankSet, Memory>
         ensures { IfOk result (λ set. set ≡ self.now) }
     {
-        let alloc = *self.numbers.allocator();
-        match Vec::from_slice(alloc, self.numbers.as_slice()) {
+        match self.numbers.clone() {
             Ok(numbers) => Ok(RankSet { numbers }),
             Err(_) => Err(Memory),
         }

@@ -6,27 +6,30 @@ ghost use Rattle.std.specs.List.{list_all};
 use crate::limits::SITE;
 use crate::memory::Memory;
 use crate::name::NameError;
+use smallvec::SmallVec;
 use std::alloc::Global;
 use std::marker::Model;
-use std::rc::RcStr;
+use std::rc::Rc;
 use std::str;
 
-/// A site of the log, without its `@`. Copies share one text.
+/// How many bytes of a site stand in one place with what counts its copies. A longer text has a place of its own.
+const SHORT: usize = 64;
+
+/// A site of the log, without its `@`. Copies share one place of memory, which has the text.
 #[derive(Debug, Drop)]
 pub struct Site {
-    text: RcStr<Global>,
+    shared: Rc<SmallVec<u8, SHORT>>,
 }
 
 impl Model for Site {
     ghost use Rattle.std.specs.Prelude.{ℕ, List, true, ◌≡◌};
-    ghost use Rattle.std.specs.Rc.{rc_str_bytes};
     ghost use Rattle.rma_base.specs.Site.{is_site};
 
     ghost Value = { List ℕ };
 
-    ghost view = { λ site. rc_str_bytes site.text };
+    ghost view = { λ site. site.shared.value.items };
 
-    ghost invariant = { λ site. is_site (rc_str_bytes site.text) ≡ true };
+    ghost invariant = { λ site. is_site site.shared.value.items ≡ true };
 }
 
 impl Site {
@@ -38,12 +41,12 @@ impl Site {
         if !has_form(text) {
             return Err(NameError::Bad);
         }
-        match str::from_utf8(text) {
-            Ok(text) => match RcStr::from_str(alloc, text) {
-                Ok(text) => Ok(Site { text }),
-                Err(_) => Err(NameError::Memory),
-            },
-            Err(_) => Err(NameError::Bad),
+        let Ok(text) = SmallVec::from_slice(alloc, text) else {
+            return Err(NameError::Memory);
+        };
+        match Rc::new(alloc, text) {
+            Ok(shared) => Ok(Site { shared }),
+            Err(_) => Err(NameError::Memory),
         }
     }
 
@@ -51,7 +54,10 @@ impl Site {
     pub fn text(&self) -> &str
         ensures { result.now ≡ self.now }
     {
-        self.text.as_str()
+        match str::from_utf8(self.bytes()) {
+            Ok(text) => text,
+            Err(_) => unreachable!(),
+        }
     }
 
     /// The bytes of the site.
@@ -59,15 +65,15 @@ impl Site {
         ensures bytes { result.now ≡ self.now }
         ensures form { is_site self.now ≡ true }
     {
-        self.text.as_str().as_bytes()
+        self.shared.as_slice()
     }
 
     /// A site with the same bytes.
     pub fn copy(&self) -> Result<Site, Memory>
         ensures { IfOk result (λ site. site ≡ self.now) }
     {
-        match self.text.clone() {
-            Ok(text) => Ok(Site { text }),
+        match self.shared.clone() {
+            Ok(shared) => Ok(Site { shared }),
             Err(_) => Err(Memory),
         }
     }

@@ -15,5 +15,5 @@ is_ok-searched xs n (Err i) up position =
 
 pub returns : goal.returns
 returns c =
-    let found = is_ok-searched _ c.args.rank.0 c.binary_search.result c.self.invariant (rw c.deref.ensures.value at c.binary_search.ensures.position) in
-    c.is_ok.ensures.value ∙ subst (λ numbers. is_ok c.binary_search.result ≡ has_number c.args.rank.0 numbers) c.self.view_is found
+    let position = subst (λ numbers. IsBinarySearchResult (λ y. nat_cmp y c.args.rank.0) numbers c.binary_search.result) c.numbers.ensures.numbers c.binary_search.ensures.position in
+    c.is_ok.ensures.value ∙ is_ok-searched c.args.self.now c.args.rank.0 c.binary_search.result c.numbers.ensures.ascending position
