@@ -9,3 +9,4 @@ pub mod CleanLemmas
 pub mod BlankLemmas
 pub mod EdgeLemmas
 pub mod FieldLemmas
+pub mod LastLemmas

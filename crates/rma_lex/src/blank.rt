@@ -29,11 +29,19 @@ pub(crate) fn blanks_of_short_line(line: &[u8]) -> u64
     requires { length line.now < 64 }
     ensures { Marks (blank_at line.now) 0 result 0 64 }
 {
-    let after = u64::MAX << line.len();
+    blanks_within_short_line(line) | u64::MAX << line.len()
+}
+
+/// The blanks of a line of fewer than 64 bytes, and no bit more: bit k is for index k.
+#[inline]
+pub(crate) fn blanks_within_short_line(line: &[u8]) -> u64
+    requires { length line.now < 64 }
+    ensures { Marks (blank_at line.now) 0 result 0 (length line.now) }
+{
     if line.len() < 32 {
-        return blanks_of_few(line) | after;
+        return blanks_of_few(line);
     }
-    blanks_of_32(line, 0) | blanks_of_32(line, line.len() - 32) | after
+    blanks_of_32(line, 0) | blanks_of_32(line, line.len() - 32)
 }
 
 /// The blanks of a line of fewer than 32 bytes: bit k is for index k.

@@ -1,6 +1,6 @@
 //! Bits of a mask.
-ghost use Rattle.std.specs.Prelude.{◌≢◌, ℕ, ◌<◌};
-ghost use Rattle.rma_lex.specs.inside.Mask.{IsLowestBit, DropsBit};
+ghost use Rattle.std.specs.Prelude.{◌≡◌, ◌≢◌, ℕ, ◌<◌, IfSome, None};
+ghost use Rattle.rma_lex.specs.inside.Mask.{IsLowestBit, IsHighestBit, DropsBit};
 
 /// The lowest bit that is set.
 #[inline]
@@ -19,4 +19,18 @@ pub(crate) fn without_lowest(mask: u64) -> u64
     ensures { (low : ℕ) → IsLowestBit mask low → DropsBit mask low result }
 {
     mask & (mask - 1)
+}
+
+/// The highest bit that is set, if one is.
+#[inline]
+pub(crate) fn highest(mask: u64) -> Option<usize>
+    ensures bound { IfSome result (λ bit. bit < 64) }
+    ensures highest { IfSome result (λ bit. IsHighestBit mask bit) }
+    ensures none { result ≡ None → mask ≡ 0 }
+{
+    if mask == 0 {
+        None
+    } else {
+        Some(63 - mask.leading_zeros() as usize)
+    }
 }

@@ -7,6 +7,11 @@ pub record IsLowestBit (mask low : ℕ) : Type 0 where
   pub set : bit_at mask low ≡ 1
   pub below : (k : ℕ) → k < low → bit_at mask k ≡ 0
 
+-- the bit is set, and none above it
+pub record IsHighestBit (mask high : ℕ) : Type 0 where
+  pub set : bit_at mask high ≡ 1
+  pub above : (k : ℕ) → high < k → bit_at mask k ≡ 0
+
 -- the same mask, but with that bit not set
 pub record DropsBit (mask bit left : ℕ) : Type 0 where
   pub dropped : bit_at left bit ≡ 0
