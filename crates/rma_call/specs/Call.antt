@@ -3,6 +3,10 @@ use Rattle.std.specs.Prelude.{ℕ, List, [], Option, option_copied}
 use Rattle.rma_base.specs.declared.line.LineNo.{LineNo}
 use Rattle.rma_base.specs.declared.rank.Rank.{Rank}
 use Rattle.rma_call.specs.declared.what.What.{What}
+use Rattle.rma_call.specs.declared.what.What.TheVariants.{Sync}
+use Rattle.rma_call.specs.declared.what.SyncCall.TheVariants as sync
+use Rattle.rma_call.specs.declared.what.WhatRef.{WhatRef}
+use Rattle.rma_call.specs.declared.what.WhatRef.TheVariants.{Frame, Message, Window, Epoch, Moving}
 use Rattle.rma_call.specs.declared.call_list.CallRef.{CallRef}
 
 -- a call: the line that records it, its site in the source of the program, what it does, and the number of the request
@@ -29,6 +33,14 @@ pub record CallTable : Type 0 where
 abbrev pub no_calls : CallTable
 no_calls = record { calls = []; whats = []; sites = [] }
 
+-- what is referred to
+abbrev pub what_of : WhatRef → What
+what_of (Frame call) = Sync (sync.Frame call.now)
+what_of (Message call) = Sync (sync.Message call.now)
+what_of (Window call) = Sync (sync.Window call.now)
+what_of (Epoch call) = Sync (sync.Epoch call.now)
+what_of (Moving call) = Sync (sync.Moving call.now)
+
 -- the call that is referred to
 abbrev pub call_of : CallRef → Call
-call_of call = record { line = call.line; site = option_copied call.site; what = call.what.now; request = call.request }
+call_of call = record { line = call.line; site = option_copied call.site; what = what_of call.what; request = call.request }

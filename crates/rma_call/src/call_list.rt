@@ -2,10 +2,11 @@
 ghost use Rattle.std.specs.Prelude.{◌≡◌, ◌+◌, ◌<◌, ◌^◌, ◌++◌, [], ◌∷◌, length, slice_get, Some, IfSome, IfOk, OnOk, OnErr};
 ghost use Rattle.std.specs.Option.{option_and_then};
 ghost use Rattle.rma_call.specs.declared.what.What.{What};
-ghost use Rattle.rma_call.specs.Call.{no_calls, call_of};
+ghost use Rattle.rma_call.specs.Call.{no_calls, call_of, what_of};
 ghost use Rattle.rma_call.specs.inside.CallList.{number_of};
 
-use crate::what::What;
+use crate::groups::{Groups, Place, next_number};
+use crate::what::{What, WhatRef};
 use rma_base::{LineNo, Memory, Site};
 use std::alloc::Global;
 use std::marker::Model;
@@ -18,19 +19,22 @@ pub struct CallRef<'a> {
     /// Where it stands in the source of the program, if the recorder says so.
     pub site: Option<&'a Site>,
     /// What it does.
-    pub what: &'a What,
+    pub what: WhatRef<'a>,
     /// The number of the request that it makes or completes.
     pub request: Option<u32>,
 }
 
 /// The calls of a rank in their order. A program makes its calls at a few places over and over, so a call takes 16 bytes: what
-/// it does and its site stand in tables, once for all calls that share them, and the call has their numbers there.
+/// it does and its site stand in tables, once for all calls that share them, and the call has their numbers there. What a call
+/// does stands in the table of its group, and its number gives the place.
 #[derive(Debug, Drop)]
 pub struct CallList {
     /// The calls in their order.
     entries: Vec<Entry>,
+    /// Where it stands what the calls do, by its numbers.
+    places: Vec<Place>,
     /// What the calls do.
-    whats: Vec<What>,
+    groups: Groups,
     /// The sites of the calls.
     sites: Vec<Site>,
 }
@@ -53,11 +57,13 @@ impl Model for CallList {
 
     ghost Value = { CallTable };
 
+    ghost use Rattle.std.specs.Prelude.{All};
     ghost use Rattle.rma_call.specs.inside.CallList.{entry_calls, AreInTables};
+    ghost use Rattle.rma_call.specs.inside.Groups.{whats_at, IsThere};
 
-    ghost view = { λ list. record { calls = entry_calls list.whats.items list.sites.items list.entries.items; whats = list.whats.items; sites = list.sites.items } };
+    ghost view = { λ list. record { calls = entry_calls (whats_at list.groups list.places.items) list.sites.items list.entries.items; whats = whats_at list.groups list.places.items; sites = list.sites.items } };
 
-    ghost invariant = { λ list. AreInTables list.whats.items list.sites.items list.entries.items };
+    ghost invariant = { λ list. AreInTables (whats_at list.groups list.places.items) list.sites.items list.entries.items × All (IsThere list.groups) list.places.items };
 }
 
 impl CallList {
@@ -67,7 +73,8 @@ impl CallList {
     {
         CallList {
             entries: Vec::new(alloc),
-            whats: Vec::new(alloc),
+            places: Vec::new(alloc),
+            groups: Groups::new(alloc),
             sites: Vec::new(alloc),
         }
     }
@@ -92,17 +99,18 @@ impl CallList {
         CallRef {
             line: entry.line,
             site,
-            what: &self.whats[entry.what as usize],
+            what: self.groups.get(self.places[entry.what as usize]),
             request: number_of(entry.request),
         }
     }
 
     /// What calls do that have this number.
-    pub fn what(&self, number: u32) -> &What
+    #[inline]
+    pub fn what(&self, number: u32) -> WhatRef<'_>
         requires { number < length self.now.whats }
-        ensures { slice_get self.now.whats number ≡ Some result.now }
+        ensures { slice_get self.now.whats number ≡ Some (what_of result) }
     {
-        &self.whats[number as usize]
+        self.groups.get(self.places[number as usize])
     }
 
     /// The site of this number.
@@ -123,8 +131,9 @@ impl CallList {
         ensures ok { OnOk result (self.new ≡ record self.old { whats = self.old.whats ++ what ∷ [] }) }
         ensures err { OnErr result (self.new ≡ self.old) }
     {
-        let number = next_number(self.whats.len())?;
-        self.whats.push(what)?;
+        let number = next_number(self.places.len())?;
+        let place = self.groups.put(what)?;
+        self.places.push(place)?;
         Ok(number)
     }
 
@@ -186,17 +195,5 @@ fn kept(number: Option<u32>) -> u32
     match number {
         Some(number) => number + 1,
         None => 0,
-    }
-}
-
-/// The number of the next value of a table that has so many.
-fn next_number(len: usize) -> Result<u32, Memory>
-    ensures number { IfOk result (λ number. number ≡ len) }
-    ensures fits { OnOk result (len + 1 < 2 ^ 32) }
-{
-    if len < u32::MAX as usize {
-        Ok(len as u32)
-    } else {
-        Err(Memory)
     }
 }

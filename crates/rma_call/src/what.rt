@@ -26,3 +26,18 @@ pub enum SyncCall {
     /// It moves data between the members of a communicator.
     Moving(MovingCall),
 }
+
+/// What a call does, where it stands.
+#[derive(Clone, Copy, Debug)]
+pub enum WhatRef<'a> {
+    /// It declares a communicator, or is a barrier.
+    Frame(&'a FrameCall),
+    /// It sends or receives a message, or waits for one.
+    Message(&'a MessageCall),
+    /// It creates or frees a window, or attaches memory to one.
+    Window(&'a WindowCall),
+    /// It opens, completes or closes an epoch.
+    Epoch(&'a EpochCall),
+    /// It moves data between the members of a communicator.
+    Moving(&'a MovingCall),
+}

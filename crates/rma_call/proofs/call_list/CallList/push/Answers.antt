@@ -1,3 +1,4 @@
+use Rattle.rma_call.specs.inside.Groups.{whats_at}
 use Rattle.rma_call.proofs.CallListLemmas.{calls_with_call}
 use Rattle.rma_call.proofs.call_list.CallList.push.Goals as goal
 
@@ -9,7 +10,7 @@ returns-clause-ok c = λ value at.
     rw (
       ← c.self.view_is,
       c.in_ok-push.ensures.items,
-      calls_with_call own.whats.items own.sites.items own.entries.items
+      calls_with_call (whats_at own.groups own.places.items) own.sites.items own.entries.items
           (record { line = c.args.line; what = c.args.what; site = c.kept.result; request = c.kept-2.result }) c.args.site value below c.kept.ensures is,
       c.kept-2.ensures,
     )

@@ -1,0 +1,37 @@
+-- Tables of what calls do, one for each group of calls.
+use Rattle.std.specs.Prelude.{◌≡◌, ◌<◌, List, [], length, map, get_or, None}
+use Rattle.rma_call.specs.declared.frame.FrameCall.TheVariants.{Barrier}
+use Rattle.rma_call.specs.declared.message.MessageCall.TheVariants.{Wait}
+use Rattle.rma_call.specs.declared.window.WindowCall.TheVariants.{Free}
+use Rattle.rma_call.specs.declared.epoch.EpochCall.TheVariants.{Complete}
+use Rattle.rma_call.specs.declared.moving.MovingCall.TheVariants.{Allreduce}
+use Rattle.rma_call.specs.declared.what.What.{What}
+use Rattle.rma_call.specs.declared.what.What.TheVariants.{Sync}
+use Rattle.rma_call.specs.declared.what.SyncCall.TheVariants as sync
+use Rattle.rma_call.specs.declared.groups.Groups.{Groups}
+use Rattle.rma_call.specs.declared.groups.Place.{Place}
+use Rattle.rma_call.specs.declared.groups.Place.TheVariants.{Frame, Message, Window, Epoch, Moving}
+
+-- what stands at a place; at one beyond the table, where nothing is, something that is never asked for
+abbrev pub what_at : Groups → Place → What
+what_at groups (Frame index) = Sync (sync.Frame (get_or groups.frames.items index (Barrier [])))
+what_at groups (Message index) = Sync (sync.Message (get_or groups.messages.items index (Wait None)))
+what_at groups (Window index) = Sync (sync.Window (get_or groups.windows.items index (Free [])))
+what_at groups (Epoch index) = Sync (sync.Epoch (get_or groups.epochs.items index (Complete [])))
+what_at groups (Moving index) = Sync (sync.Moving (get_or groups.movings.items index (Allreduce 0 [])))
+
+-- the place is in the table of its group
+abbrev pub IsThere : Groups → Place → Type 0
+IsThere groups (Frame index) = index < length groups.frames.items
+IsThere groups (Message index) = index < length groups.messages.items
+IsThere groups (Window index) = index < length groups.windows.items
+IsThere groups (Epoch index) = index < length groups.epochs.items
+IsThere groups (Moving index) = index < length groups.movings.items
+
+-- what calls do, by their numbers
+abbrev pub whats_at : Groups → List Place → List What
+whats_at groups places = map (what_at groups) places
+
+-- each place keeps what stands there
+abbrev pub Grows : Groups → Groups → Type 0
+Grows old new = (place : Place) → IsThere old place → IsThere new place × (what_at new place ≡ what_at old place)

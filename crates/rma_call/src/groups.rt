@@ -1,0 +1,104 @@
+//! Tables of what calls do, one for each group of calls.
+ghost use Rattle.std.specs.Prelude.{◌≡◌, ◌+◌, ◌<◌, ◌^◌, ◌++◌, ◌∷◌, [], length, IfOk, OnOk, OnErr};
+ghost use Rattle.rma_call.specs.Call.{what_of};
+ghost use Rattle.rma_call.specs.inside.Groups.{Grows, IsThere, what_at};
+
+use crate::epoch::EpochCall;
+use crate::frame::FrameCall;
+use crate::message::MessageCall;
+use crate::moving::MovingCall;
+use crate::what::{SyncCall, What, WhatRef};
+use crate::window::WindowCall;
+use rma_base::Memory;
+use std::alloc::Global;
+
+/// What calls do, in a table for each group: what a call of one group does takes less room than that of another.
+#[derive(Debug, Drop)]
+pub(crate) struct Groups {
+    frames: Vec<FrameCall>,
+    messages: Vec<MessageCall>,
+    windows: Vec<WindowCall>,
+    epochs: Vec<EpochCall>,
+    movings: Vec<MovingCall>,
+}
+
+/// Where it stands what a call does: the group, and the index in its table.
+#[derive(Clone, Copy, Debug)]
+pub(crate) enum Place {
+    Frame(u32),
+    Message(u32),
+    Window(u32),
+    Epoch(u32),
+    Moving(u32),
+}
+
+impl Groups {
+    /// Empty tables.
+    pub(crate) fn new(alloc: Global) -> Groups {
+        Groups {
+            frames: Vec::new(alloc),
+            messages: Vec::new(alloc),
+            windows: Vec::new(alloc),
+            epochs: Vec::new(alloc),
+            movings: Vec::new(alloc),
+        }
+    }
+
+    /// What stands at the place.
+    #[inline]
+    pub(crate) fn get(&self, place: Place) -> WhatRef<'_>
+        requires { IsThere self.now place }
+        ensures { what_of result ≡ what_at self.now place }
+    {
+        match place {
+            Place::Frame(index) => WhatRef::Frame(&self.frames[index as usize]),
+            Place::Message(index) => WhatRef::Message(&self.messages[index as usize]),
+            Place::Window(index) => WhatRef::Window(&self.windows[index as usize]),
+            Place::Epoch(index) => WhatRef::Epoch(&self.epochs[index as usize]),
+            Place::Moving(index) => WhatRef::Moving(&self.movings[index as usize]),
+        }
+    }
+
+    /// Puts what a call does at the end of the table of its group.
+    ///
+    /// # Errors
+    ///
+    /// `Memory` also where the table is full.
+    pub(crate) fn put(&mut self, what: What) -> Result<Place, Memory>
+        ensures there { IfOk result (λ place. IsThere self.new place) }
+        ensures is { IfOk result (λ place. what_at self.new place ≡ what) }
+        ensures grows { Grows self.old self.new }
+    {
+        let What::Sync(call) = what;
+        match call {
+            SyncCall::Frame(call) => Ok(Place::Frame(push(&mut self.frames, call)?)),
+            SyncCall::Message(call) => Ok(Place::Message(push(&mut self.messages, call)?)),
+            SyncCall::Window(call) => Ok(Place::Window(push(&mut self.windows, call)?)),
+            SyncCall::Epoch(call) => Ok(Place::Epoch(push(&mut self.epochs, call)?)),
+            SyncCall::Moving(call) => Ok(Place::Moving(push(&mut self.movings, call)?)),
+        }
+    }
+}
+
+/// Puts a value at the end of a table, and answers its index.
+fn push<T: Drop>(table: &mut Vec<T>, value: T) -> Result<u32, Memory>
+    ensures index { IfOk result (λ index. index ≡ length table.old.items) }
+    ensures ok { OnOk result (table.new.items ≡ table.old.items ++ value ∷ []) }
+    ensures err { OnErr result (table.new.items ≡ table.old.items) }
+{
+    let index = next_number(table.len())?;
+    table.push(value)?;
+    Ok(index)
+}
+
+/// The number of the next value of a table that has so many.
+pub(crate) fn next_number(len: usize) -> Result<u32, Memory>
+    ensures number { IfOk result (λ number. number ≡ len) }
+    ensures fits { OnOk result (len + 1 < 2 ^ 32) }
+{
+    if len < u32::MAX as usize {
+        Ok(len as u32)
+    } else {
+        Err(Memory)
+    }
+}
