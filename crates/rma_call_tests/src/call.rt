@@ -1,6 +1,6 @@
 //! The calls of a rank, as they are put in a list and read from it.
 use rma_base::{LineNo, Name, Rank, Site};
-use rma_call::{CallList, CallRef, FrameCall, RankCalls, SyncCall, What};
+use rma_call::{CallList, CallRef, FrameCall, RankCalls, SyncCall, What, WhatRef};
 use std::alloc::Global;
 use std::process::Abort;
 use std::test::Fail;
@@ -21,9 +21,9 @@ fn short<'a>(call: CallRef<'a>) -> Short<'a> {
     (call.line.0, site, comm_of(call.what), call.request)
 }
 
-fn comm_of(what: &What) -> &str {
+fn comm_of<'a>(what: WhatRef<'a>) -> &'a str {
     match what {
-        What::Sync(SyncCall::Frame(FrameCall::Barrier { comm })) => comm.text(),
+        WhatRef::Frame(FrameCall::Barrier { comm }) => comm.text(),
         _ => "",
     }
 }

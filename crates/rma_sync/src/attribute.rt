@@ -4,7 +4,7 @@ ghost use Rattle.rma_sync.specs.Attribute.{declared, same_ranks, created, same_a
 
 use crate::declaration::Attributes;
 use rma_base::{AccOps, Memory, Name, RankSet, WinModel};
-use rma_call::{FrameCall, SyncCall, What, WindowCall};
+use rma_call::{FrameCall, WhatRef, WindowCall};
 
 /// What a window is created with, as far as all ranks have to agree.
 #[derive(Drop)]
@@ -23,9 +23,9 @@ impl Attributes for RankSet {
 
     ghost agrees = { same_ranks };
 
-    fn of(what: &What) -> Result<Option<(Name, RankSet)>, Memory> {
+    fn of(what: WhatRef<'_>) -> Result<Option<(Name, RankSet)>, Memory> {
         match what {
-            What::Sync(SyncCall::Frame(FrameCall::Comm { comm, ranks })) => {
+            WhatRef::Frame(FrameCall::Comm { comm, ranks }) => {
                 let name = comm.copy()?;
                 let ranks = ranks.copy()?;
                 Ok(Some((name, ranks)))
@@ -45,18 +45,16 @@ impl Attributes for WindowAttributes {
 
     ghost agrees = { same_attributes };
 
-    fn of(what: &What) -> Result<Option<(Name, WindowAttributes)>, Memory> {
+    fn of(what: WhatRef<'_>) -> Result<Option<(Name, WindowAttributes)>, Memory> {
         match what {
-            What::Sync(
-                SyncCall::Window(
-                    WindowCall::Create {
-                        window,
-                        comm,
-                        model,
-                        ops,
-                        ..
-                    },
-                ),
+            WhatRef::Window(
+                WindowCall::Create {
+                    window,
+                    comm,
+                    model,
+                    ops,
+                    ..
+                },
             ) => {
                 let name = window.copy()?;
                 let comm = comm.copy()?;

@@ -7,7 +7,7 @@ ghost use Rattle.rma_sync.specs.Declaration.{declaration_of, first_of};
 use crate::first_index::first_indexes;
 use indexmap::IndexMap;
 use rma_base::{LineNo, Memory, Name, Rank, Sequence};
-use rma_call::{CallRef, What};
+use rma_call::{CallRef, WhatRef};
 use std::alloc::Global;
 use std::marker::Model;
 
@@ -27,6 +27,7 @@ pub struct Declaration<T> {
 /// What calls of one kind declare of the thing that they name.
 pub trait Attributes: Drop {
     ghost use Rattle.std.specs.Prelude.{◌≡◌, ℕ, List, Option, Bool, IfOk};
+    ghost use Rattle.rma_call.specs.Call.{what_of};
     ghost use Rattle.rma_call.specs.declared.what.What.{What};
 
     /// The name and its attributes, where the call declares one of this kind.
@@ -36,8 +37,8 @@ pub trait Attributes: Drop {
     ghost agrees: { Self → Self → Bool };
 
     /// The name and its attributes, where the call declares one of this kind.
-    fn of(what: &What) -> Result<Option<(Name, Self)>, Memory>
-        ensures { IfOk result (λ found. found ≡ stated what.now) };
+    fn of(what: WhatRef<'_>) -> Result<Option<(Name, Self)>, Memory>
+        ensures { IfOk result (λ found. found ≡ stated (what_of what.entry)) };
 
     /// Whether it agrees with the first declaration.
     fn agrees_with(&self, first: &Self) -> bool

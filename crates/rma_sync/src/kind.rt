@@ -1,9 +1,10 @@
 //! The kinds of calls that every member of a communicator or a window has to make.
 ghost use Rattle.std.specs.Prelude.{◌≡◌, option_copied};
+ghost use Rattle.rma_call.specs.Call.{what_of};
 ghost use Rattle.rma_sync.specs.Collective.{comm_of, window_of, freed, named};
 
 use rma_base::Name;
-use rma_call::{FrameCall, SyncCall, What, WindowCall};
+use rma_call::{FrameCall, WhatRef, WindowCall};
 
 /// A kind of calls that every member has to make.
 #[derive(Clone, Copy, Debug, PartialEq, Eq)]
@@ -15,8 +16,8 @@ pub enum Kind {
 }
 
 /// What a call of this kind is on.
-pub(crate) fn named(kind: Kind, what: &What) -> Option<&Name>
-    ensures { option_copied result ≡ named kind what.now }
+pub(crate) fn named<'a>(kind: Kind, what: WhatRef<'a>) -> Option<&'a Name>
+    ensures { option_copied result ≡ named kind (what_of what.entry) }
 {
     match kind {
         Kind::Collective => comm_of(what),
@@ -25,32 +26,32 @@ pub(crate) fn named(kind: Kind, what: &What) -> Option<&Name>
 }
 
 /// The communicator of a collective call.
-pub(crate) fn comm_of(what: &What) -> Option<&Name>
-    ensures { option_copied result ≡ comm_of what.now }
+pub(crate) fn comm_of<'a>(what: WhatRef<'a>) -> Option<&'a Name>
+    ensures { option_copied result ≡ comm_of (what_of what.entry) }
 {
     match what {
-        What::Sync(SyncCall::Frame(FrameCall::Barrier { comm }))
-        | What::Sync(SyncCall::Window(WindowCall::Create { comm, .. })) => Some(comm),
+        WhatRef::Frame(FrameCall::Barrier { comm })
+        | WhatRef::Window(WindowCall::Create { comm, .. }) => Some(comm),
         _ => None,
     }
 }
 
 /// The window that a collective call creates: a barrier creates none.
-pub(crate) fn window_of(what: &What) -> Option<&Name>
-    ensures { option_copied result ≡ window_of what.now }
+pub(crate) fn window_of<'a>(what: WhatRef<'a>) -> Option<&'a Name>
+    ensures { option_copied result ≡ window_of (what_of what.entry) }
 {
     match what {
-        What::Sync(SyncCall::Window(WindowCall::Create { window, .. })) => Some(window),
+        WhatRef::Window(WindowCall::Create { window, .. }) => Some(window),
         _ => None,
     }
 }
 
 /// The window that a call frees.
-pub(crate) fn freed(what: &What) -> Option<&Name>
-    ensures { option_copied result ≡ freed what.now }
+pub(crate) fn freed<'a>(what: WhatRef<'a>) -> Option<&'a Name>
+    ensures { option_copied result ≡ freed (what_of what.entry) }
 {
     match what {
-        What::Sync(SyncCall::Window(WindowCall::Free { window })) => Some(window),
+        WhatRef::Window(WindowCall::Free { window }) => Some(window),
         _ => None,
     }
 }

@@ -3,7 +3,7 @@ use Rattle.std.specs.Option.{option_copied, option_and_then}
 use Rattle.std.specs.List.{cons_option}
 use Rattle.std.specs.Cmp.Lexicographic.{pointwise}
 use Rattle.rma_base.specs.declared.rank.Rank.{Rank}
-use Rattle.rma_call.specs.Call.{call_of}
+use Rattle.rma_call.specs.Call.{call_of, what_of}
 use Rattle.rma_sync.specs.Collective.{comm_of}
 use Rattle.rma_sync.specs.inside.CallCount.{number_in}
 use Rattle.rma_sync.specs.Round.{differs}
@@ -13,7 +13,7 @@ use Rattle.rma_sync.proofs.round.Rounds.scan.Goals as goal
 
 pub returns-in_default : goal.returns-in_default
 returns-in_default c = λ done own before at rank are.
-    let none : comm_of c.args.call.what.now ≡ None = sym c.comm_of.ensures ∙ ap option_copied c.in_default.is in
+    let none : comm_of (what_of c.args.call.what) ≡ None = sym c.comm_of.ensures ∙ ap option_copied c.in_default.is in
     AreRounds_none done own before (call_of c.args.call) c.args.index c.args.self.now at none are
 
 pub returns : goal.returns
