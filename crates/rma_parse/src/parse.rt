@@ -57,8 +57,10 @@ fn read_words<'a>(
     let mut seen = Seen::new();
     seen.survey(rest);
     let words = Words::new(line, &seen);
-    let stated = stated_by(kept, version, verb, &words)?;
-    Ok(Some(stated))
+    match stated_by(kept, version, verb, &words) {
+        Ok(stated) => Ok(Some(stated)),
+        Err(error) => Err(error),
+    }
 }
 
 fn stated_by(
@@ -91,8 +93,10 @@ fn stated_in(
 {
     let further = counted(version, form, fields)?;
     let site = site_field(kept, site)?;
-    let event = read_fields(kept, version, form, further)?;
-    Ok(Stated { event, site })
+    match read_fields(kept, version, form, further) {
+        Ok(event) => Ok(Stated { event, site }),
+        Err(error) => Err(error),
+    }
 }
 
 // The fields behind the word of its kind, where there are as many as the form has, and words of assertions are good.
