@@ -1,4 +1,3 @@
 pub mod WordLemmas
 pub mod SiteLemmas
 pub mod ReaderLemmas
-pub mod SplitLemmas

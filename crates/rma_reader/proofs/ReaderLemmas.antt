@@ -1,5 +1,5 @@
 -- What is read of a line, and how the tables grow.
-use Rattle.std.proofs.Common.{◌≡◌, ℕ, ◌<◌, List, Option, Some, None, sym, ap, ◌∙◌, subst, ⊎_elim, arith, refl, Result, Ok, Err, IfOk, IfErr, IfSome, OnOk, OnErr, MatchOption, length, slice_get}
+use Rattle.std.proofs.Common.{◌≡◌, ℕ, ◌<◌, List, Option, Some, None, sym, ap, ◌∙◌, subst, ⊎_elim, arith, Result, Ok, Err, IfOk, IfErr, IfSome, OnOk, OnErr, MatchOption, length, slice_get}
 use Rattle.std.proofs.lemmas.List.Elements.{All-weaker}
 use Rattle.std.proofs.lemmas.Option.{slice_get_cases}
 use Rattle.rma_base.specs.declared.form_reason.FormReason.{FormReason}
@@ -7,10 +7,11 @@ use Rattle.rma_base.specs.declared.version.Version.{Version}
 use Rattle.rma_call.specs.declared.what.What.{What}
 use Rattle.rma_call.specs.Call.{Call as CallOf, CallTable}
 use Rattle.rma_field.specs.declared.parse_error.ParseError.{ParseError}
+use Rattle.rma_field.specs.declared.parse_error.ParseError.TheVariants.{Fault, Memory}
 use Rattle.rma_field.specs.Steps.{Fails, ◌>>=◌}
 use Rattle.rma_parse.specs.declared.event.Event.{Event}
 use Rattle.rma_parse.specs.declared.event.Stated.{Stated}
-use Rattle.rma_parse.specs.Lines.{reading, states}
+use Rattle.rma_parse.specs.Lines.{reading, site_of, states}
 use Rattle.rma_reader.specs.declared.known_sites.KnownSite.{KnownSite}
 use Rattle.rma_reader.specs.declared.read_line.ReadEvent.{ReadEvent}
 use Rattle.rma_reader.specs.declared.read_line.ReadEvent.TheVariants.{Header, End, Call, Typed}
@@ -20,7 +21,7 @@ use Rattle.rma_reader.specs.inside.Known.{IsKnown, IsStatedBy, Known, table_of}
 use Rattle.rma_reader.specs.inside.Slots.{AreKept, IsKept}
 use Rattle.rma_reader.specs.inside.SiteSlots.{AreNumbered, HasNumber}
 use Rattle.rma_reader.specs.inside.Split.{IsSplit, stated_at}
-use Rattle.rma_reader.specs.inside.Tables.{AddsSites, AddsWhats, Extends, IsNumbered, Keeps, Reads}
+use Rattle.rma_reader.specs.inside.Tables.{AddsSites, AddsWhats, Extends, IsSiteOf, Keeps, Reads}
 use Rattle.rma_reader.proofs.SiteLemmas.{reading_site}
 
 pub same_keeps : {A : Type 0} (old new : List A) → new ≡ old → Keeps old new
@@ -62,17 +63,19 @@ are_numbered old new slots keeps = All-weaker (HasNumber old) (HasNumber new) (�
 abbrev pub at_site : Event → Option (List ℕ) → Stated
 at_site event site = record { event = event; site = site }
 
--- a line without a site, and one with a site
-pub reads_alone : (table : CallTable) (read : ReadEvent) (event : Event) → IsEvent table read event → Reads table (Ok (Some (record { event = read; site = None }))) (stated_at event None)
-reads_alone table read event is = (record { event = event; site = None }, refl, record { event = is; site = refl })
-
-pub reads_sited : (table : CallTable) (read : ReadEvent) (event : Event) (text : List ℕ) (number : ℕ) → IsEvent table read event → IsNumbered table text number
-    → Reads table (Ok (Some (record { event = read; site = Some number }))) (stated_at event (Some text))
-reads_sited table read event text number is numbered = (
-  record { event = event; site = Some text },
-  ap (λ good. (good >>= λ it. Ok (Some it)) >>= λ site. Ok (Some (record { event = event; site = site }))) numbered.good,
-  record { event = is; site = (text, numbered.is, refl) },
+-- a line whose site has this number
+pub reads_at : (table : CallTable) (read : ReadEvent) (event : Event) (text : Option (List ℕ)) (number : Option ℕ) → IsEvent table read event → IsSiteOf table text number
+    → Reads table (Ok (Some (record { event = read; site = number }))) (stated_at event text)
+reads_at table read event text number is sited = (
+  at_site event text,
+  ap (λ good. good >>= λ site. Ok (Some (at_site event site))) sited.0,
+  record { event = is; site = sited.1 },
 )
+
+-- a line whose site is bad
+pub fails_at : (error : ParseError) (event : Event) (text : Option (List ℕ)) → Fails error (site_of text) → Fails error (stated_at event text)
+fails_at Memory event text bad = tt
+fails_at (Fault fault) event text bad = ap (λ found. found >>= λ site. Ok (Some (at_site event site))) bad
 
 reading_split : (v : Version) (line words : List ℕ) (site : Option (List ℕ)) (event : Event) → IsSplit line words site → states v words (record { event = event; site = None }) → reading v line ≡ stated_at event site
 reading_split v line words None event split said = ap (reading v) (sym split) ∙ said
@@ -83,15 +86,24 @@ pub reads_split : (table : CallTable) (result : Result (Option ReadLine) ParseEr
     → states v words (record { event = event; site = None }) → Reads table result (stated_at event site) → Reads table result (reading v line)
 reads_split table result v line words site event split said read = subst (Reads table result) (sym (reading_split v line words site event split said)) read
 
--- the same of words that are known
-pub reads_known : (seen : Reading) (version : Version) (calls new : CallTable) (slots : List (Option Known)) (line words : List ℕ) (site : Option (List ℕ)) (read : ReadEvent)
-    (result : Result (Option ReadLine) ParseError) → version ≡ seen.version → IsSplit line words site → AreKept calls.whats slots
-    → ((whats : List What) → AreKept whats slots → IsStatedBy version whats words read) → ((event : Event) → IsEvent calls read event → Reads new result (stated_at event site))
-    → Reads new result (reading seen.version line)
-reads_known seen version calls new slots line words site read result same split kept known given =
-    let stated = known calls.whats kept in
-    let is = event_keeps (table_of calls.whats) calls read stated.event (λ number value it. it) stated.is in
-    reads_split new result seen.version line words site stated.event split (ap (λ v. reading v words) (sym same) ∙ stated.said) (given stated.event is)
+-- words that are known
+module _ (seen : Reading) (version : Version) (calls : CallTable) (slots : List (Option Known)) (line words : List ℕ) (site : Option (List ℕ)) (read : ReadEvent) (same : version ≡ seen.version)
+    (split : IsSplit line words site) (kept : AreKept calls.whats slots) (known : (whats : List What) → AreKept whats slots → IsStatedBy version whats words read) where
+  abbrev stated : IsStatedBy version calls.whats words read
+  stated = known calls.whats kept
+
+  said : reading seen.version line ≡ stated_at stated.event site
+  said = reading_split seen.version line words site stated.event split (ap (λ v. reading v words) (sym same) ∙ stated.said)
+
+  pub known_call : (new : CallTable) (number : Option ℕ) → AddsSites calls new → IsSiteOf new site number
+      → (it : Stated) × (reading seen.version line ≡ Ok (Some it)) × IsRead new (record { event = read; site = number }) it
+  known_call new number adds sited =
+      let is = event_keeps (table_of calls.whats) new read stated.event (same_keeps calls.whats new.whats adds.whats) stated.is in
+      let it = reads_at new read stated.event site number is sited in
+      (it.0, said ∙ it.1, it.2)
+
+  pub known_fails : (error : ParseError) → Fails error (site_of site) → Fails error (reading seen.version line)
+  known_fails error bad = subst (Fails error) (sym said) (fails_at error stated.event site bad)
 
 -- what was read where there is an answer, and where there is none
 pub reads_ok : (table : CallTable) (result : Result (Option ReadLine) ParseError) (said : Result (Option Stated) FormReason) → Reads table result said

@@ -9,6 +9,7 @@ use Rattle.rma_parse.specs.declared.event.Stated.{Stated}
 use Rattle.rma_reader.specs.declared.read_line.ReadEvent.{ReadEvent}
 use Rattle.rma_reader.specs.declared.read_line.ReadEvent.TheVariants.{Header, End, Call, Typed}
 use Rattle.rma_reader.specs.declared.read_line.ReadLine.{ReadLine}
+use Rattle.rma_reader.specs.declared.read_line.KnownCall.{KnownCall}
 
 -- the version in which lines are read, and the calls with their tables
 pub record Reading : Type 0 where
@@ -38,6 +39,10 @@ IsSite table (Some number) text = (value : List ℕ) × (slice_get table.sites n
 pub record IsRead (table : CallTable) (line : ReadLine) (stated : Stated) : Type 0 where
   pub event : IsEvent table line.event stated.event
   pub site : IsSite table line.site stated.site
+
+-- a known call, as what is read of any line
+abbrev pub line_of : KnownCall → ReadLine
+line_of call = record { event = Call call.what call.request; site = call.site }
 
 -- the tables may have grown: each number keeps what it names, and nothing else has changed
 pub record Grows (old new : Reading) : Type 0 where

@@ -1,8 +1,6 @@
 //! What the words of a line state.
 ghost use Rattle.std.specs.Prelude.{◌≡◌, IfOk, true};
-ghost use Rattle.rma_reader.specs.declared.read_line.ReadEvent.TheVariants.{Call};
 
-use crate::read_line::ReadEvent;
 use rma_base::{Memory, Name, Version};
 use std::alloc::Global;
 use std::marker::Model;
@@ -58,16 +56,20 @@ impl KnownLine {
         self.version == version && self.words.as_slice() == words
     }
 
-    /// The event. It takes no memory.
+    /// The number of what the call does.
     #[inline]
-    pub(crate) fn event(&self) -> Result<ReadEvent, Memory>
-        ensures { IfOk result (λ event. event ≡ Call self.now.what self.now.request) }
+    pub(crate) fn what(&self) -> u32
+        ensures { result ≡ self.now.what }
     {
-        let request = copy(&self.request)?;
-        Ok(ReadEvent::Call {
-            what: self.what,
-            request,
-        })
+        self.what
+    }
+
+    /// The request that the call makes or completes. It takes no memory.
+    #[inline]
+    pub(crate) fn request(&self) -> Result<Option<Name>, Memory>
+        ensures { IfOk result (λ request. request ≡ self.now.request) }
+    {
+        copy(&self.request)
     }
 }
 

@@ -1,6 +1,7 @@
 //! The lines that a log repeats.
 ghost use Rattle.std.specs.Prelude.{IfOk, IfSome, List};
 ghost use Rattle.rma_call.specs.declared.what.What.{What};
+ghost use Rattle.rma_reader.specs.declared.read_line.ReadEvent.TheVariants.{Call};
 ghost use Rattle.rma_reader.specs.inside.Known.{IsKnown, IsStatedBy};
 ghost use Rattle.rma_reader.specs.inside.Slots.{AreKept};
 
@@ -45,22 +46,17 @@ impl KnownLines {
         Ok(KnownLines { keys, slots })
     }
 
-    /// The event that these words state in this version, if they are known. This is their key.
+    /// The line of these words in this version, if it is known. This is the key of the words.
     #[inline]
-    pub(crate) fn event(
-        &self,
-        key: u64,
-        version: Version,
-        words: &[u8],
-    ) -> Result<Option<ReadEvent>, Memory>
-        ensures { IfOk result (λ event. IfSome event (λ event. (whats : List What) → AreKept whats self.now.slots.items → IsStatedBy version whats words.now event)) }
+    pub(crate) fn line(&self, key: u64, version: Version, words: &[u8]) -> Option<&KnownLine>
+        ensures { IfSome result (λ line. (whats : List What) → AreKept whats self.now.slots.items → IsStatedBy version whats words.now (Call line.now.what line.now.request)) }
     {
         if !self.has_key(key) {
-            return Ok(None);
+            return None;
         }
         match self.slots.get(slot_of(key)) {
-            Some(Some(line)) if line.is(version, words) => Ok(Some(line.event()?)),
-            _ => Ok(None),
+            Some(Some(line)) if line.is(version, words) => Some(line),
+            _ => None,
         }
     }
 

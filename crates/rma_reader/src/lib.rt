@@ -1,7 +1,8 @@
 //! The lines of one log, read one after another.
 //!
 //! A [`LineReader`] answers of each line what `rma_parse::parse_line` answers, and keeps what calls do and their sites in the
-//! tables of the list of calls that it fills: a [`ReadLine`] has their numbers there.
+//! tables of the list of calls that it fills: a [`ReadLine`] has their numbers there. A line comes as a [`SplitLine`], and is
+//! asked for as one that is known first: a [`KnownCall`].
 //!
 //! A program makes its calls at a few places over and over, so the reader remembers the words that come again, with the number
 //! of what they state, and it keeps each site once. What words state depends on the version of the format alone, so nothing
@@ -16,8 +17,9 @@ mod line_reader;
 mod numbered_calls;
 mod read_line;
 mod shared_sites;
-mod site_split;
+mod split_line;
 
 pub use line_reader::LineReader;
-pub use read_line::{ReadEvent, ReadLine};
+pub use read_line::{KnownCall, ReadEvent, ReadLine};
 pub use shared_sites::SharedSites;
+pub use split_line::SplitLine;

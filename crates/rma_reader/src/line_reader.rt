@@ -3,23 +3,22 @@ ghost use Rattle.std.specs.Prelude.{◌≡◌, ◌+◌, ◌<◌, ◌^◌, ◌++�
 ghost use Rattle.std.specs.Option.{option_and_then};
 ghost use Rattle.rma_base.specs.declared.version.Version.TheVariants as version;
 ghost use Rattle.rma_call.specs.declared.what.What.{What};
-ghost use Rattle.rma_call.specs.Call.{no_calls};
+ghost use Rattle.rma_call.specs.Call.{no_calls, what_of};
 ghost use Rattle.rma_parse.specs.declared.event.Stated.{Stated};
 ghost use Rattle.rma_parse.specs.declared.event.Event.{Event};
 ghost use Rattle.rma_parse.specs.Lines.{reading, states};
 ghost use Rattle.rma_field.specs.Steps.{Fails};
-ghost use Rattle.rma_reader.specs.Reading.{Grows, IsEvent, IsRead};
-ghost use Rattle.rma_reader.specs.inside.Split.{IsSplit, stated_at};
+ghost use Rattle.rma_reader.specs.Reading.{Grows, IsEvent, IsRead, line_of};
+ghost use Rattle.rma_reader.specs.inside.Split.{stated_at};
 ghost use Rattle.rma_reader.specs.inside.Tables.{Reads};
 
-use crate::key::key_of;
 use crate::known_lines::KnownLines;
 use crate::numbered_calls::NumberedCalls;
-use crate::read_line::{ReadEvent, ReadLine};
+use crate::read_line::{KnownCall, ReadEvent, ReadLine};
 use crate::shared_sites::SharedSites;
-use crate::site_split::split_site;
+use crate::split_line::{SplitLine, is_comment};
 use rma_base::{LineNo, Memory, Version};
-use rma_call::{CallList, What};
+use rma_call::{CallList, WhatRef};
 use rma_parse::{Event, ParseError, Stated, Texts, parse_line};
 use std::alloc::Global;
 use std::marker::Model;
@@ -70,53 +69,70 @@ impl LineReader {
         self.version = version;
     }
 
+    /// The call that the line states, where its words came before. Its site stands in the tables then.
+    ///
+    /// # Errors
+    ///
+    /// That the site is bad, or that memory ran out.
+    #[inline]
+    pub fn known(&mut self, line: &SplitLine<'_>) -> Result<Option<KnownCall>, ParseError>
+        ensures call { IfOk result (λ call. IfSome call (λ call. (stated : Stated) × (reading self.old.version line.now ≡ Ok (Some stated)) × IsRead self.new.calls (line_of call) stated)) }
+        ensures err { IfErr result (λ error. Fails error (reading self.old.version line.now)) }
+        ensures none { result ≡ Ok None → self.new ≡ self.old }
+        ensures grows { Grows self.old self.new }
+    {
+        let (words, site) = line.parts();
+        let Some(known) = self.lines.line(line.key(), self.version, words) else {
+            return Ok(None);
+        };
+        let site = match self.calls.site_at(self.texts.allocator(), site) {
+            Ok(site) => site,
+            Err(error) => return Err(error),
+        };
+        let what = known.what();
+        let Ok(request) = known.request() else {
+            return Err(ParseError::Memory);
+        };
+        Ok(Some(KnownCall {
+            what,
+            request,
+            site,
+        }))
+    }
+
     /// What the line states; nothing, where it is blank or a comment. What a call does and its site stand in the tables then.
     ///
     /// # Errors
     ///
     /// The first reason for which the line is bad, or that memory ran out: just as `parse_line`.
-    #[inline]
-    pub fn read(&mut self, line: &[u8]) -> Result<Option<ReadLine>, ParseError>
+    pub fn read(&mut self, line: &SplitLine<'_>) -> Result<Option<ReadLine>, ParseError>
         ensures ok { IfOk result (λ read. MatchOption read (reading self.old.version line.now ≡ Ok None)
             (λ read. (stated : Stated) × (reading self.old.version line.now ≡ Ok (Some stated)) × IsRead self.new.calls read stated)) }
         ensures err { IfErr result (λ error. Fails error (reading self.old.version line.now)) }
         ensures grows { Grows self.old self.new }
     {
-        if line.first() == Some(&b'#') {
-            return self.read_whole(line);
+        if is_comment(line.line()) {
+            return self.read_whole(line.line());
         }
-        let (words, site) = split_site(line);
-        let key = key_of(words);
-        match self.lines.event(key, self.version, words) {
-            Ok(Some(event)) => self.calls.read_at(self.texts.allocator(), event, site),
-            Ok(None) => self.read_new(key, line, words, site),
-            Err(Memory) => Err(ParseError::Memory),
-        }
+        self.read_words(line)
     }
 
-    /// What the line of these words and this site states, where the words are not known.
-    #[inline(never)]
-    fn read_new(
-        &mut self,
-        key: u64,
-        line: &[u8],
-        words: &[u8],
-        site: Option<&[u8]>,
-    ) -> Result<Option<ReadLine>, ParseError>
-        requires { IsSplit line.now words.now (option_map (λ text. text.now) site) }
+    /// What the line states, by its words.
+    fn read_words(&mut self, line: &SplitLine<'_>) -> Result<Option<ReadLine>, ParseError>
         ensures read { Reads self.new.calls result (reading self.old.version line.now) }
         ensures grows { Grows self.old self.new }
     {
+        let (words, site) = line.parts();
         match parse_line(&mut self.texts, self.version, words) {
             Ok(Some(stated)) => {
                 let Stated { event, site: own } = stated;
                 match own {
-                    None => self.read_event(key, words, event, site),
-                    Some(_) => self.read_whole(line),
+                    None => self.read_event(line.key(), words, event, site),
+                    Some(_) => self.read_whole(line.line()),
                 }
             }
             Err(ParseError::Memory) => Err(ParseError::Memory),
-            _ => self.read_whole(line),
+            _ => self.read_whole(line.line()),
         }
     }
 
@@ -166,9 +182,10 @@ impl LineReader {
     }
 
     /// What calls do that have this number.
-    pub fn what(&self, number: u32) -> &What
+    #[inline]
+    pub fn what(&self, number: u32) -> WhatRef<'_>
         requires { number < length self.now.calls.whats }
-        ensures { slice_get self.now.calls.whats number ≡ Some result.now }
+        ensures { slice_get self.now.calls.whats number ≡ Some (what_of result) }
     {
         self.calls.list().what(number)
     }

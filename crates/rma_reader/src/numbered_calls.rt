@@ -6,9 +6,10 @@ ghost use Rattle.rma_call.specs.Call.{no_calls};
 ghost use Rattle.rma_field.specs.Sites.{site};
 ghost use Rattle.rma_field.specs.Steps.{Fails, Gives};
 ghost use Rattle.rma_parse.specs.declared.event.Event.{Event};
+ghost use Rattle.rma_parse.specs.Lines.{site_of};
 ghost use Rattle.rma_reader.specs.Reading.{IsEvent, IsRead, IsSite};
 ghost use Rattle.rma_reader.specs.inside.Split.{stated_at};
-ghost use Rattle.rma_reader.specs.inside.Tables.{AddsSites, AddsWhats, Extends, IsNumbered, Reads};
+ghost use Rattle.rma_reader.specs.inside.Tables.{AddsSites, AddsWhats, Extends, IsNumbered, IsSiteOf, Reads};
 
 use crate::key::key_of;
 use crate::known_sites::KnownSites;
@@ -16,7 +17,7 @@ use crate::read_line::{ReadEvent, ReadLine};
 use crate::shared_sites::SharedSites;
 use indexmap::IndexMap;
 use rma_base::{FormReason, LineNo, Memory, NameError, Site};
-use rma_call::{CallList, What};
+use rma_call::CallList;
 use rma_parse::{Event, ParseError, ParseFault, Stated};
 use std::alloc::Global;
 use std::marker::Model;
@@ -107,7 +108,6 @@ impl NumberedCalls {
     }
 
     /// What is read of a line whose words state this event, and this is the text of its site.
-    #[inline]
     pub(crate) fn read_at(
         &mut self,
         alloc: Global,
@@ -117,11 +117,27 @@ impl NumberedCalls {
         ensures read { (stated : Event) → IsEvent self.old event stated → Reads self.new result (stated_at stated (option_map (λ text. text.now) site.entry)) }
         ensures adds { AddsSites self.old self.new }
     {
-        let Some(text) = site else {
-            return Ok(Some(ReadLine { event, site: None }));
-        };
-        let site = Some(self.site(alloc, text)?);
-        Ok(Some(ReadLine { event, site }))
+        match self.site_at(alloc, site) {
+            Ok(site) => Ok(Some(ReadLine { event, site })),
+            Err(error) => Err(error),
+        }
+    }
+
+    /// The number of the site of this text, if there is one.
+    #[inline]
+    pub(crate) fn site_at(
+        &mut self,
+        alloc: Global,
+        text: Option<&[u8]>,
+    ) -> Result<Option<u32>, ParseError>
+        ensures ok { IfOk result (λ number. IsSiteOf self.new (option_map (λ text. text.now) text.entry) number) }
+        ensures err { IfErr result (λ error. Fails error (site_of (option_map (λ text. text.now) text.entry))) }
+        ensures adds { AddsSites self.old self.new }
+    {
+        match text {
+            Some(text) => Ok(Some(self.site(alloc, text)?)),
+            None => Ok(None),
+        }
     }
 
     /// The event, where what a call does has a number.

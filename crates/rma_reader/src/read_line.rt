@@ -34,3 +34,14 @@ pub enum ReadEvent {
     /// The line speaks of datatypes. What it states is not kept.
     Typed,
 }
+
+/// A call that a line states whose words came before, by numbers.
+#[derive(Debug, Drop)]
+pub struct KnownCall {
+    /// The number of what it does.
+    pub what: u32,
+    /// The request that it makes or completes.
+    pub request: Option<Name>,
+    /// The number of its site, if the recorder says one.
+    pub site: Option<u32>,
+}

@@ -10,7 +10,8 @@ use Rattle.rma_field.specs.Sites.{site}
 use Rattle.rma_field.specs.Steps.{Fails}
 use Rattle.rma_parse.specs.declared.event.Stated.{Stated}
 use Rattle.rma_reader.specs.declared.read_line.ReadLine.{ReadLine}
-use Rattle.rma_reader.specs.Reading.{IsRead}
+use Rattle.rma_parse.specs.Lines.{site_of}
+use Rattle.rma_reader.specs.Reading.{IsRead, IsSite}
 
 -- the numbers of the map are in a table of this length
 abbrev pub AreBelow : ℕ → HashMap ℕ ℕ (BuildHasherDefault FoldHasher) → Type 0
@@ -42,6 +43,10 @@ pub record AddsSites (old new : CallTable) : Type 0 where
 pub record IsNumbered (table : CallTable) (text : List ℕ) (number : ℕ) : Type 0 where
   pub good : site text ≡ Ok text
   pub is : slice_get table.sites number ≡ Some text
+
+-- the text, if there is one, is a site, and has this number
+abbrev pub IsSiteOf : CallTable → Option (List ℕ) → Option ℕ → Type 0
+IsSiteOf table text number = (site_of text ≡ Ok text) × IsSite table number text
 
 -- what was read, or why not, is what is stated
 abbrev pub Reads : CallTable → Result (Option ReadLine) ParseError → Result (Option Stated) FormReason → Type 0

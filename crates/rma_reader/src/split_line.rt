@@ -1,0 +1,112 @@
+//! A line as its words and its site.
+ghost use Rattle.std.specs.Prelude.{◌≡◌, ◌<◌, ◌≤◌, ◌-◌, true, drop, length, slice_index, option_map};
+ghost use Rattle.std.specs.List.{list_all};
+ghost use Rattle.rma_lex.specs.Field.{is_blank, is_field};
+ghost use Rattle.rma_reader.specs.inside.Split.{IsSplit};
+
+use crate::key::key_of;
+use rma_lex::last_blank;
+use std::marker::Model;
+
+/// A line as its words, which say what a call does, and its site, which says where the program makes it.
+#[derive(Debug, Drop)]
+pub struct SplitLine<'a> {
+    /// The line.
+    line: &'a [u8],
+    /// The line without its site.
+    words: &'a [u8],
+    /// The text of the site.
+    site: Option<&'a [u8]>,
+    /// The key of the words. That of a comment, which is not looked up, is 0.
+    key: u64,
+}
+
+impl<'a> Model for SplitLine<'a> {
+    ghost use Rattle.std.specs.Prelude.{ℕ, List, option_map};
+    ghost use Rattle.rma_reader.specs.inside.Split.{IsSplit};
+
+    ghost Value = { List ℕ };
+
+    ghost view = { λ own. own.line.now };
+
+    ghost invariant = { λ own. IsSplit own.line.now own.words.now (option_map (λ text. text.now) own.site) };
+}
+
+impl<'a> SplitLine<'a> {
+    /// The line of this text.
+    #[inline]
+    pub fn new(line: &'a [u8]) -> SplitLine<'a>
+        ensures { result ≡ line.now }
+    {
+        if is_comment(line) {
+            return SplitLine {
+                line,
+                words: line,
+                site: None,
+                key: 0,
+            };
+        }
+        let (words, site) = split_site(line);
+        let key = key_of(words);
+        SplitLine {
+            line,
+            words,
+            site,
+            key,
+        }
+    }
+
+    /// The line.
+    #[inline]
+    pub(crate) fn line(&self) -> &'a [u8]
+        ensures { result.now ≡ self.now }
+    {
+        self.line
+    }
+
+    /// The key of its words.
+    #[inline]
+    pub(crate) fn key(&self) -> u64 {
+        self.key
+    }
+
+    /// The line as its words and the text of its site.
+    #[inline]
+    pub(crate) fn parts(&self) -> (&'a [u8], Option<&'a [u8]>)
+        ensures { IsSplit self.now result.0.now (option_map (λ text. text.now) result.1) }
+    {
+        (self.words, self.site)
+    }
+}
+
+/// Whether the line begins as a comment does.
+#[inline]
+pub(crate) fn is_comment(line: &[u8]) -> bool {
+    line.first() == Some(&b'#')
+}
+
+/// The line without its last field where that begins with `@`, and what stands there after the `@`.
+#[inline]
+fn split_site(line: &[u8]) -> (&[u8], Option<&[u8]>)
+    ensures { IsSplit line.now result.0.now (option_map (λ text. text.now) result.1) }
+{
+    let start = last_field(line);
+    if 0 < start && start < line.len() && line[start] == b'@' {
+        (&line[..start - 1], Some(&line[start + 1..]))
+    } else {
+        (line, None)
+    }
+}
+
+/// Where the last field of the line begins, if the line ends with one.
+#[inline]
+fn last_field(line: &[u8]) -> usize
+    ensures within { result ≤ length line.now }
+    ensures field { list_all is_field (drop result line.now) ≡ true }
+    ensures blank { 0 < result → is_blank (slice_index line.now (result - 1)) ≡ true }
+{
+    match last_blank(line) {
+        Some(blank) => blank + 1,
+        None => 0,
+    }
+}
