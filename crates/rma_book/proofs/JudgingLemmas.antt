@@ -1,17 +1,19 @@
 -- The reasons of an event, from what a book keeps.
-use Rattle.std.proofs.Common.{◌≡◌, ℕ, Bool, true, false, not, ◌||◌, ◌&&◌, List, [], ◌∷◌, Option, Some, None, cond, eqb, nat_lt, refl, ap, ◌∙◌, arith}
+use Rattle.std.proofs.Common.{◌≡◌, ℕ, Bool, true, false, not, ◌||◌, ◌&&◌, List, [], ◌∷◌, Option, Some, None, is_some, cond, eqb, nat_lt, refl, sym, ap, ◌∙◌, ⊎_elim, arith}
 use Rattle.std.specs.Map.{lookup}
+use Rattle.std.proofs.lemmas.Bool.{cases_Bool}
 use Rattle.std.specs.Option.{option_or}
 use Rattle.rma_base.specs.declared.rank.Rank.{Rank}
 use Rattle.rma_base.specs.declared.version.Version.{Version}
 use Rattle.rma_base.specs.declared.form_reason.FormReason.{FormReason}
-use Rattle.rma_base.specs.declared.form_reason.FormReason.TheVariants.{UnknownVerb, BadHeader, WrongHeader, AfterEnd, RequestPending}
+use Rattle.rma_base.specs.declared.form_reason.FormReason.TheVariants.{UnknownVerb, BadHeader, WrongHeader, AfterEnd, UnknownComm, UnknownWindow, RequestPending}
 use Rattle.rma_parse.specs.declared.event.Event.{Event}
-use Rattle.rma_parse.specs.declared.event.Event.TheVariants.{Header, End}
+use Rattle.rma_call.specs.declared.what.What.{What}
+use Rattle.rma_parse.specs.declared.event.Event.TheVariants.{Header, End, Call}
 use Rattle.rma_reader.specs.Reading.{is_typed}
-use Rattle.rma_book.specs.Naming.{Attributes, attributes_of, no_attributes, is_header, is_end}
+use Rattle.rma_book.specs.Naming.{Attributes, attributes_of, no_attributes, on_comm, on_window, is_header, is_end}
 use Rattle.rma_book.specs.Judging.{is_of_another_log, place_reason, name_reason, use_reason, reason_of}
-use Rattle.rma_book.specs.Names.{is_same}
+use Rattle.rma_book.specs.Names.{is_same, world, has_comm, is_there, window_state}
 use Rattle.rma_book.specs.inside.BookState.{BookState, Represents, IsTaken, IsJudged}
 use Rattle.rma_book.proofs.StateLemmas.{Represents_taken}
 
@@ -83,3 +85,69 @@ IsJudged_bad old event reason bad = record {
   rank = refl;
   logs = refl;
 }
+
+-- ---- a call that says no more than one name
+
+or_false : (b : Bool) → (b || false) ≡ b
+or_false true = refl
+or_false false = refl
+
+none_more : (reason : Option FormReason) → option_or reason None ≡ reason
+none_more None = refl
+none_more (Some reason) = refl
+
+-- what is not bad where it stands stands behind the header, and before the end
+stands : (book : BookState) (rest : Option FormReason) → option_or (later book) rest ≡ None → (book.begun ≡ true) × (book.ended ≡ false)
+stands book rest none =
+    ⊎_elim
+    (λ (begun : book.begun ≡ true).
+    ⊎_elim (λ (ended : book.ended ≡ true). absurd (let wrong = rw (begun, ended) at none in cc wrong)) (λ (goes_on : book.ended ≡ false). (begun, goes_on)) (cases_Bool book.ended))
+    (λ (new : book.begun ≡ false). absurd (let wrong = rw new at none in cc wrong))
+    (cases_Bool book.begun)
+
+module _ (book : BookState) (what : What) (request : Option (List ℕ)) (reason : Option FormReason) where
+  IsTaken_kept : (it : Attributes) → attributes_of (Call what request) ≡ it → it.declared ≡ None → it.window ≡ None → it.made ≡ None → it.awaited ≡ None
+      → book.begun ≡ true → IsTaken book book (Call what request)
+  IsTaken_kept it says declared window made awaited begun = record {
+    rank = refl;
+    logs = refl;
+    begun = begun;
+    ended = sym (or_false book.ended);
+    comms = λ name. rw (says, declared) refl;
+    windows = λ name. rw (says, window) refl;
+    requests = record {
+      pending = λ name. rw (says, made, awaited) refl;
+      made = rw (says, made) (omega arith);
+      completed = rw (says, awaited) (omega arith);
+    };
+  }
+
+  pub IsJudged_on_comm : (comm : List ℕ) → on_comm comm ≡ attributes_of (Call what request)
+      → reason ≡ option_or (later book) (cond (not (is_same world comm || is_some (lookup (is_same comm) book.comms))) (Some UnknownComm) None)
+      → IsJudged book book (Call what request) reason
+  IsJudged_on_comm comm says is = record {
+    judged = λ events h.
+        is
+        ∙ ap (λ known. option_or (later book) (cond (not (is_same world comm || is_some known)) (Some UnknownComm) None)) (h.comms comm)
+        ∙ ap (option_or (later book)) (sym (none_more (cond (not (has_comm events comm)) (Some UnknownComm) None)))
+        ∙ of_call book.rank book.logs book events (Call what request) (on_comm comm) h refl refl refl refl says;
+    taken = λ none events h.
+        Represents_taken book book events (Call what request) (IsTaken_kept (on_comm comm) (sym says) refl refl refl refl (stands book _ (sym is ∙ none)).0) h;
+    rank = refl;
+    logs = refl;
+  }
+
+  pub IsJudged_on_window : (window : List ℕ) → on_window window ≡ attributes_of (Call what request)
+      → reason ≡ option_or (later book) (cond (not (is_there (lookup (is_same window) book.windows))) (Some UnknownWindow) None)
+      → IsJudged book book (Call what request) reason
+  IsJudged_on_window window says is = record {
+    judged = λ events h.
+        is
+        ∙ ap (λ known. option_or (later book) (cond (not (is_there known)) (Some UnknownWindow) None)) (h.windows window)
+        ∙ ap (option_or (later book)) (sym (none_more (cond (not (is_there (window_state events window))) (Some UnknownWindow) None)))
+        ∙ of_call book.rank book.logs book events (Call what request) (on_window window) h refl refl refl refl says;
+    taken = λ none events h.
+        Represents_taken book book events (Call what request) (IsTaken_kept (on_window window) (sym says) refl refl refl refl (stands book _ (sym is ∙ none)).0) h;
+    rank = refl;
+    logs = refl;
+  }

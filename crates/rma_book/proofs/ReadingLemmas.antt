@@ -17,6 +17,7 @@ use Rattle.rma_lex.proofs.CheckLemmas.{length_checked_lines}
 use Rattle.rma_lex.proofs.CutterLemmas.{handed_stay}
 use Rattle.rma_parse.specs.declared.event.Event.{Event}
 use Rattle.rma_parse.specs.declared.event.Stated.{Stated}
+use Rattle.rma_parse.specs.Lines.{reading}
 use Rattle.rma_reader.specs.Reading.{Reading, Grows}
 use Rattle.rma_book.specs.Naming.{is_end, named_version}
 use Rattle.rma_book.specs.Judging.{reason_of}
@@ -25,7 +26,7 @@ use Rattle.rma_book.specs.Logs.{Checked, AreGood, IsFirstBad, IsFirstFault, entr
 use Rattle.rma_book.specs.declared.fault.FormFault.{FormFault}
 use Rattle.rma_book.specs.declared.reader.Reader.{Reader}
 use Rattle.rma_book.specs.inside.BookState.{Represents, IsJudged}
-use Rattle.rma_book.specs.inside.Reading.{HasTaken, HasStopped, HasGood, HasRead, IsBehind, IsReading, Takes, Refuses, GoesOn, Reads}
+use Rattle.rma_book.specs.inside.Reading.{HasTaken, HasStopped, HasGood, HasRead, IsBehind, IsReading, ReadsNext, Takes, Refuses, GoesOn, Reads}
 use Rattle.rma_book.proofs.EntryLemmas.{events_of_more, version_of_more, calls_of_more, end_line_more}
 
 -- ---- lists with one item more
@@ -330,3 +331,27 @@ pub IsReading_all : (rank logs : ℕ) (cutter : Cutting) (text : List ℕ) (read
     → HasRead rank logs (checked_lines text) reader
 IsReading_all rank logs cutter text reader all h =
     subst (λ them. HasRead rank logs them reader) (ap (λ n. take n (checked_lines text)) (all ∙ sym (length_checked_lines text)) ∙ take-length (checked_lines text)) h.read
+
+-- ---- a line whose text was read, where the tables of the reader of lines have grown
+
+module _ (old : Reader) (grown : Reading) (at : LineNo) (text : List ℕ) (none : old.fault ≡ None) (grows : Grows old.lines grown) where
+  pub ReadsNext_nothing : reading old.lines.version text ≡ Ok None → ReadsNext old (record old { lines = grown }) at.0 (Ok text)
+  ReadsNext_nothing said rank logs before number h =
+      let taken = HasTaken_read rank logs before old h none in
+      HasRead_taken rank logs _ _
+      (HasTaken_nothing rank logs before (Ok text) _ (HasTaken_grown rank logs before old grown taken grows) (ap (λ v. reading v text) (sym taken.version) ∙ said))
+      none
+
+  pub ReadsNext_stated : (new : Reader) (stated : Stated) → reading old.lines.version text ≡ Ok (Some stated) → Reads (record old { lines = grown }) new at stated
+      → ReadsNext old new at.0 (Ok text)
+  ReadsNext_stated new stated said reads rank logs before number h =
+      let taken = HasTaken_read rank logs before old h none in
+      HasRead_more rank logs before (Ok text) _ new at stated (HasTaken_grown rank logs before old grown taken grows)
+      (ap (λ v. reading v text) (sym taken.version) ∙ said) number reads
+
+  pub ReadsNext_refused : (new : Reader) (reason : FormReason) → reading old.lines.version text ≡ Err reason
+      → new ≡ record old { lines = grown; fault = Some (record { line = at; reason = reason }) } → ReadsNext old new at.0 (Ok text)
+  ReadsNext_refused new reason said refused rank logs before number h =
+      let taken = HasTaken_read rank logs before old h none in
+      let bad = ap (λ (it : Result (Option Stated) FormReason). judged rank logs (entries before) it) (ap (λ v. reading v text) (sym taken.version) ∙ said) in
+      HasRead_refused rank logs before (Ok text) _ new (record { line = at; reason = reason }) (HasTaken_grown rank logs before old grown taken grows) bad number refused

@@ -1,11 +1,12 @@
 //! The book of one rank: it judges each event with those before it.
-ghost use Rattle.std.specs.Prelude.{◌≡◌, ℕ, ◌+◌, ◌<◌, ◌^◌, nat_lt, List, [], ◌∷◌, Some, None, true, false, not, ◌==◌, ◌&&◌, ◌||◌, is_some, IfOk, IfSome, OnOk, if◌then◌else◌};
+ghost use Rattle.std.specs.Prelude.{◌≡◌, ℕ, ◌+◌, ◌<◌, ◌^◌, nat_lt, List, [], ◌∷◌, Some, None, true, false, not, ◌==◌, ◌&&◌, ◌||◌, Option, is_some, IfOk, IfSome, OnOk, if◌then◌else◌};
 ghost use Rattle.std.specs.List.{list_any};
 ghost use Rattle.std.specs.Map.{lookup};
 ghost use Rattle.std.specs.Option.{option_copied, option_map_or, option_or};
-ghost use Rattle.rma_base.specs.Limits.{address_limit};
 ghost use Rattle.rma_base.specs.RankSet.{has_number};
 ghost use Rattle.rma_base.specs.declared.version.Version.{Version};
+ghost use Rattle.rma_call.specs.Call.{what_of};
+ghost use Rattle.rma_call.specs.declared.what.What.{What};
 ghost use Rattle.rma_parse.specs.declared.event.Event.{Event};
 ghost use Rattle.rma_parse.specs.declared.event.Event.TheVariants.{Header, End, Call};
 ghost use Rattle.rma_book.specs.Naming.{attributes_of, is_end};
@@ -15,12 +16,12 @@ ghost use Rattle.rma_book.specs.inside.BookState.{Represents, IsJudged, IsTaken,
 ghost use Rattle.rma_book.specs.inside.Naming.{value_of};
 
 use crate::names::WindowState;
-use crate::naming::Naming;
+use crate::naming::{Naming, Said};
 use crate::requests::Requests;
 use indexmap::IndexMap;
 use rma_base::limits::SPACE;
 use rma_base::{FormReason, Memory, Name, Rank, RankSet};
-use rma_call::What;
+use rma_call::WhatRef;
 use std::alloc::Global;
 use std::marker::Model;
 
@@ -125,17 +126,47 @@ impl Book {
     /// # Errors
     ///
     /// `Memory` where memory ran out: the book no longer represents the events that it took.
-    pub fn call(&mut self, what: &What, request: Option<&Name>) -> Result<Judged, Memory>
-        ensures judged { IfOk result (λ judged. IsJudged self.old self.new (Call what.now (option_copied request.entry)) (reason_in judged)) }
+    pub fn call(&mut self, what: WhatRef<'_>, request: Option<&Name>) -> Result<Judged, Memory>
+        ensures judged { IfOk result (λ judged. IsJudged self.old self.new (Call (what_of what.entry) (option_copied request.entry)) (reason_in judged)) }
         ensures number { IfOk result (λ judged. reason_in judged ≡ None → (events : List Event) → Represents self.old events
-            → number_in judged ≡ request_number events (attributes_of (Call what.now (option_copied request.entry)))) }
+            → number_in judged ≡ request_number events (attributes_of (Call (what_of what.entry) (option_copied request.entry)))) }
         ensures fits { IfOk result (λ judged. IfSome (number_in judged) (λ number. number + 1 < 2 ^ 32)) }
     {
-        let naming = Naming::of(what, request);
-        match self.reason(&naming) {
+        match Said::of(what, request) {
+            Said::OnComm(comm) => Ok(self.judged(!self.has_comm(comm), FormReason::UnknownComm)),
+            Said::OnWindow(window) => {
+                Ok(self.judged(!self.is_there(window), FormReason::UnknownWindow))
+            }
+            Said::More(naming) => self.judge(&naming),
+        }
+    }
+
+    // Judges a call that says no more than one name, which it lacks or not: there is nothing to note of it.
+    #[inline]
+    fn judged(&self, lacks: bool, reason: FormReason) -> Judged
+        ensures reason { reason_in result ≡ option_or
+            (if not self.now.begun then Some FormReason.BadHeader else (if self.now.ended then Some FormReason.AfterEnd else None))
+            (if lacks then Some reason else None) }
+        ensures number { number_in result ≡ None }
+    {
+        match self.later_reason() {
+            Some(reason) => Judged::Bad(reason),
+            None if lacks => Judged::Bad(reason),
+            None => Judged::Good { request: None },
+        }
+    }
+
+    // Judges a call, and takes it where it is good.
+    fn judge(&mut self, naming: &Naming<'_>) -> Result<Judged, Memory>
+        ensures judged { IfOk result (λ judged. (what : What) (request : Option (List ℕ)) → value_of naming.now ≡ attributes_of (Call what request) → IsJudged self.old self.new (Call what request) (reason_in judged)) }
+        ensures number { IfOk result (λ judged. reason_in judged ≡ None → (events : List Event) → Represents self.old events
+            → number_in judged ≡ request_number events (value_of naming.now)) }
+        ensures fits { IfOk result (λ judged. IfSome (number_in judged) (λ number. number + 1 < 2 ^ 32)) }
+    {
+        match self.reason(naming) {
             Some(reason) => Ok(Judged::Bad(reason)),
             None => {
-                let request = self.note(&naming)?;
+                let request = self.note(naming)?;
                 Ok(Judged::Good { request })
             }
         }

@@ -1,15 +1,16 @@
 //! What an event says of names and ranks.
 ghost use Rattle.std.specs.Prelude.{◌≡◌, ℕ, List, Option, Some};
 ghost use Rattle.std.specs.Option.{option_copied};
+ghost use Rattle.rma_call.specs.Call.{what_of};
 ghost use Rattle.rma_call.specs.declared.what.What.TheVariants as what;
 ghost use Rattle.rma_call.specs.declared.what.SyncCall.TheVariants as sync;
 ghost use Rattle.rma_parse.specs.declared.event.Event.TheVariants.{Call};
 ghost use Rattle.rma_book.specs.Naming.{attributes_of, created_state, request_that};
-ghost use Rattle.rma_book.specs.inside.Naming.{value_of, named, nothing};
+ghost use Rattle.rma_book.specs.inside.Naming.{said_value, named, nothing};
 
 use crate::names::WindowState;
 use rma_base::{Name, Rank, RankSet};
-use rma_call::{EpochCall, FrameCall, MessageCall, MovingCall, SyncCall, What, WindowCall};
+use rma_call::{EpochCall, FrameCall, MessageCall, MovingCall, WhatRef, WindowCall};
 
 /// What an event says of names and ranks. The fields are those of `specs/Naming.antt`.
 #[derive(Clone, Copy)]
@@ -40,62 +41,72 @@ pub(crate) struct Naming<'a> {
     pub(crate) attached: Option<&'a Name>,
 }
 
-impl<'a> Naming<'a> {
+/// What a call says of names and ranks. Most say one thing.
+pub(crate) enum Said<'a> {
+    /// The communicator has to be there.
+    OnComm(&'a Name),
+    /// The window has to be there.
+    OnWindow(&'a Name),
+    /// All this.
+    More(Naming<'a>),
+}
+
+impl<'a> Said<'a> {
     /// What a call says, with the request that stands beside it.
-    pub(crate) fn of(call: &'a What, request: Option<&'a Name>) -> Naming<'a>
-        ensures { value_of result ≡ attributes_of (Call call.now (option_copied request.entry)) }
+    #[inline]
+    pub(crate) fn of(call: WhatRef<'a>, request: Option<&'a Name>) -> Said<'a>
+        ensures { said_value result ≡ attributes_of (Call (what_of call.entry) (option_copied request.entry)) }
     {
-        let What::Sync(call) = call;
         match call {
-            SyncCall::Frame(call) => of_frame(call),
-            SyncCall::Message(call) => of_message(call, request),
-            SyncCall::Window(call) => of_window(call),
-            SyncCall::Epoch(call) => of_epoch(call),
-            SyncCall::Moving(call) => of_moving(call),
+            WhatRef::Frame(call) => of_frame(call),
+            WhatRef::Message(call) => of_message(call, request),
+            WhatRef::Window(call) => of_window(call),
+            WhatRef::Epoch(call) => of_epoch(call),
+            WhatRef::Moving(call) => of_moving(call),
         }
     }
 }
 
-fn of_frame(call: &FrameCall) -> Naming<'_>
-    ensures { (request : Option (List ℕ)) → value_of result ≡ attributes_of (Call (what.Sync (sync.Frame call.now)) request) }
+fn of_frame(call: &FrameCall) -> Said<'_>
+    ensures { (request : Option (List ℕ)) → said_value result ≡ attributes_of (Call (what.Sync (sync.Frame call.now)) request) }
 {
     match call {
-        FrameCall::Comm { comm, ranks } => Naming {
+        FrameCall::Comm { comm, ranks } => Said::More(Naming {
             declared: Some((comm, ranks)),
             group: Some(ranks),
             ..nothing()
-        },
-        FrameCall::Barrier { comm } => on_comm(comm),
+        }),
+        FrameCall::Barrier { comm } => Said::OnComm(comm),
     }
 }
 
-fn of_message<'a>(call: &'a MessageCall, request: Option<&'a Name>) -> Naming<'a>
-    ensures { value_of result ≡ attributes_of (Call (what.Sync (sync.Message call.now)) (option_copied request.entry)) }
+fn of_message<'a>(call: &'a MessageCall, request: Option<&'a Name>) -> Said<'a>
+    ensures { said_value result ≡ attributes_of (Call (what.Sync (sync.Message call.now)) (option_copied request.entry)) }
 {
     match call {
-        MessageCall::Send { to, comm, .. } => with_peer(comm, *to),
-        MessageCall::Recv { from, comm, .. } => with_peer(comm, *from),
-        MessageCall::Isend { to, comm, .. } => Naming {
+        MessageCall::Send { to, comm, .. } => Said::More(with_peer(comm, *to)),
+        MessageCall::Recv { from, comm, .. } => Said::More(with_peer(comm, *from)),
+        MessageCall::Isend { to, comm, .. } => Said::More(Naming {
             made: request_that(false, request),
             ..with_peer(comm, *to)
-        },
-        MessageCall::Irecv { comm } => Naming {
+        }),
+        MessageCall::Irecv { comm } => Said::More(Naming {
             made: request_that(true, request),
             ..on_comm(comm)
-        },
-        MessageCall::Wait { received } => Naming {
+        }),
+        MessageCall::Wait { received } => Said::More(Naming {
             awaited: request_that(received.is_some(), request),
             rank: match received {
                 Some(received) => Some(received.from),
                 None => None,
             },
             ..nothing()
-        },
+        }),
     }
 }
 
-fn of_window(call: &WindowCall) -> Naming<'_>
-    ensures { (request : Option (List ℕ)) → value_of result ≡ attributes_of (Call (what.Sync (sync.Window call.now)) request) }
+fn of_window(call: &WindowCall) -> Said<'_>
+    ensures { (request : Option (List ℕ)) → said_value result ≡ attributes_of (Call (what.Sync (sync.Window call.now)) request) }
 {
     match call {
         WindowCall::Create {
@@ -105,72 +116,72 @@ fn of_window(call: &WindowCall) -> Naming<'_>
             size,
             dynamic,
             ..
-        } => Naming {
+        } => Said::More(Naming {
             created: Some(window),
             window: Some((window, created_state(*dynamic))),
             memory: Some((*base, *size)),
             ..on_comm(comm)
-        },
-        WindowCall::Free { window } => Naming {
+        }),
+        WindowCall::Free { window } => Said::More(Naming {
             window: Some((window, WindowState::Freed)),
             ..on_window(window)
-        },
+        }),
         WindowCall::Attach {
             window,
             address,
             size,
-        } => Naming {
+        } => Said::More(Naming {
             memory: Some((*address, *size)),
             attached: Some(window),
             ..on_window(window)
-        },
-        WindowCall::Detach { window, .. } => Naming {
+        }),
+        WindowCall::Detach { window, .. } => Said::More(Naming {
             attached: Some(window),
             ..on_window(window)
-        },
+        }),
     }
 }
 
-fn of_epoch(call: &EpochCall) -> Naming<'_>
-    ensures { (request : Option (List ℕ)) → value_of result ≡ attributes_of (Call (what.Sync (sync.Epoch call.now)) request) }
+fn of_epoch(call: &EpochCall) -> Said<'_>
+    ensures { (request : Option (List ℕ)) → said_value result ≡ attributes_of (Call (what.Sync (sync.Epoch call.now)) request) }
 {
     match call {
-        EpochCall::Fence { window, .. } => on_window(window),
+        EpochCall::Fence { window, .. } => Said::OnWindow(window),
         EpochCall::Post {
             window,
             origins,
             ..
-        } => with_group(window, origins),
+        } => Said::More(with_group(window, origins)),
         EpochCall::Start {
             window,
             targets,
             ..
-        } => with_group(window, targets),
-        EpochCall::Complete { window } => on_window(window),
-        EpochCall::Expwait { window } => on_window(window),
-        EpochCall::Lock { window, target, .. } => with_target(window, *target),
-        EpochCall::Unlock { window, target } => with_target(window, *target),
-        EpochCall::LockAll { window, .. } => on_window(window),
-        EpochCall::UnlockAll { window } => on_window(window),
-        EpochCall::Flush { window, target } => with_target(window, *target),
-        EpochCall::FlushAll { window } => on_window(window),
-        EpochCall::FlushLocal { window, target } => with_target(window, *target),
-        EpochCall::FlushLocalAll { window } => on_window(window),
-        EpochCall::Sync { window } => on_window(window),
+        } => Said::More(with_group(window, targets)),
+        EpochCall::Complete { window } => Said::OnWindow(window),
+        EpochCall::Expwait { window } => Said::OnWindow(window),
+        EpochCall::Lock { window, target, .. } => Said::More(with_target(window, *target)),
+        EpochCall::Unlock { window, target } => Said::More(with_target(window, *target)),
+        EpochCall::LockAll { window, .. } => Said::OnWindow(window),
+        EpochCall::UnlockAll { window } => Said::OnWindow(window),
+        EpochCall::Flush { window, target } => Said::More(with_target(window, *target)),
+        EpochCall::FlushAll { window } => Said::OnWindow(window),
+        EpochCall::FlushLocal { window, target } => Said::More(with_target(window, *target)),
+        EpochCall::FlushLocalAll { window } => Said::OnWindow(window),
+        EpochCall::Sync { window } => Said::OnWindow(window),
     }
 }
 
-fn of_moving(call: &MovingCall) -> Naming<'_>
-    ensures { (request : Option (List ℕ)) → value_of result ≡ attributes_of (Call (what.Sync (sync.Moving call.now)) request) }
+fn of_moving(call: &MovingCall) -> Said<'_>
+    ensures { (request : Option (List ℕ)) → said_value result ≡ attributes_of (Call (what.Sync (sync.Moving call.now)) request) }
 {
     match call {
-        MovingCall::Bcast { root, comm, .. } => with_root(comm, *root),
-        MovingCall::Scatter { root, comm, .. } => with_root(comm, *root),
-        MovingCall::Gather { root, comm, .. } => with_root(comm, *root),
-        MovingCall::Reduce { root, comm, .. } => with_root(comm, *root),
-        MovingCall::Allreduce { comm, .. } => on_comm(comm),
-        MovingCall::Allgather { comm, .. } => on_comm(comm),
-        MovingCall::Alltoall { comm, .. } => on_comm(comm),
+        MovingCall::Bcast { root, comm, .. } => Said::More(with_root(comm, *root)),
+        MovingCall::Scatter { root, comm, .. } => Said::More(with_root(comm, *root)),
+        MovingCall::Gather { root, comm, .. } => Said::More(with_root(comm, *root)),
+        MovingCall::Reduce { root, comm, .. } => Said::More(with_root(comm, *root)),
+        MovingCall::Allreduce { comm, .. } => Said::OnComm(comm),
+        MovingCall::Allgather { comm, .. } => Said::OnComm(comm),
+        MovingCall::Alltoall { comm, .. } => Said::OnComm(comm),
     }
 }
 

@@ -1,5 +1,5 @@
 //! Reading the lines of a log one by one.
-ghost use Rattle.std.specs.Prelude.{◌≡◌, ℕ, ◌+◌, ◌<◌, List, ◌++◌, ◌∷◌, [], length, IfOk, IfSome, OnOk, true, false, Contains, Ok, Err, Option, Some, None};
+ghost use Rattle.std.specs.Prelude.{◌≡◌, ℕ, ◌+◌, ◌<◌, List, [], length, IfOk, IfSome, OnOk, true, false, Contains, Ok, Err, Option, Some, None};
 ghost use Rattle.rma_base.specs.declared.version.Version.{Version};
 ghost use Rattle.rma_lex.specs.Content.{content, number};
 ghost use Rattle.rma_lex.specs.Line.{lines};
@@ -18,7 +18,7 @@ use rma_base::{FormReason, LineNo, Memory, Name, Rank, Version};
 use rma_call::RankCalls;
 use rma_lex::{LexFault, Line, LineCutter};
 use rma_parse::ParseError;
-use rma_reader::{LineReader, ReadEvent, ReadLine, SharedSites};
+use rma_reader::{LineReader, ReadEvent, ReadLine, SharedSites, SplitLine};
 use std::alloc::Global;
 
 /// What the good lines of a log state, and the first bad one, after which nothing is read.
@@ -69,11 +69,30 @@ impl Reader {
     }
 
     // Reads the text of the next line.
+    #[inline]
     fn read_text(&mut self, no: LineNo, text: &[u8]) -> Result<(), Memory>
         requires { self.old.fault ≡ None }
         ensures { OnOk result (ReadsNext self.old self.new no.0 (Ok text.now)) }
     {
-        match self.lines.read(text) {
+        let line = SplitLine::new(text);
+        match self.lines.known(&line) {
+            Ok(Some(call)) => self.read_call(no, call.site, call.what, call.request),
+            Ok(None) => self.read_other(no, &line),
+            Err(ParseError::Fault(fault)) => {
+                self.refuse(no, fault.reason);
+                Ok(())
+            }
+            Err(ParseError::Memory) => Err(Memory),
+        }
+    }
+
+    // Reads the next line, whose words are not known.
+    #[inline(never)]
+    fn read_other(&mut self, no: LineNo, line: &SplitLine<'_>) -> Result<(), Memory>
+        requires { self.old.fault ≡ None }
+        ensures { OnOk result (ReadsNext self.old self.new no.0 (Ok line.now)) }
+    {
+        match self.lines.read(line) {
             Ok(None) => Ok(()),
             Ok(Some(line)) => self.read_line(no, line),
             Err(ParseError::Fault(fault)) => {

@@ -3,7 +3,9 @@ use Rattle.std.specs.Prelude.{ℕ, List, Option, None, option_map}
 use Rattle.std.specs.Option.{option_copied}
 use Rattle.std.specs.Borrow.{Bor}
 use Rattle.rma_book.specs.declared.naming.Naming.{Naming}
-use Rattle.rma_book.specs.Naming.{Attributes}
+use Rattle.rma_book.specs.declared.naming.Said.{Said}
+use Rattle.rma_book.specs.declared.naming.Said.TheVariants.{OnComm, OnWindow, More}
+use Rattle.rma_book.specs.Naming.{Attributes, on_comm, on_window}
 
 -- something of a name that is referred to
 abbrev pub named : {A : Type 0} → Option (Bor (List ℕ) × A) → Option (List ℕ × A)
@@ -42,3 +44,9 @@ nothing = record {
   root = None;
   attached = None;
 }
+
+-- what a call says
+abbrev pub said_value : Said → Attributes
+said_value (OnComm comm) = on_comm comm.now
+said_value (OnWindow window) = on_window window.now
+said_value (More naming) = value_of naming
