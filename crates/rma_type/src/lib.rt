@@ -25,6 +25,6 @@ pub use component::Component;
 pub use fault::{TypeError, TypeFault};
 pub use id::TypeId;
 pub use origin::Origin;
-pub use rma_typemap::Made;
+pub use rma_typemap::{Blocks, Made};
 pub use sig_run::SigRun;
 pub use table::TypeTable;

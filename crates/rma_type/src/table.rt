@@ -10,7 +10,8 @@ ghost use Rattle.rma_type.specs.declared.origin.Origin.TheVariants.{Derived};
 ghost use Rattle.rma_typemap.specs.Bounds.{entry_count, signature};
 ghost use Rattle.rma_type.specs.Signature.{spread, IsRunsOf, IsComponentOf};
 ghost use Rattle.rma_type.specs.inside.SignatureSource.{IsSourceOf};
-ghost use Rattle.rma_typemap.specs.inside.Summary.{summary};
+ghost use Rattle.rma_typemap.specs.Typemap.{elements};
+ghost use Rattle.rma_typemap.specs.inside.Summary.{summary, blocks_of};
 ghost use Rattle.rma_typemap.specs.Space.{is_all_in_space};
 ghost use Rattle.rma_typemap.specs.inside.Near.{IsNearby, IsSound};
 ghost use Rattle.rma_typemap.specs.Made.{made_of};
@@ -26,7 +27,7 @@ use crate::signature_source::SignatureSource;
 use indexmap::IndexMap;
 use rma_base::{Memory, Name, Sequence};
 use rma_datatype::{Basic, Make, Member};
-use rma_typemap::{Made, Summary};
+use rma_typemap::{Blocks, Made, Summary};
 use std::alloc::Global;
 use std::marker::Model;
 
@@ -143,7 +144,7 @@ impl TypeTable {
     }
 
     /// Where the table takes its memory.
-    pub(crate) fn allocator(&self) -> Global {
+    pub fn allocator(&self) -> Global {
         *self.types.allocator()
     }
 
@@ -187,6 +188,14 @@ impl TypeTable {
         ensures { result ≡ made_of (typemap_in (typemaps self.now.origins) id) }
     {
         self.summary(id).made()
+    }
+
+    /// The elements of the datatype in order, as blocks.
+    pub fn blocks(&self, id: TypeId) -> Option<Blocks>
+        requires { id.0 < length self.now.origins }
+        ensures { result ≡ blocks_of (elements (typemap_in (typemaps self.now.origins) id)) }
+    {
+        self.summary(id).blocks
     }
 
     /// The signature of the datatype: the basic datatypes of its elements in order, as runs of equal ones of which
