@@ -12,6 +12,8 @@ mod datatype;
 #[cfg(test)]
 mod io;
 #[cfg(test)]
+mod layout;
+#[cfg(test)]
 mod lex;
 #[cfg(test)]
 mod plan;

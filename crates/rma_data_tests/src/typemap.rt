@@ -11,10 +11,10 @@ use std::test::Fail;
 pub(crate) type Known = (u64, i64, i64, i64, u64, u64, bool);
 
 /// A constructor under a new name, and what is counted by hand along its typemap.
-type Case = (&'static str, Plan, Known);
+pub(crate) type Case = (&'static str, Plan, Known);
 
 /// Constructors, the later ones over the earlier: those of basic datatypes, then over these, and over those again.
-static MADE: [Case; 50] = [
+pub(crate) static MADE: [Case; 50] = [
     ("pair", Plan::Contiguous(2, "INT"), (8, 0, 8, 8, 2, 1, true)),
     (
         "none",

@@ -1,0 +1,16 @@
+pub mod Words
+pub mod BytesLemmas
+pub mod OutputLemmas
+pub mod StepLemmas
+pub mod SubarrayLemmas
+pub mod MemberLemmas
+pub mod TableLemmas
+pub mod ElementLemmas
+pub mod FrameLemmas
+pub mod NestLemmas
+pub mod AmongLemmas
+pub mod RunsLemmas
+pub mod SignatureLemmas
+pub mod CommonLemmas
+pub mod TouchedLemmas
+pub mod PlaceLemmas

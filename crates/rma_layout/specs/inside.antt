@@ -1,0 +1,4 @@
+pub mod Bytes
+pub mod Output
+pub mod Steps
+pub mod Frames
