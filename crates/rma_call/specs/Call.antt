@@ -4,9 +4,10 @@ use Rattle.rma_base.specs.declared.line.LineNo.{LineNo}
 use Rattle.rma_base.specs.declared.rank.Rank.{Rank}
 use Rattle.rma_call.specs.declared.what.What.{What}
 use Rattle.rma_call.specs.declared.what.What.TheVariants.{Sync}
+use Rattle.rma_call.specs.declared.what.What.TheVariants as what
 use Rattle.rma_call.specs.declared.what.SyncCall.TheVariants as sync
 use Rattle.rma_call.specs.declared.what.WhatRef.{WhatRef}
-use Rattle.rma_call.specs.declared.what.WhatRef.TheVariants.{Frame, Message, Window, Epoch, Moving}
+use Rattle.rma_call.specs.declared.what.WhatRef.TheVariants.{Frame, Message, Window, Epoch, Moving, Rma, Local}
 use Rattle.rma_call.specs.declared.call_list.CallRef.{CallRef}
 
 -- a call: the line that records it, its site in the source of the program, what it does, and the number of the request
@@ -40,6 +41,8 @@ what_of (Message call) = Sync (sync.Message call.now)
 what_of (Window call) = Sync (sync.Window call.now)
 what_of (Epoch call) = Sync (sync.Epoch call.now)
 what_of (Moving call) = Sync (sync.Moving call.now)
+what_of (Rma call) = what.Rma call.now
+what_of (Local call) = what.Local call.now
 
 -- the call that is referred to
 abbrev pub call_of : CallRef → Call

@@ -5,8 +5,10 @@ ghost use Rattle.rma_call.specs.inside.Groups.{Grows, IsThere, what_at};
 
 use crate::epoch::EpochCall;
 use crate::frame::FrameCall;
+use crate::local::LocalCall;
 use crate::message::MessageCall;
 use crate::moving::MovingCall;
+use crate::rma::RmaCall;
 use crate::what::{SyncCall, What, WhatRef};
 use crate::window::WindowCall;
 use rma_base::Memory;
@@ -20,6 +22,8 @@ pub(crate) struct Groups {
     windows: Vec<WindowCall>,
     epochs: Vec<EpochCall>,
     movings: Vec<MovingCall>,
+    rmas: Vec<RmaCall>,
+    locals: Vec<LocalCall>,
 }
 
 /// Where it stands what a call does: the group, and the index in its table.
@@ -30,6 +34,8 @@ pub(crate) enum Place {
     Window(u32),
     Epoch(u32),
     Moving(u32),
+    Rma(u32),
+    Local(u32),
 }
 
 impl Groups {
@@ -41,6 +47,8 @@ impl Groups {
             windows: Vec::new(alloc),
             epochs: Vec::new(alloc),
             movings: Vec::new(alloc),
+            rmas: Vec::new(alloc),
+            locals: Vec::new(alloc),
         }
     }
 
@@ -56,6 +64,8 @@ impl Groups {
             Place::Window(index) => WhatRef::Window(&self.windows[index as usize]),
             Place::Epoch(index) => WhatRef::Epoch(&self.epochs[index as usize]),
             Place::Moving(index) => WhatRef::Moving(&self.movings[index as usize]),
+            Place::Rma(index) => WhatRef::Rma(&self.rmas[index as usize]),
+            Place::Local(index) => WhatRef::Local(&self.locals[index as usize]),
         }
     }
 
@@ -69,13 +79,16 @@ impl Groups {
         ensures is { IfOk result (λ place. what_at self.new place ≡ what) }
         ensures grows { Grows self.old self.new }
     {
-        let What::Sync(call) = what;
-        match call {
-            SyncCall::Frame(call) => Ok(Place::Frame(push(&mut self.frames, call)?)),
-            SyncCall::Message(call) => Ok(Place::Message(push(&mut self.messages, call)?)),
-            SyncCall::Window(call) => Ok(Place::Window(push(&mut self.windows, call)?)),
-            SyncCall::Epoch(call) => Ok(Place::Epoch(push(&mut self.epochs, call)?)),
-            SyncCall::Moving(call) => Ok(Place::Moving(push(&mut self.movings, call)?)),
+        match what {
+            What::Sync(SyncCall::Frame(call)) => Ok(Place::Frame(push(&mut self.frames, call)?)),
+            What::Sync(SyncCall::Message(call)) => {
+                Ok(Place::Message(push(&mut self.messages, call)?))
+            }
+            What::Sync(SyncCall::Window(call)) => Ok(Place::Window(push(&mut self.windows, call)?)),
+            What::Sync(SyncCall::Epoch(call)) => Ok(Place::Epoch(push(&mut self.epochs, call)?)),
+            What::Sync(SyncCall::Moving(call)) => Ok(Place::Moving(push(&mut self.movings, call)?)),
+            What::Rma(call) => Ok(Place::Rma(push(&mut self.rmas, call)?)),
+            What::Local(call) => Ok(Place::Local(push(&mut self.locals, call)?)),
         }
     }
 }

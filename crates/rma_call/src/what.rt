@@ -1,8 +1,10 @@
 //! What a call does.
 use crate::epoch::EpochCall;
 use crate::frame::FrameCall;
+use crate::local::LocalCall;
 use crate::message::MessageCall;
 use crate::moving::MovingCall;
+use crate::rma::RmaCall;
 use crate::window::WindowCall;
 
 /// What a call does.
@@ -10,6 +12,10 @@ use crate::window::WindowCall;
 pub enum What {
     /// It synchronises, or has a part in what synchronises.
     Sync(SyncCall),
+    /// It accesses the part of a target.
+    Rma(RmaCall),
+    /// It accesses the memory of its rank.
+    Local(LocalCall),
 }
 
 /// A call that accesses no memory, in the groups of the lines.
@@ -40,4 +46,8 @@ pub enum WhatRef<'a> {
     Epoch(&'a EpochCall),
     /// It moves data between the members of a communicator.
     Moving(&'a MovingCall),
+    /// It accesses the part of a target.
+    Rma(&'a RmaCall),
+    /// It accesses the memory of its rank.
+    Local(&'a LocalCall),
 }

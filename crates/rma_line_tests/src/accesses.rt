@@ -1,8 +1,9 @@
 //! Lines of one-sided communication and of local accesses, good and bad, and what each says.
 use crate::calls::{canonical_line, reason_of, stated};
 use rma_base::{FormReason, Rank, Version};
+use rma_call::LocalAccess;
 use rma_datatype::Op;
-use rma_parse::{Access, Event, LocalAccess, RmaLine};
+use rma_parse::{Access, Event, RmaLine};
 use std::process::Abort;
 use std::test::Fail;
 

@@ -1,6 +1,6 @@
 //! Lines, good and bad, and what each says.
 use rma_base::{AccOps, FormReason, Rank, Version, WinModel};
-use rma_call::{FrameCall, MessageCall, SyncCall, What, WindowCall};
+use rma_call::{FrameCall, MessageCall, SyncCall, WindowCall};
 use rma_parse::{Event, ParseError, Stated, Texts, line_of, parse_line};
 use std::process::Abort;
 use std::test::Fail;
@@ -521,11 +521,11 @@ fn sites_are_read(rt: HostRuntime) -> Result<(), Fail> {
 fn call<'a>(event: &'a Event, name: &str) -> Option<&'a SyncCall> {
     match event {
         Event::Call {
-            what: What::Sync(call),
+            call,
             request: Some(request),
         } if request.text() == name => Some(call),
         Event::Call {
-            what: What::Sync(call),
+            call,
             request: None,
         } if name.is_empty() => Some(call),
         _ => None,

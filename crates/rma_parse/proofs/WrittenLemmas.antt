@@ -10,7 +10,6 @@ use Rattle.rma_call.specs.declared.assertion.Assertions.{Assertions}
 use Rattle.rma_field.specs.Assertions.{assertion_words}
 use Rattle.rma_parse.specs.Canonical.{spelled}
 use Rattle.rma_parse.specs.Forms.{filled, words_of}
-use Rattle.rma_call.specs.declared.what.What.TheVariants.{Sync}
 use Rattle.rma_call.specs.declared.what.SyncCall.TheVariants.{Window}
 use Rattle.rma_call.specs.declared.window.WindowCall.TheVariants.{Create}
 use Rattle.rma_parse.specs.declared.event.Event.{Event}
@@ -28,8 +27,8 @@ use Rattle.rma_parse.specs.declared.event.rma_line.Access.{Access}
 use Rattle.rma_parse.specs.declared.event.rma_line.Access.TheVariants.{Put, Get, Accumulate, GetAccumulate, FetchAndOp, CompareAndSwap}
 use Rattle.rma_parse.specs.declared.event.rma_line.RmaLine.{RmaLine}
 use Rattle.rma_parse.specs.declared.event.rma_line.Transfer.{Transfer}
-use Rattle.rma_parse.specs.declared.event.local_line.LocalAccess.{LocalAccess}
-use Rattle.rma_parse.specs.declared.event.local_line.LocalAccess.TheVariants.{Load, Store, Poll}
+use Rattle.rma_call.specs.declared.local.LocalAccess.{LocalAccess}
+use Rattle.rma_call.specs.declared.local.LocalAccess.TheVariants.{Load, Store, Poll}
 use Rattle.rma_parse.specs.declared.event.local_line.LocalLine.{LocalLine}
 use Rattle.rma_parse.specs.declared.event.rma_line.Buffer.{Buffer}
 use Rattle.rma_parse.specs.inside.AccessWords.{access_head, access_suffix, access_verb, buffer_words, place_words, transfer_words}
@@ -52,7 +51,7 @@ asserted_as (Err memory) line them first words given is = tt
 -- a window's creation is written by whether it is dynamic
 pub written_creation : (result : Result (String Global) Memory) (window comm : List ℕ) (base bytes displacement : ℕ) (model : WinModel) (operations : AccOps) (dynamic : Bool) (request : Option (List ℕ))
     → IfOk result (λ line. string_bytes line ≡ join_with_byte 32 (creation_words window comm base bytes displacement model operations dynamic))
-    → IfOk result (λ line. string_bytes line ≡ join_with_byte 32 (spelled (Call (Sync (Window (Create window comm base bytes displacement model operations dynamic))) request)))
+    → IfOk result (λ line. string_bytes line ≡ join_with_byte 32 (spelled (Call (Window (Create window comm base bytes displacement model operations dynamic)) request)))
 unfolding spelled
 written_creation result window comm base bytes displacement model operations true request given = given
 written_creation result window comm base bytes displacement model operations false request given = given

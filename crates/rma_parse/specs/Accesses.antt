@@ -6,7 +6,7 @@ use Rattle.rma_field.specs.Kinds.{Kind, name, number, target}
 use Rattle.rma_parse.specs.Fields.{Made, Values}
 use Rattle.rma_parse.specs.declared.event.Event.{Event}
 use Rattle.rma_parse.specs.declared.event.Event.TheVariants.{Local, Rma}
-use Rattle.rma_parse.specs.declared.event.local_line.LocalAccess.{LocalAccess}
+use Rattle.rma_call.specs.declared.local.LocalAccess.{LocalAccess}
 use Rattle.rma_parse.specs.declared.event.rma_line.Access.{Access}
 use Rattle.rma_parse.specs.declared.event.rma_line.Access.TheVariants.{GetAccumulate}
 use Rattle.rma_parse.specs.declared.event.rma_line.Buffer.{Buffer}

@@ -8,7 +8,6 @@ use Rattle.rma_base.specs.declared.version.Version.{Version}
 use Rattle.rma_base.specs.declared.version.Version.TheVariants.{One, Two}
 use Rattle.rma_base.specs.declared.window.WinModel.TheVariants.{Unified}
 use Rattle.rma_call.specs.declared.assertion.Assertion.TheVariants.{Nocheck, Noprecede, Nosucceed, Nostore, Noput}
-use Rattle.rma_call.specs.declared.what.What.TheVariants.{Sync}
 use Rattle.rma_call.specs.declared.what.SyncCall.TheVariants.{Frame, Message, Window, Epoch, Moving}
 use Rattle.rma_call.specs.declared.frame.FrameCall.TheVariants.{Comm, Barrier}
 use Rattle.rma_call.specs.declared.message.MessageCall.TheVariants.{Send, Recv, Isend, Irecv, Wait}
@@ -28,8 +27,8 @@ use Rattle.rma_parse.specs.Tails.{Tail, closed, received, asserted, groups, Tail
 use Rattle.rma_parse.specs.Accesses.{address, buffer_kinds, transfer_kinds, fetching_kinds, rma, transferring, fetching, accessing, buffer_values, transfer_values, fetching_values}
 use Rattle.rma_parse.specs.declared.event.Event.{Event}
 use Rattle.rma_parse.specs.declared.event.Event.TheVariants.{Header, End, Call, Datatype, Rma, Local}
-use Rattle.rma_parse.specs.declared.event.local_line.LocalAccess.{LocalAccess}
-use Rattle.rma_parse.specs.declared.event.local_line.LocalAccess.TheVariants.{Load, Store, Poll}
+use Rattle.rma_call.specs.declared.local.LocalAccess.{LocalAccess}
+use Rattle.rma_call.specs.declared.local.LocalAccess.TheVariants.{Load, Store, Poll}
 use Rattle.rma_parse.specs.declared.event.rma_line.Access.{Access}
 use Rattle.rma_parse.specs.declared.event.rma_line.Access.TheVariants.{Put, Get, Accumulate, GetAccumulate, FetchAndOp, CompareAndSwap}
 use Rattle.rma_parse.specs.declared.event.rma_line.Buffer.{Buffer}
@@ -76,219 +75,219 @@ form_at form.Comm = record {
   kind_word = None;
   kinds = name ∷ ranks ∷ [];
   tail = closed;
-  event = λ comm group _. Call (Sync (Frame (Comm comm group))) None;
+  event = λ comm group _. Call (Frame (Comm comm group)) None;
 }
-form_at form.Barrier = record { verb = codes "barrier"; kind_word = None; kinds = name ∷ []; tail = closed; event = λ comm _. Call (Sync (Frame (Barrier comm))) None }
+form_at form.Barrier = record { verb = codes "barrier"; kind_word = None; kinds = name ∷ []; tail = closed; event = λ comm _. Call (Frame (Barrier comm)) None }
 form_at form.Send = record {
   verb = codes "send";
   kind_word = None;
   kinds = rank ∷ tag ∷ name ∷ [];
   tail = closed;
-  event = λ to t comm _. Call (Sync (Message (Send to t comm))) None;
+  event = λ to t comm _. Call (Message (Send to t comm)) None;
 }
 form_at form.Recv = record {
   verb = codes "recv";
   kind_word = None;
   kinds = rank ∷ tag ∷ name ∷ [];
   tail = closed;
-  event = λ from t comm _. Call (Sync (Message (Recv from t comm))) None;
+  event = λ from t comm _. Call (Message (Recv from t comm)) None;
 }
 form_at form.Isend = record {
   verb = codes "isend";
   kind_word = None;
   kinds = name ∷ rank ∷ tag ∷ name ∷ [];
   tail = closed;
-  event = λ request to t comm _. Call (Sync (Message (Isend to t comm))) (Some request);
+  event = λ request to t comm _. Call (Message (Isend to t comm)) (Some request);
 }
 form_at form.Irecv = record {
   verb = codes "irecv";
   kind_word = None;
   kinds = name ∷ name ∷ [];
   tail = closed;
-  event = λ request comm _. Call (Sync (Message (Irecv comm))) (Some request);
+  event = λ request comm _. Call (Message (Irecv comm)) (Some request);
 }
 form_at form.Wait = record {
   verb = codes "wait";
   kind_word = None;
   kinds = name ∷ [];
   tail = received;
-  event = λ request came. Call (Sync (Message (Wait came))) (Some request);
+  event = λ request came. Call (Message (Wait came)) (Some request);
 }
 form_at form.Create = record {
   verb = codes "win";
   kind_word = Some (codes "create");
   kinds = name ∷ name ∷ address ∷ address ∷ unit ∷ model ∷ operations ∷ [];
   tail = closed;
-  event = λ window comm base bytes displacement separation accumulates _. Call (Sync (Window (Create window comm base bytes displacement separation accumulates false))) None;
+  event = λ window comm base bytes displacement separation accumulates _. Call (Window (Create window comm base bytes displacement separation accumulates false)) None;
 }
 form_at form.Free = record {
   verb = codes "win";
   kind_word = Some (codes "free");
   kinds = name ∷ [];
   tail = closed;
-  event = λ window _. Call (Sync (Window (Free window))) None;
+  event = λ window _. Call (Window (Free window)) None;
 }
 form_at form.Fence = record {
   verb = codes "fence";
   kind_word = None;
   kinds = name ∷ [];
   tail = asserted (Noprecede ∷ Nosucceed ∷ []) (Noprecede ∷ Nosucceed ∷ Nostore ∷ Noput ∷ []);
-  event = λ window assertions. Call (Sync (Epoch (Fence window assertions))) None;
+  event = λ window assertions. Call (Epoch (Fence window assertions)) None;
 }
 form_at form.Post = record {
   verb = codes "post";
   kind_word = None;
   kinds = name ∷ ranks ∷ [];
   tail = asserted [] (Nocheck ∷ Nostore ∷ Noput ∷ []);
-  event = λ window group assertions. Call (Sync (Epoch (Post window group assertions))) None;
+  event = λ window group assertions. Call (Epoch (Post window group assertions)) None;
 }
 form_at form.Start = record {
   verb = codes "start";
   kind_word = None;
   kinds = name ∷ ranks ∷ [];
   tail = asserted [] (Nocheck ∷ []);
-  event = λ window group assertions. Call (Sync (Epoch (Start window group assertions))) None;
+  event = λ window group assertions. Call (Epoch (Start window group assertions)) None;
 }
 form_at form.Complete = record {
   verb = codes "complete";
   kind_word = None;
   kinds = name ∷ [];
   tail = closed;
-  event = λ window _. Call (Sync (Epoch (Complete window))) None;
+  event = λ window _. Call (Epoch (Complete window)) None;
 }
 form_at form.Expwait = record {
   verb = codes "expwait";
   kind_word = None;
   kinds = name ∷ [];
   tail = closed;
-  event = λ window _. Call (Sync (Epoch (Expwait window))) None;
+  event = λ window _. Call (Epoch (Expwait window)) None;
 }
 form_at form.Lock = record {
   verb = codes "lock";
   kind_word = None;
   kinds = name ∷ rank ∷ lock ∷ [];
   tail = asserted [] (Nocheck ∷ []);
-  event = λ window to how assertions. Call (Sync (Epoch (Lock window to how assertions))) None;
+  event = λ window to how assertions. Call (Epoch (Lock window to how assertions)) None;
 }
 form_at form.Unlock = record {
   verb = codes "unlock";
   kind_word = None;
   kinds = name ∷ rank ∷ [];
   tail = closed;
-  event = λ window to _. Call (Sync (Epoch (Unlock window to))) None;
+  event = λ window to _. Call (Epoch (Unlock window to)) None;
 }
 form_at form.LockAll = record {
   verb = codes "lockall";
   kind_word = None;
   kinds = name ∷ [];
   tail = asserted [] (Nocheck ∷ []);
-  event = λ window assertions. Call (Sync (Epoch (LockAll window assertions))) None;
+  event = λ window assertions. Call (Epoch (LockAll window assertions)) None;
 }
 form_at form.UnlockAll = record {
   verb = codes "unlockall";
   kind_word = None;
   kinds = name ∷ [];
   tail = closed;
-  event = λ window _. Call (Sync (Epoch (UnlockAll window))) None;
+  event = λ window _. Call (Epoch (UnlockAll window)) None;
 }
 form_at form.Flush = record {
   verb = codes "flush";
   kind_word = None;
   kinds = name ∷ rank ∷ [];
   tail = closed;
-  event = λ window to _. Call (Sync (Epoch (Flush window to))) None;
+  event = λ window to _. Call (Epoch (Flush window to)) None;
 }
 form_at form.FlushAll = record {
   verb = codes "flushall";
   kind_word = None;
   kinds = name ∷ [];
   tail = closed;
-  event = λ window _. Call (Sync (Epoch (FlushAll window))) None;
+  event = λ window _. Call (Epoch (FlushAll window)) None;
 }
 form_at form.FlushLocal = record {
   verb = codes "flushlocal";
   kind_word = None;
   kinds = name ∷ rank ∷ [];
   tail = closed;
-  event = λ window to _. Call (Sync (Epoch (FlushLocal window to))) None;
+  event = λ window to _. Call (Epoch (FlushLocal window to)) None;
 }
 form_at form.FlushLocalAll = record {
   verb = codes "flushlocalall";
   kind_word = None;
   kinds = name ∷ [];
   tail = closed;
-  event = λ window _. Call (Sync (Epoch (FlushLocalAll window))) None;
+  event = λ window _. Call (Epoch (FlushLocalAll window)) None;
 }
-form_at form.Sync = record { verb = codes "sync"; kind_word = None; kinds = name ∷ []; tail = closed; event = λ window _. Call (Sync (Epoch (epoch.Sync window))) None }
+form_at form.Sync = record { verb = codes "sync"; kind_word = None; kinds = name ∷ []; tail = closed; event = λ window _. Call (Epoch (epoch.Sync window)) None }
 form_at form.Dynamic = record {
   verb = codes "win";
   kind_word = Some (codes "dynamic");
   kinds = name ∷ name ∷ operations ∷ [];
   tail = closed;
-  event = λ window comm accumulates _. Call (Sync (Window (Create window comm 0 281474976710656 1 Unified accumulates true))) None;
+  event = λ window comm accumulates _. Call (Window (Create window comm 0 281474976710656 1 Unified accumulates true)) None;
 }
 form_at form.Attach = record {
   verb = codes "attach";
   kind_word = None;
   kinds = name ∷ address ∷ some_bytes ∷ [];
   tail = closed;
-  event = λ window at bytes _. Call (Sync (Window (Attach window at bytes))) None;
+  event = λ window at bytes _. Call (Window (Attach window at bytes)) None;
 }
 form_at form.Detach = record {
   verb = codes "detach";
   kind_word = None;
   kinds = name ∷ address ∷ [];
   tail = closed;
-  event = λ window at _. Call (Sync (Window (Detach window at))) None;
+  event = λ window at _. Call (Window (Detach window at)) None;
 }
 form_at form.Bcast = record {
   verb = codes "bcast";
   kind_word = None;
   kinds = rank ∷ address ∷ name ∷ [];
   tail = closed;
-  event = λ root bytes comm _. Call (Sync (Moving (Bcast root bytes comm))) None;
+  event = λ root bytes comm _. Call (Moving (Bcast root bytes comm)) None;
 }
 form_at form.Scatter = record {
   verb = codes "scatter";
   kind_word = None;
   kinds = rank ∷ address ∷ name ∷ [];
   tail = closed;
-  event = λ root bytes comm _. Call (Sync (Moving (Scatter root bytes comm))) None;
+  event = λ root bytes comm _. Call (Moving (Scatter root bytes comm)) None;
 }
 form_at form.Gather = record {
   verb = codes "gather";
   kind_word = None;
   kinds = rank ∷ address ∷ name ∷ [];
   tail = closed;
-  event = λ root bytes comm _. Call (Sync (Moving (Gather root bytes comm))) None;
+  event = λ root bytes comm _. Call (Moving (Gather root bytes comm)) None;
 }
 form_at form.Reduce = record {
   verb = codes "reduce";
   kind_word = None;
   kinds = rank ∷ address ∷ name ∷ [];
   tail = closed;
-  event = λ root bytes comm _. Call (Sync (Moving (Reduce root bytes comm))) None;
+  event = λ root bytes comm _. Call (Moving (Reduce root bytes comm)) None;
 }
 form_at form.Allreduce = record {
   verb = codes "allreduce";
   kind_word = None;
   kinds = address ∷ name ∷ [];
   tail = closed;
-  event = λ bytes comm _. Call (Sync (Moving (Allreduce bytes comm))) None;
+  event = λ bytes comm _. Call (Moving (Allreduce bytes comm)) None;
 }
 form_at form.Allgather = record {
   verb = codes "allgather";
   kind_word = None;
   kinds = address ∷ name ∷ [];
   tail = closed;
-  event = λ bytes comm _. Call (Sync (Moving (Allgather bytes comm))) None;
+  event = λ bytes comm _. Call (Moving (Allgather bytes comm)) None;
 }
 form_at form.Alltoall = record {
   verb = codes "alltoall";
   kind_word = None;
   kinds = address ∷ name ∷ [];
   tail = closed;
-  event = λ bytes comm _. Call (Sync (Moving (Alltoall bytes comm))) None;
+  event = λ bytes comm _. Call (Moving (Alltoall bytes comm)) None;
 }
 form_at form.Contiguous = typing (codes "contiguous") (name ∷ int ∷ name ∷ []) closed (λ made count old _. Datatype (typed.Make made (Contiguous count old)))
 form_at form.Vector = typing (codes "vector") (name ∷ int ∷ int ∷ int ∷ name ∷ []) closed (λ made count long stride old _. Datatype (typed.Make made (Vector count long stride old)))
@@ -404,47 +403,47 @@ local_filled Poll it = record { form = form.Poll; values = buffer_values it; tai
 abbrev pub filled : Event → Filled
 filled (Header v r n) = record { form = form.Header; values = (v, (r, (n, tt))); tail = tt }
 filled End = record { form = form.End; values = tt; tail = tt }
-filled (Call (Sync (Frame (Comm comm group))) request) = record { form = form.Comm; values = (comm, (group, tt)); tail = tt }
-filled (Call (Sync (Frame (Barrier comm))) request) = record { form = form.Barrier; values = (comm, tt); tail = tt }
-filled (Call (Sync (Message (Send to t comm))) request) = record { form = form.Send; values = (to, (t, (comm, tt))); tail = tt }
-filled (Call (Sync (Message (Recv from t comm))) request) = record { form = form.Recv; values = (from, (t, (comm, tt))); tail = tt }
-filled (Call (Sync (Message (Isend to t comm))) request) = record { form = form.Isend; values = (unwrap_or request [], (to, (t, (comm, tt)))); tail = tt }
-filled (Call (Sync (Message (Irecv comm))) request) = record { form = form.Irecv; values = (unwrap_or request [], (comm, tt)); tail = tt }
-filled (Call (Sync (Message (Wait came))) request) = record { form = form.Wait; values = (unwrap_or request [], tt); tail = came }
-filled (Call (Sync (Window (Create window comm base bytes displacement separation accumulates false))) request) = record {
+filled (Call (Frame (Comm comm group)) request) = record { form = form.Comm; values = (comm, (group, tt)); tail = tt }
+filled (Call (Frame (Barrier comm)) request) = record { form = form.Barrier; values = (comm, tt); tail = tt }
+filled (Call (Message (Send to t comm)) request) = record { form = form.Send; values = (to, (t, (comm, tt))); tail = tt }
+filled (Call (Message (Recv from t comm)) request) = record { form = form.Recv; values = (from, (t, (comm, tt))); tail = tt }
+filled (Call (Message (Isend to t comm)) request) = record { form = form.Isend; values = (unwrap_or request [], (to, (t, (comm, tt)))); tail = tt }
+filled (Call (Message (Irecv comm)) request) = record { form = form.Irecv; values = (unwrap_or request [], (comm, tt)); tail = tt }
+filled (Call (Message (Wait came)) request) = record { form = form.Wait; values = (unwrap_or request [], tt); tail = came }
+filled (Call (Window (Create window comm base bytes displacement separation accumulates false)) request) = record {
   form = form.Create;
   values = (window, (comm, (base, (bytes, (displacement, (separation, (accumulates, tt)))))));
   tail = tt;
 }
-filled (Call (Sync (Window (Free window))) request) = record { form = form.Free; values = (window, tt); tail = tt }
-filled (Call (Sync (Epoch (Fence window assertions))) request) = record { form = form.Fence; values = (window, tt); tail = assertions }
-filled (Call (Sync (Epoch (Post window group assertions))) request) = record { form = form.Post; values = (window, (group, tt)); tail = assertions }
-filled (Call (Sync (Epoch (Start window group assertions))) request) = record { form = form.Start; values = (window, (group, tt)); tail = assertions }
-filled (Call (Sync (Epoch (Complete window))) request) = record { form = form.Complete; values = (window, tt); tail = tt }
-filled (Call (Sync (Epoch (Expwait window))) request) = record { form = form.Expwait; values = (window, tt); tail = tt }
-filled (Call (Sync (Epoch (Lock window to how assertions))) request) = record { form = form.Lock; values = (window, (to, (how, tt))); tail = assertions }
-filled (Call (Sync (Epoch (Unlock window to))) request) = record { form = form.Unlock; values = (window, (to, tt)); tail = tt }
-filled (Call (Sync (Epoch (LockAll window assertions))) request) = record { form = form.LockAll; values = (window, tt); tail = assertions }
-filled (Call (Sync (Epoch (UnlockAll window))) request) = record { form = form.UnlockAll; values = (window, tt); tail = tt }
-filled (Call (Sync (Epoch (Flush window to))) request) = record { form = form.Flush; values = (window, (to, tt)); tail = tt }
-filled (Call (Sync (Epoch (FlushAll window))) request) = record { form = form.FlushAll; values = (window, tt); tail = tt }
-filled (Call (Sync (Epoch (FlushLocal window to))) request) = record { form = form.FlushLocal; values = (window, (to, tt)); tail = tt }
-filled (Call (Sync (Epoch (FlushLocalAll window))) request) = record { form = form.FlushLocalAll; values = (window, tt); tail = tt }
-filled (Call (Sync (Epoch (epoch.Sync window))) request) = record { form = form.Sync; values = (window, tt); tail = tt }
-filled (Call (Sync (Window (Create window comm base bytes displacement separation accumulates true))) request) = record {
+filled (Call (Window (Free window)) request) = record { form = form.Free; values = (window, tt); tail = tt }
+filled (Call (Epoch (Fence window assertions)) request) = record { form = form.Fence; values = (window, tt); tail = assertions }
+filled (Call (Epoch (Post window group assertions)) request) = record { form = form.Post; values = (window, (group, tt)); tail = assertions }
+filled (Call (Epoch (Start window group assertions)) request) = record { form = form.Start; values = (window, (group, tt)); tail = assertions }
+filled (Call (Epoch (Complete window)) request) = record { form = form.Complete; values = (window, tt); tail = tt }
+filled (Call (Epoch (Expwait window)) request) = record { form = form.Expwait; values = (window, tt); tail = tt }
+filled (Call (Epoch (Lock window to how assertions)) request) = record { form = form.Lock; values = (window, (to, (how, tt))); tail = assertions }
+filled (Call (Epoch (Unlock window to)) request) = record { form = form.Unlock; values = (window, (to, tt)); tail = tt }
+filled (Call (Epoch (LockAll window assertions)) request) = record { form = form.LockAll; values = (window, tt); tail = assertions }
+filled (Call (Epoch (UnlockAll window)) request) = record { form = form.UnlockAll; values = (window, tt); tail = tt }
+filled (Call (Epoch (Flush window to)) request) = record { form = form.Flush; values = (window, (to, tt)); tail = tt }
+filled (Call (Epoch (FlushAll window)) request) = record { form = form.FlushAll; values = (window, tt); tail = tt }
+filled (Call (Epoch (FlushLocal window to)) request) = record { form = form.FlushLocal; values = (window, (to, tt)); tail = tt }
+filled (Call (Epoch (FlushLocalAll window)) request) = record { form = form.FlushLocalAll; values = (window, tt); tail = tt }
+filled (Call (Epoch (epoch.Sync window)) request) = record { form = form.Sync; values = (window, tt); tail = tt }
+filled (Call (Window (Create window comm base bytes displacement separation accumulates true)) request) = record {
   form = form.Dynamic;
   values = (window, (comm, (accumulates, tt)));
   tail = tt;
 }
-filled (Call (Sync (Window (Attach window at bytes))) request) = record { form = form.Attach; values = (window, (at, (bytes, tt))); tail = tt }
-filled (Call (Sync (Window (Detach window at))) request) = record { form = form.Detach; values = (window, (at, tt)); tail = tt }
-filled (Call (Sync (Moving (Bcast root bytes comm))) request) = record { form = form.Bcast; values = (root, (bytes, (comm, tt))); tail = tt }
-filled (Call (Sync (Moving (Scatter root bytes comm))) request) = record { form = form.Scatter; values = (root, (bytes, (comm, tt))); tail = tt }
-filled (Call (Sync (Moving (Gather root bytes comm))) request) = record { form = form.Gather; values = (root, (bytes, (comm, tt))); tail = tt }
-filled (Call (Sync (Moving (Reduce root bytes comm))) request) = record { form = form.Reduce; values = (root, (bytes, (comm, tt))); tail = tt }
-filled (Call (Sync (Moving (Allreduce bytes comm))) request) = record { form = form.Allreduce; values = (bytes, (comm, tt)); tail = tt }
-filled (Call (Sync (Moving (Allgather bytes comm))) request) = record { form = form.Allgather; values = (bytes, (comm, tt)); tail = tt }
-filled (Call (Sync (Moving (Alltoall bytes comm))) request) = record { form = form.Alltoall; values = (bytes, (comm, tt)); tail = tt }
+filled (Call (Window (Attach window at bytes)) request) = record { form = form.Attach; values = (window, (at, (bytes, tt))); tail = tt }
+filled (Call (Window (Detach window at)) request) = record { form = form.Detach; values = (window, (at, tt)); tail = tt }
+filled (Call (Moving (Bcast root bytes comm)) request) = record { form = form.Bcast; values = (root, (bytes, (comm, tt))); tail = tt }
+filled (Call (Moving (Scatter root bytes comm)) request) = record { form = form.Scatter; values = (root, (bytes, (comm, tt))); tail = tt }
+filled (Call (Moving (Gather root bytes comm)) request) = record { form = form.Gather; values = (root, (bytes, (comm, tt))); tail = tt }
+filled (Call (Moving (Reduce root bytes comm)) request) = record { form = form.Reduce; values = (root, (bytes, (comm, tt))); tail = tt }
+filled (Call (Moving (Allreduce bytes comm)) request) = record { form = form.Allreduce; values = (bytes, (comm, tt)); tail = tt }
+filled (Call (Moving (Allgather bytes comm)) request) = record { form = form.Allgather; values = (bytes, (comm, tt)); tail = tt }
+filled (Call (Moving (Alltoall bytes comm)) request) = record { form = form.Alltoall; values = (bytes, (comm, tt)); tail = tt }
 filled (Datatype line) = type_filled line
 filled (Rma line request) = access_filled line.window line.target line.displacement line.access request
 filled (Local line) = local_filled line.access line.buffer

@@ -8,7 +8,7 @@ ghost use Rattle.rma_parse.specs.Lines.{states};
 use crate::event::{Event, Stated};
 use crate::form::{datatype, epoch, frame, local, message, moving, rma, window};
 use rma_base::{Memory, Name, Site};
-use rma_call::{SyncCall, What};
+use rma_call::SyncCall;
 use std::alloc::Global;
 
 /// The canonical line of what a line states, without its line feed: single spaces between the words, numbers in
@@ -43,7 +43,7 @@ fn event_line(alloc: Global, event: &Event) -> Result<String, Memory>
             size,
         } => frame::header_line(alloc, *version, *rank, *size),
         Event::End => frame::end_line(alloc),
-        Event::Call { what, request } => call_line(alloc, what, request),
+        Event::Call { call, request } => call_line(alloc, call, request),
         Event::Datatype(line) => datatype::line(alloc, line),
         Event::Rma { line, request } => rma::line(alloc, line, request),
         Event::Local(line) => local::line(alloc, line),
@@ -51,10 +51,9 @@ fn event_line(alloc: Global, event: &Event) -> Result<String, Memory>
 }
 
 // The words of the line of a call.
-fn call_line(alloc: Global, what: &What, request: &Option<Name>) -> Result<String, Memory>
-    ensures { IfOk result (λ line. string_bytes line ≡ join_with_byte 32 (spelled (Event.Call what.now request.now))) }
+fn call_line(alloc: Global, call: &SyncCall, request: &Option<Name>) -> Result<String, Memory>
+    ensures { IfOk result (λ line. string_bytes line ≡ join_with_byte 32 (spelled (Event.Call call.now request.now))) }
 {
-    let What::Sync(call) = what;
     match call {
         SyncCall::Frame(call) => frame::line(alloc, call),
         SyncCall::Message(call) => message::line(alloc, call, request),

@@ -3,9 +3,9 @@ pub(crate) mod local_line;
 pub(crate) mod rma_line;
 pub(crate) mod type_line;
 
-pub use local_line::{LocalAccess, LocalLine};
+pub use local_line::LocalLine;
 use rma_base::{Name, Rank, Site, Version};
-use rma_call::What;
+use rma_call::SyncCall;
 pub use rma_line::{Access, Buffer, RmaLine, Transfer};
 pub use type_line::TypeLine;
 
@@ -32,10 +32,10 @@ pub enum Event {
     },
     /// The log is whole: `end`.
     End,
-    /// The rank makes a call.
+    /// The rank makes a call that accesses no memory.
     Call {
         /// What it does.
-        what: What,
+        call: SyncCall,
         /// The request that it makes or completes.
         request: Option<Name>,
     },

@@ -15,9 +15,7 @@ mod parse;
 mod words;
 
 pub use canonical::line_of;
-pub use event::{
-    Access, Buffer, Event, LocalAccess, LocalLine, RmaLine, Stated, Transfer, TypeLine,
-};
+pub use event::{Access, Buffer, Event, LocalLine, RmaLine, Stated, Transfer, TypeLine};
 pub use form::LineForm;
 pub use parse::parse_line;
 pub use rma_field::{ParseError, ParseFault, Texts};

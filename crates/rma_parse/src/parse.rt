@@ -8,13 +8,14 @@ ghost use Rattle.rma_parse.specs.Lines.{counted, fields_of, reading, site_of, st
 ghost use Rattle.rma_parse.specs.Tails.{groups_counted, tail_counted};
 ghost use Rattle.rma_parse.specs.inside.Words.{as_found};
 
-use crate::event::{Event, LocalAccess, Stated};
+use crate::event::{Event, Stated};
 use crate::form::rma::Movement;
 use crate::form::{
     LineForm, TailKind, datatype, epoch, frame, local, message, moving, rma, window,
 };
 use crate::words::{Seen, Words, begins_with, behind};
 use rma_base::{FormReason, Site, Version};
+use rma_call::LocalAccess;
 use rma_field::{ParseError, Texts, assertions_field, refused};
 use rma_lex::{TokenIter, tokens};
 

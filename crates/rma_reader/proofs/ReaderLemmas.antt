@@ -5,6 +5,7 @@ use Rattle.std.proofs.lemmas.Option.{slice_get_cases}
 use Rattle.rma_base.specs.declared.form_reason.FormReason.{FormReason}
 use Rattle.rma_base.specs.declared.version.Version.{Version}
 use Rattle.rma_call.specs.declared.what.What.{What}
+use Rattle.rma_call.specs.declared.what.What.TheVariants.{Sync}
 use Rattle.rma_call.specs.Call.{Call as CallOf, CallTable}
 use Rattle.rma_field.specs.declared.parse_error.ParseError.{ParseError}
 use Rattle.rma_field.specs.declared.parse_error.ParseError.TheVariants.{Fault, Memory}
@@ -14,7 +15,7 @@ use Rattle.rma_parse.specs.declared.event.Stated.{Stated}
 use Rattle.rma_parse.specs.Lines.{reading, site_of, states}
 use Rattle.rma_reader.specs.declared.known_sites.KnownSite.{KnownSite}
 use Rattle.rma_reader.specs.declared.read_line.ReadEvent.{ReadEvent}
-use Rattle.rma_reader.specs.declared.read_line.ReadEvent.TheVariants.{Header, End, Call, Typed}
+use Rattle.rma_reader.specs.declared.read_line.ReadEvent.TheVariants.{Header, End, Call, Datatype, Rma, Local}
 use Rattle.rma_reader.specs.declared.read_line.ReadLine.{ReadLine}
 use Rattle.rma_reader.specs.Reading.{Grows, IsEvent, IsRead, Reading}
 use Rattle.rma_reader.specs.inside.Known.{IsKnown, IsStatedBy, Known, table_of}
@@ -31,8 +32,10 @@ same_keeps old new same number value is = rw same is
 pub event_keeps : (old new : CallTable) (read : ReadEvent) (event : Event) → Keeps old.whats new.whats → IsEvent old read event → IsEvent new read event
 event_keeps old new (Header version rank size) event keeps is = is
 event_keeps old new End event keeps is = is
-event_keeps old new Typed event keeps is = is
-event_keeps old new (Call what request) event keeps is = (is.0, keeps what is.0 is.1, is.2)
+event_keeps old new (Call what request) event keeps is = (is.0, keeps what (Sync is.0) is.1, is.2)
+event_keeps old new (Datatype line) event keeps is = is
+event_keeps old new (Rma line request) event keeps is = is
+event_keeps old new (Local line) event keeps is = is
 
 line_keeps : (old new : List What) → Keeps old new → (known : Option Known) → IfSome known (IsKnown old) → IfSome known (IsKnown new)
 line_keeps old new keeps None kept = tt

@@ -1,13 +1,15 @@
 -- What a reader of the lines of one log keeps and answers.
-use Rattle.std.specs.Prelude.{◌≡◌, ℕ, Bool, true, false, List, Option, Some, None, slice_get}
+use Rattle.std.specs.Prelude.{◌≡◌, ℕ, List, Option, Some, None, slice_get}
 use Rattle.rma_base.specs.declared.version.Version.{Version}
+use Rattle.rma_call.specs.declared.what.SyncCall.{SyncCall}
 use Rattle.rma_call.specs.declared.what.What.{What}
+use Rattle.rma_call.specs.declared.what.What.TheVariants.{Sync}
 use Rattle.rma_call.specs.Call.{CallTable}
 use Rattle.rma_parse.specs.declared.event.Event.{Event}
 use Rattle.rma_parse.specs.declared.event.Event.TheVariants as event
 use Rattle.rma_parse.specs.declared.event.Stated.{Stated}
 use Rattle.rma_reader.specs.declared.read_line.ReadEvent.{ReadEvent}
-use Rattle.rma_reader.specs.declared.read_line.ReadEvent.TheVariants.{Header, End, Call, Typed}
+use Rattle.rma_reader.specs.declared.read_line.ReadEvent.TheVariants.{Header, End, Call, Datatype, Rma, Local}
 use Rattle.rma_reader.specs.declared.read_line.ReadLine.{ReadLine}
 use Rattle.rma_reader.specs.declared.read_line.KnownCall.{KnownCall}
 
@@ -16,19 +18,14 @@ pub record Reading : Type 0 where
   pub version : Version
   pub calls : CallTable
 
--- the event speaks of datatypes
-abbrev pub is_typed : Event → Bool
-is_typed (event.Datatype line) = true
-is_typed (event.Rma line request) = true
-is_typed (event.Local line) = true
-is_typed _ = false
-
 -- the event is this one, where what calls do has the numbers of these tables
 abbrev pub IsEvent : CallTable → ReadEvent → Event → Type 0
 IsEvent table (Header version rank size) stated = stated ≡ event.Header version rank size
 IsEvent table End stated = stated ≡ event.End
-IsEvent table (Call what request) stated = (value : What) × (slice_get table.whats what ≡ Some value) × (stated ≡ event.Call value request)
-IsEvent table Typed stated = is_typed stated ≡ true
+IsEvent table (Call what request) stated = (call : SyncCall) × (slice_get table.whats what ≡ Some (Sync call)) × (stated ≡ event.Call call request)
+IsEvent table (Datatype line) stated = stated ≡ event.Datatype line
+IsEvent table (Rma line request) stated = stated ≡ event.Rma line request
+IsEvent table (Local line) stated = stated ≡ event.Local line
 
 -- the site is this one, where it has this number
 abbrev pub IsSite : CallTable → Option ℕ → Option (List ℕ) → Type 0

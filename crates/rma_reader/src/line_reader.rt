@@ -18,7 +18,7 @@ use crate::read_line::{KnownCall, ReadEvent, ReadLine};
 use crate::shared_sites::SharedSites;
 use crate::split_line::{SplitLine, is_comment};
 use rma_base::{LineNo, Memory, Version};
-use rma_call::{CallList, WhatRef};
+use rma_call::{CallList, What, WhatRef};
 use rma_parse::{Event, ParseError, Stated, Texts, parse_line};
 use std::alloc::Global;
 use std::marker::Model;
@@ -188,6 +188,18 @@ impl LineReader {
         ensures { slice_get self.now.calls.whats number ≡ Some (what_of result) }
     {
         self.calls.list().what(number)
+    }
+
+    /// Gives a number to what calls do.
+    ///
+    /// # Errors
+    ///
+    /// `Memory` also where the table is full.
+    pub fn add_what(&mut self, what: What) -> Result<u32, Memory>
+        ensures number { IfOk result (λ number. slice_get self.new.calls.whats number ≡ Some what) }
+        ensures grows { Grows self.old self.new }
+    {
+        self.calls.add_what(what)
     }
 
     /// Appends the call of these numbers.

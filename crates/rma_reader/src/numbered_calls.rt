@@ -17,7 +17,7 @@ use crate::read_line::{ReadEvent, ReadLine};
 use crate::shared_sites::SharedSites;
 use indexmap::IndexMap;
 use rma_base::{FormReason, LineNo, Memory, NameError, Site};
-use rma_call::CallList;
+use rma_call::{CallList, What};
 use rma_parse::{Event, ParseError, ParseFault, Stated};
 use std::alloc::Global;
 use std::marker::Model;
@@ -96,6 +96,14 @@ impl NumberedCalls {
         self.list.push(line, site, what, request)
     }
 
+    /// Gives a number to what calls do.
+    pub(crate) fn add_what(&mut self, what: What) -> Result<u32, Memory>
+        ensures number { IfOk result (λ number. slice_get self.new.whats number ≡ Some what) }
+        ensures adds { AddsWhats self.old self.new }
+    {
+        self.list.add_what(what)
+    }
+
     /// What the line states, by numbers.
     pub(crate) fn read(&mut self, alloc: Global, stated: Stated) -> Result<ReadLine, Memory>
         ensures read { IfOk result (λ read. IsRead self.new read stated) }
@@ -156,11 +164,13 @@ impl NumberedCalls {
                 size,
             }),
             Event::End => Ok(ReadEvent::End),
-            Event::Call { what, request } => {
-                let what = self.list.add_what(what)?;
+            Event::Call { call, request } => {
+                let what = self.add_what(What::Sync(call))?;
                 Ok(ReadEvent::Call { what, request })
             }
-            Event::Datatype(_) | Event::Rma { .. } | Event::Local(_) => Ok(ReadEvent::Typed),
+            Event::Datatype(line) => Ok(ReadEvent::Datatype(line)),
+            Event::Rma { line, request } => Ok(ReadEvent::Rma { line, request }),
+            Event::Local(line) => Ok(ReadEvent::Local(line)),
         }
     }
 

@@ -1,5 +1,6 @@
 //! What a line states, by numbers.
 use rma_base::{Name, Rank, Version};
+use rma_parse::{LocalLine, RmaLine, TypeLine};
 
 /// What a line states that is neither blank nor a comment.
 #[derive(Debug, Drop)]
@@ -10,7 +11,8 @@ pub struct ReadLine {
     pub site: Option<u32>,
 }
 
-/// An event, where what a call does stands in a table.
+/// An event, where what a call does that accesses no memory stands in a table. Which bytes the others access depends on what the
+/// names of datatypes represent when the line comes.
 #[derive(Debug, Drop)]
 pub enum ReadEvent {
     /// The log begins.
@@ -24,15 +26,24 @@ pub enum ReadEvent {
     },
     /// The log is whole.
     End,
-    /// The rank makes a call.
+    /// The rank makes a call that accesses no memory.
     Call {
         /// The number of what it does.
         what: u32,
         /// The request that it makes or completes.
         request: Option<Name>,
     },
-    /// The line speaks of datatypes. What it states is not kept.
-    Typed,
+    /// Something happens to a datatype.
+    Datatype(TypeLine),
+    /// The rank makes a call that accesses the part of a target.
+    Rma {
+        /// What it does.
+        line: RmaLine,
+        /// The request that it makes.
+        request: Option<Name>,
+    },
+    /// The rank accesses its own memory.
+    Local(LocalLine),
 }
 
 /// A call that a line states whose words came before, by numbers.

@@ -1,5 +1,5 @@
 -- Tables of what calls do, one for each group of calls.
-use Rattle.std.specs.Prelude.{◌≡◌, ◌<◌, List, [], length, map, get_or, None}
+use Rattle.std.specs.Prelude.{◌≡◌, ◌<◌, List, [], length, map, get_or, None, false}
 use Rattle.rma_call.specs.declared.frame.FrameCall.TheVariants.{Barrier}
 use Rattle.rma_call.specs.declared.message.MessageCall.TheVariants.{Wait}
 use Rattle.rma_call.specs.declared.window.WindowCall.TheVariants.{Free}
@@ -7,10 +7,27 @@ use Rattle.rma_call.specs.declared.epoch.EpochCall.TheVariants.{Complete}
 use Rattle.rma_call.specs.declared.moving.MovingCall.TheVariants.{Allreduce}
 use Rattle.rma_call.specs.declared.what.What.{What}
 use Rattle.rma_call.specs.declared.what.What.TheVariants.{Sync}
+use Rattle.rma_call.specs.declared.what.What.TheVariants as what
+use Rattle.rma_call.specs.declared.rma.RmaCall.{RmaCall}
+use Rattle.rma_call.specs.declared.rma.RmaKind.TheVariants.{CompareAndSwap}
+use Rattle.rma_call.specs.declared.local.LocalCall.{LocalCall}
+use Rattle.rma_call.specs.declared.local.LocalAccess.TheVariants.{Load}
+use Rattle.rma_bytes.specs.declared.layout.Layout.{Layout}
 use Rattle.rma_call.specs.declared.what.SyncCall.TheVariants as sync
 use Rattle.rma_call.specs.declared.groups.Groups.{Groups}
 use Rattle.rma_call.specs.declared.groups.Place.{Place}
-use Rattle.rma_call.specs.declared.groups.Place.TheVariants.{Frame, Message, Window, Epoch, Moving}
+use Rattle.rma_call.specs.declared.groups.Place.TheVariants.{Frame, Message, Window, Epoch, Moving, Rma, Local}
+
+-- no bytes
+abbrev pub no_bytes : Layout
+no_bytes = record { runs = []; element = None; overlaps = false }
+
+-- calls that are never asked for
+abbrev pub no_rma : RmaCall
+no_rma = record { window = []; target = None; kind = CompareAndSwap; displacement = 0; at_target = no_bytes; origin = None; result = None; compare = None }
+
+abbrev pub no_local : LocalCall
+no_local = record { access = Load; layout = no_bytes }
 
 -- what stands at a place; at one beyond the table, where nothing is, something that is never asked for
 abbrev pub what_at : Groups → Place → What
@@ -19,6 +36,8 @@ what_at groups (Message index) = Sync (sync.Message (get_or groups.messages.item
 what_at groups (Window index) = Sync (sync.Window (get_or groups.windows.items index (Free [])))
 what_at groups (Epoch index) = Sync (sync.Epoch (get_or groups.epochs.items index (Complete [])))
 what_at groups (Moving index) = Sync (sync.Moving (get_or groups.movings.items index (Allreduce 0 [])))
+what_at groups (Rma index) = what.Rma (get_or groups.rmas.items index no_rma)
+what_at groups (Local index) = what.Local (get_or groups.locals.items index no_local)
 
 -- the place is in the table of its group
 abbrev pub IsThere : Groups → Place → Type 0
@@ -27,6 +46,8 @@ IsThere groups (Message index) = index < length groups.messages.items
 IsThere groups (Window index) = index < length groups.windows.items
 IsThere groups (Epoch index) = index < length groups.epochs.items
 IsThere groups (Moving index) = index < length groups.movings.items
+IsThere groups (Rma index) = index < length groups.rmas.items
+IsThere groups (Local index) = index < length groups.locals.items
 
 -- what calls do, by their numbers
 abbrev pub whats_at : Groups → List Place → List What

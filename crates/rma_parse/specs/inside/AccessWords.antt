@@ -5,8 +5,8 @@ use Rattle.rma_base.specs.declared.rank.Rank.{Rank}
 use Rattle.rma_datatype.specs.declared.operation.Op.{Op}
 use Rattle.rma_datatype.specs.Operation.{op_word}
 use Rattle.rma_field.specs.Kinds.{target_text}
-use Rattle.rma_parse.specs.declared.event.local_line.LocalAccess.{LocalAccess}
-use Rattle.rma_parse.specs.declared.event.local_line.LocalAccess.TheVariants.{Load, Store, Poll}
+use Rattle.rma_call.specs.declared.local.LocalAccess.{LocalAccess}
+use Rattle.rma_call.specs.declared.local.LocalAccess.TheVariants.{Load, Store, Poll}
 use Rattle.rma_parse.specs.declared.event.rma_line.Access.{Access}
 use Rattle.rma_parse.specs.declared.event.rma_line.Access.TheVariants.{Put, Get, Accumulate, GetAccumulate, FetchAndOp, CompareAndSwap}
 use Rattle.rma_parse.specs.declared.event.rma_line.Buffer.{Buffer}

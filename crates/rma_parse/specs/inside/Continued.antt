@@ -12,7 +12,7 @@ use Rattle.rma_field.specs.Steps.{◌>>=◌, Fails}
 use Rattle.rma_parse.specs.Accesses.{buffer_of, rma, transfer_of}
 use Rattle.rma_parse.specs.declared.event.Event.{Event}
 use Rattle.rma_parse.specs.declared.event.Event.TheVariants.{Local}
-use Rattle.rma_parse.specs.declared.event.local_line.LocalAccess.{LocalAccess}
+use Rattle.rma_call.specs.declared.local.LocalAccess.{LocalAccess}
 use Rattle.rma_parse.specs.declared.event.rma_line.Access.{Access}
 use Rattle.rma_parse.specs.declared.event.rma_line.Access.TheVariants.{Put, Get, Accumulate, GetAccumulate}
 use Rattle.rma_parse.specs.declared.event.rma_line.Buffer.{Buffer}

@@ -1,5 +1,6 @@
 //! What the lines of local accesses state.
 use crate::event::rma_line::Buffer;
+use rma_call::LocalAccess;
 
 /// An access of a rank to its own memory that is no call.
 #[derive(Debug, Drop)]
@@ -8,15 +9,4 @@ pub struct LocalLine {
     pub access: LocalAccess,
     /// The memory.
     pub buffer: Buffer,
-}
-
-/// What a rank does to its own memory.
-#[derive(Clone, Copy, Debug, PartialEq, Eq)]
-pub enum LocalAccess {
-    /// `load`: it reads.
-    Load,
-    /// `store`: it writes.
-    Store,
-    /// `poll`: it reads until it sees a value that another rank writes.
-    Poll,
 }

@@ -2,7 +2,6 @@
 ghost use Rattle.std.specs.Prelude.{◌≡◌, ◌∷◌, [], ℕ, List, Option, IfOk, codes, decimal, string_bytes};
 ghost use Rattle.std.specs.List.{join_with_byte};
 ghost use Rattle.rma_base.specs.declared.version.Version.{Version};
-ghost use Rattle.rma_call.specs.declared.what.What.TheVariants as what;
 ghost use Rattle.rma_call.specs.declared.what.SyncCall.TheVariants as sync;
 ghost use Rattle.rma_field.specs.Kinds.{lock_word};
 ghost use Rattle.rma_field.specs.Ranks.{ranks_text};
@@ -15,7 +14,7 @@ use crate::event::Event;
 use crate::form::LineForm;
 use crate::line::{asserted_line, named_line};
 use rma_base::{Memory, Name, Rank, RankSet, Version};
-use rma_call::{EpochCall, LockKind, SyncCall, What};
+use rma_call::{EpochCall, LockKind, SyncCall};
 use rma_field::{
     ParseError, Texts, assertions_field, lock_field, lock_word, rank_field, ranks_field, ranks_text,
 };
@@ -198,10 +197,10 @@ pub(crate) fn sync(texts: &mut Texts, window: &[u8]) -> Result<Event, ParseError
 }
 
 fn call(call: EpochCall, request: Option<Name>) -> Event
-    ensures { result ≡ Event.Call (what.Sync (sync.Epoch call)) request }
+    ensures { result ≡ Event.Call (sync.Epoch call) request }
 {
     Event::Call {
-        what: What::Sync(SyncCall::Epoch(call)),
+        call: SyncCall::Epoch(call),
         request,
     }
 }
@@ -209,7 +208,7 @@ fn call(call: EpochCall, request: Option<Name>) -> Event
 // The line of a call, without its site.
 #[tactic(auto, unfolding(crate::specs::Canonical::spelled))]
 pub(crate) fn line(alloc: Global, call: &EpochCall) -> Result<String, Memory>
-    ensures { (request : Option (List ℕ)) → IfOk result (λ line. string_bytes line ≡ join_with_byte 32 (spelled (Event.Call (what.Sync (sync.Epoch call.now)) request))) }
+    ensures { (request : Option (List ℕ)) → IfOk result (λ line. string_bytes line ≡ join_with_byte 32 (spelled (Event.Call (sync.Epoch call.now) request))) }
 {
     match call {
         EpochCall::Fence { window, assertions } => {

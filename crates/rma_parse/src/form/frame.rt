@@ -2,7 +2,6 @@
 ghost use Rattle.std.specs.Prelude.{◌≡◌, ◌∷◌, [], ℕ, List, Option, IfOk, Ok, codes, string_bytes};
 ghost use Rattle.std.specs.List.{join_with_byte};
 ghost use Rattle.rma_base.specs.declared.version.Version.{Version};
-ghost use Rattle.rma_call.specs.declared.what.What.TheVariants as what;
 ghost use Rattle.rma_call.specs.declared.what.SyncCall.TheVariants as sync;
 ghost use Rattle.rma_field.specs.Ranks.{ranks_text};
 ghost use Rattle.rma_field.specs.Kinds.{version_of};
@@ -14,7 +13,7 @@ use crate::event::Event;
 use crate::form::LineForm;
 use crate::line::named_line;
 use rma_base::{Memory, Name, Rank, RankSet, Version};
-use rma_call::{FrameCall, SyncCall, What};
+use rma_call::{FrameCall, SyncCall};
 use rma_field::{
     ParseError, Texts, rank_field, ranks_field, ranks_text, size_field, version_field,
 };
@@ -41,10 +40,10 @@ pub(crate) fn barrier(texts: &mut Texts, comm: &[u8]) -> Result<Event, ParseErro
 }
 
 fn call(call: FrameCall, request: Option<Name>) -> Event
-    ensures { result ≡ Event.Call (what.Sync (sync.Frame call)) request }
+    ensures { result ≡ Event.Call (sync.Frame call) request }
 {
     Event::Call {
-        what: What::Sync(SyncCall::Frame(call)),
+        call: SyncCall::Frame(call),
         request,
     }
 }
@@ -103,7 +102,7 @@ pub(crate) fn end_line(alloc: Global) -> Result<String, Memory>
 // The line of a call, without its site.
 #[tactic(auto, unfolding(crate::specs::Canonical::spelled))]
 pub(crate) fn line(alloc: Global, call: &FrameCall) -> Result<String, Memory>
-    ensures { (request : Option (List ℕ)) → IfOk result (λ line. string_bytes line ≡ join_with_byte 32 (spelled (Event.Call (what.Sync (sync.Frame call.now)) request))) }
+    ensures { (request : Option (List ℕ)) → IfOk result (λ line. string_bytes line ≡ join_with_byte 32 (spelled (Event.Call (sync.Frame call.now) request))) }
 {
     match call {
         FrameCall::Comm { comm, ranks } => comm_line(alloc, comm, ranks),

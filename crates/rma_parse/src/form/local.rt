@@ -6,9 +6,10 @@ ghost use Rattle.rma_parse.specs.Canonical.{spelled};
 ghost use Rattle.rma_parse.specs.inside.AccessWords.{access_verb};
 ghost use Rattle.rma_parse.specs.inside.Continued.{local_event, closed_event};
 
-use crate::event::{Event, LocalAccess, LocalLine};
+use crate::event::{Event, LocalLine};
 use crate::form::rma::buffer_at;
 use rma_base::Memory;
+use rma_call::LocalAccess;
 use rma_field::{ParseError, Texts};
 use std::alloc::Global;
 

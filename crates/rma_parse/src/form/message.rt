@@ -2,7 +2,6 @@
 ghost use Rattle.std.specs.Prelude.{◌≡◌, ◌∷◌, [], IfOk, codes, decimal, string_bytes, unwrap_or};
 ghost use Rattle.std.specs.List.{join_with_byte};
 ghost use Rattle.rma_base.specs.declared.version.Version.{Version};
-ghost use Rattle.rma_call.specs.declared.what.What.TheVariants as what;
 ghost use Rattle.rma_call.specs.declared.what.SyncCall.TheVariants as sync;
 ghost use Rattle.rma_field.specs.Texts.{texts_at};
 ghost use Rattle.rma_field.specs.Steps.{Gives};
@@ -13,7 +12,7 @@ ghost use Rattle.rma_parse.specs.Tails.{received, received_words, tail_of};
 use crate::event::Event;
 use crate::form::LineForm;
 use rma_base::{FormReason, Memory, Name, Rank, Version};
-use rma_call::{MessageCall, Received, SyncCall, What};
+use rma_call::{MessageCall, Received, SyncCall};
 use rma_field::{ParseError, Texts, natural, rank_field, refused};
 use std::alloc::Global;
 
@@ -89,10 +88,10 @@ pub(crate) fn wait(
 }
 
 fn call(call: MessageCall, request: Option<Name>) -> Event
-    ensures { result ≡ Event.Call (what.Sync (sync.Message call)) request }
+    ensures { result ≡ Event.Call (sync.Message call) request }
 {
     Event::Call {
-        what: What::Sync(SyncCall::Message(call)),
+        call: SyncCall::Message(call),
         request,
     }
 }
@@ -125,7 +124,7 @@ pub(crate) fn line(
     call: &MessageCall,
     request: &Option<Name>,
 ) -> Result<String, Memory>
-    ensures { IfOk result (λ line. string_bytes line ≡ join_with_byte 32 (spelled (Event.Call (what.Sync (sync.Message call.now)) request.now))) }
+    ensures { IfOk result (λ line. string_bytes line ≡ join_with_byte 32 (spelled (Event.Call (sync.Message call.now) request.now))) }
 {
     match call {
         MessageCall::Send { to, tag, comm } => message_line(alloc, "send", *to, *tag, comm),

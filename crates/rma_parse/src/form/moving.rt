@@ -2,7 +2,6 @@
 ghost use Rattle.std.specs.Prelude.{◌≡◌, ◌∷◌, [], ℕ, List, Option, IfOk, codes, decimal, string_bytes};
 ghost use Rattle.std.specs.List.{join_with_byte};
 ghost use Rattle.rma_base.specs.declared.version.Version.{Version};
-ghost use Rattle.rma_call.specs.declared.what.What.TheVariants as what;
 ghost use Rattle.rma_call.specs.declared.what.SyncCall.TheVariants as sync;
 ghost use Rattle.rma_field.specs.Steps.{Gives};
 ghost use Rattle.rma_parse.specs.Canonical.{spelled};
@@ -12,7 +11,7 @@ use crate::event::Event;
 use crate::form::LineForm;
 use rma_base::limits::SPACE;
 use rma_base::{Memory, Name, Rank, Version};
-use rma_call::{MovingCall, SyncCall, What};
+use rma_call::{MovingCall, SyncCall};
 use rma_field::{ParseError, Texts, natural, rank_field};
 use std::alloc::Global;
 
@@ -101,10 +100,10 @@ pub(crate) fn alltoall(texts: &mut Texts, bytes: &[u8], comm: &[u8]) -> Result<E
 }
 
 fn call(call: MovingCall, request: Option<Name>) -> Event
-    ensures { result ≡ Event.Call (what.Sync (sync.Moving call)) request }
+    ensures { result ≡ Event.Call (sync.Moving call) request }
 {
     Event::Call {
-        what: What::Sync(SyncCall::Moving(call)),
+        call: SyncCall::Moving(call),
         request,
     }
 }
@@ -112,7 +111,7 @@ fn call(call: MovingCall, request: Option<Name>) -> Event
 // The line of a call, without its site.
 #[tactic(auto, unfolding(crate::specs::Canonical::spelled))]
 pub(crate) fn line(alloc: Global, call: &MovingCall) -> Result<String, Memory>
-    ensures { (request : Option (List ℕ)) → IfOk result (λ line. string_bytes line ≡ join_with_byte 32 (spelled (Event.Call (what.Sync (sync.Moving call.now)) request))) }
+    ensures { (request : Option (List ℕ)) → IfOk result (λ line. string_bytes line ≡ join_with_byte 32 (spelled (Event.Call (sync.Moving call.now) request))) }
 {
     match call {
         MovingCall::Bcast { root, bytes, comm } => {

@@ -3,7 +3,6 @@ ghost use Rattle.std.specs.Prelude.{◌≡◌, ◌∷◌, [], ℕ, List, Option,
 ghost use Rattle.std.specs.List.{join_with_byte};
 ghost use Rattle.rma_base.specs.declared.version.Version.{Version};
 ghost use Rattle.rma_base.specs.Window.{model_word, ops_word};
-ghost use Rattle.rma_call.specs.declared.what.What.TheVariants as what;
 ghost use Rattle.rma_call.specs.declared.what.SyncCall.TheVariants as sync;
 ghost use Rattle.rma_field.specs.Steps.{Gives};
 ghost use Rattle.rma_parse.specs.Canonical.{spelled};
@@ -15,7 +14,7 @@ use crate::form::LineForm;
 use crate::line::named_line;
 use rma_base::limits::SPACE;
 use rma_base::{AccOps, Memory, Name, WinModel};
-use rma_call::{SyncCall, What, WindowCall};
+use rma_call::{SyncCall, WindowCall};
 use rma_field::{ParseError, Texts, model_field, natural, operations_field};
 use std::alloc::Global;
 
@@ -116,10 +115,10 @@ pub(crate) fn detach(texts: &mut Texts, window: &[u8], address: &[u8]) -> Result
 }
 
 fn call(call: WindowCall, request: Option<Name>) -> Event
-    ensures { result ≡ Event.Call (what.Sync (sync.Window call)) request }
+    ensures { result ≡ Event.Call (sync.Window call) request }
 {
     Event::Call {
-        what: What::Sync(SyncCall::Window(call)),
+        call: SyncCall::Window(call),
         request,
     }
 }
@@ -127,7 +126,7 @@ fn call(call: WindowCall, request: Option<Name>) -> Event
 // The line of a call, without its site.
 #[tactic(auto, unfolding(crate::specs::Canonical::spelled))]
 pub(crate) fn line(alloc: Global, call: &WindowCall) -> Result<String, Memory>
-    ensures { (request : Option (List ℕ)) → IfOk result (λ line. string_bytes line ≡ join_with_byte 32 (spelled (Event.Call (what.Sync (sync.Window call.now)) request))) }
+    ensures { (request : Option (List ℕ)) → IfOk result (λ line. string_bytes line ≡ join_with_byte 32 (spelled (Event.Call (sync.Window call.now) request))) }
 {
     match call {
         WindowCall::Create {

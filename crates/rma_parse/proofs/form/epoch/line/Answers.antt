@@ -2,7 +2,6 @@ use Rattle.std.proofs.Common.{◌≡◌, ℕ, List, [], ◌∷◌, Option, ap}
 use Rattle.std.specs.Prelude.{codes, decimal}
 use Rattle.rma_field.specs.Kinds.{lock_word}
 use Rattle.rma_field.specs.Ranks.{ranks_text}
-use Rattle.rma_call.specs.declared.what.What.TheVariants.{Sync}
 use Rattle.rma_call.specs.declared.what.SyncCall.TheVariants.{Epoch}
 use Rattle.rma_call.specs.declared.epoch.EpochCall.{EpochCall}
 use Rattle.rma_parse.specs.declared.event.Event.TheVariants.{Call}
@@ -10,8 +9,8 @@ use Rattle.rma_parse.proofs.WrittenLemmas.{asserted_as, written_as}
 use Rattle.rma_parse.proofs.form.epoch.line.Goals as goal
 
 -- events of equal calls
-same : (request : Option (List ℕ)) (call at : EpochCall) → call ≡ at → Call (Sync (Epoch call)) request ≡ Call (Sync (Epoch at)) request
-same request call at is = ap (λ it. Call (Sync (Epoch it)) request) is
+same : (request : Option (List ℕ)) (call at : EpochCall) → call ≡ at → Call (Epoch call) request ≡ Call (Epoch at) request
+same request call at is = ap (λ it. Call (Epoch it) request) is
 
 pub returns-in_ok-line-in-Fence : goal.returns-in_ok-line-in-Fence
 returns-in_ok-line-in-Fence c request =

@@ -1,5 +1,4 @@
 use Rattle.std.proofs.Common.{◌≡◌, ℕ, List, Option, ap}
-use Rattle.rma_call.specs.declared.what.What.TheVariants.{Sync}
 use Rattle.rma_call.specs.declared.what.SyncCall.TheVariants.{Frame}
 use Rattle.rma_call.specs.declared.frame.FrameCall.{FrameCall}
 use Rattle.rma_parse.specs.declared.event.Event.TheVariants.{Call}
@@ -7,8 +6,8 @@ use Rattle.rma_parse.proofs.WrittenLemmas.{written_as}
 use Rattle.rma_parse.proofs.form.frame.line.Goals as goal
 
 -- events of equal calls
-same : (request : Option (List ℕ)) (call at : FrameCall) → call ≡ at → Call (Sync (Frame call)) request ≡ Call (Sync (Frame at)) request
-same request call at is = ap (λ it. Call (Sync (Frame it)) request) is
+same : (request : Option (List ℕ)) (call at : FrameCall) → call ≡ at → Call (Frame call) request ≡ Call (Frame at) request
+same request call at is = ap (λ it. Call (Frame it) request) is
 
 pub returns-in-Comm : goal.returns-in-Comm
 returns-in-Comm c request = written_as _ _ _ (same request _ _ c.in-Comm.is) c.comm_line.ensures

@@ -1,5 +1,4 @@
 use Rattle.std.proofs.Common.{◌≡◌, ℕ, List, Option, ap}
-use Rattle.rma_call.specs.declared.what.What.TheVariants.{Sync}
 use Rattle.rma_call.specs.declared.what.SyncCall.TheVariants.{Message}
 use Rattle.rma_call.specs.declared.message.MessageCall.{MessageCall}
 use Rattle.rma_parse.specs.declared.event.Event.TheVariants.{Call}
@@ -7,8 +6,8 @@ use Rattle.rma_parse.proofs.WrittenLemmas.{written_as}
 use Rattle.rma_parse.proofs.form.message.line.Goals as goal
 
 -- events of equal calls
-same : (request : Option (List ℕ)) (call at : MessageCall) → call ≡ at → Call (Sync (Message call)) request ≡ Call (Sync (Message at)) request
-same request call at is = ap (λ it. Call (Sync (Message it)) request) is
+same : (request : Option (List ℕ)) (call at : MessageCall) → call ≡ at → Call (Message call) request ≡ Call (Message at) request
+same request call at is = ap (λ it. Call (Message it) request) is
 
 pub returns-in-Send : goal.returns-in-Send
 returns-in-Send c = written_as _ _ _ (same c.args.request.now _ _ c.in-Send.is) c.message_line.ensures

@@ -1,5 +1,4 @@
 use Rattle.std.proofs.Common.{◌≡◌, ℕ, List, Option, ap}
-use Rattle.rma_call.specs.declared.what.What.TheVariants.{Sync}
 use Rattle.rma_call.specs.declared.what.SyncCall.TheVariants.{Moving}
 use Rattle.rma_call.specs.declared.moving.MovingCall.{MovingCall}
 use Rattle.rma_parse.specs.declared.event.Event.TheVariants.{Call}
@@ -7,8 +6,8 @@ use Rattle.rma_parse.proofs.WrittenLemmas.{written_as}
 use Rattle.rma_parse.proofs.form.moving.line.Goals as goal
 
 -- events of equal calls
-same : (request : Option (List ℕ)) (call at : MovingCall) → call ≡ at → Call (Sync (Moving call)) request ≡ Call (Sync (Moving at)) request
-same request call at is = ap (λ it. Call (Sync (Moving it)) request) is
+same : (request : Option (List ℕ)) (call at : MovingCall) → call ≡ at → Call (Moving call) request ≡ Call (Moving at) request
+same request call at is = ap (λ it. Call (Moving it) request) is
 
 pub returns-in-Bcast : goal.returns-in-Bcast
 returns-in-Bcast c request = written_as _ _ _ (same request _ _ c.in-Bcast.is) c.rooted_line.ensures

@@ -1,5 +1,4 @@
 use Rattle.std.proofs.Common.{◌≡◌, ℕ, List, Option, ap}
-use Rattle.rma_call.specs.declared.what.What.TheVariants.{Sync}
 use Rattle.rma_call.specs.declared.what.SyncCall.TheVariants.{Window}
 use Rattle.rma_call.specs.declared.window.WindowCall.{WindowCall}
 use Rattle.rma_parse.specs.declared.event.Event.TheVariants.{Call}
@@ -7,8 +6,8 @@ use Rattle.rma_parse.proofs.WrittenLemmas.{written_as, written_creation}
 use Rattle.rma_parse.proofs.form.window.line.Goals as goal
 
 -- events of equal calls
-same : (request : Option (List ℕ)) (call at : WindowCall) → call ≡ at → Call (Sync (Window call)) request ≡ Call (Sync (Window at)) request
-same request call at is = ap (λ it. Call (Sync (Window it)) request) is
+same : (request : Option (List ℕ)) (call at : WindowCall) → call ≡ at → Call (Window call) request ≡ Call (Window at) request
+same request call at is = ap (λ it. Call (Window it) request) is
 
 pub returns-in-Free : goal.returns-in-Free
 returns-in-Free c request = written_as _ _ _ (same request _ _ c.in-Free.is) c.named_line.ensures
