@@ -1,0 +1,12 @@
+pub mod Words
+pub mod BasicLemmas
+pub mod RunsLemmas
+pub mod LayoutLemmas
+pub mod ElementLemmas
+pub mod BeginLemmas
+pub mod OperandLemmas
+pub mod ReasonLemmas
+pub mod EnoughLemmas
+pub mod CallLemmas
+pub mod FaultLemmas
+pub mod OverlapLemmas

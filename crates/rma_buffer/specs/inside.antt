@@ -1,0 +1,3 @@
+pub mod Placed
+pub mod Layouts
+pub mod Shape

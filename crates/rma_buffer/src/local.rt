@@ -1,0 +1,37 @@
+//! The local access of a line.
+ghost use Rattle.std.specs.Prelude.{◌≡◌, length, IfOk, IfErr, OnOk, None};
+ghost use Rattle.rma_buffer.specs.Calls.{local_call_of};
+ghost use Rattle.rma_buffer.specs.Operands.{IsOf};
+ghost use Rattle.rma_buffer.specs.Rules.{IsErrorOf, memory_reason};
+
+use crate::fault::{BufferError, layout_reason};
+use crate::operand::Operand;
+use crate::placed::placed;
+use crate::rule::entries;
+use rma_base::Memory;
+use rma_call::{LocalAccess, LocalCall};
+use rma_layout::Space;
+use rma_type::TypeTable;
+
+/// The local access of a line that does this with this memory.
+///
+/// # Errors
+///
+/// The reason for which the memory is bad, and [`BufferError::Memory`].
+pub fn local_call(
+    types: &TypeTable,
+    access: LocalAccess,
+    memory: &Operand,
+) -> Result<LocalCall, BufferError>
+    requires within { IsOf (length types.now.origins) memory.now }
+    ensures ok { IfOk result (λ call. call ≡ local_call_of types.now.origins access memory.now) }
+    ensures taken { OnOk result (memory_reason types.now.origins memory.now ≡ None) }
+    ensures fault { IfErr result (IsErrorOf (memory_reason types.now.origins memory.now)) }
+{
+    let touched = entries(types, memory);
+    match placed(types, memory, touched, Space::Local) {
+        Ok(Ok(layout)) => Ok(LocalCall { access, layout }),
+        Ok(Err(fault)) => Err(BufferError::Fault(layout_reason(fault))),
+        Err(Memory) => Err(BufferError::Memory),
+    }
+}
