@@ -6,16 +6,21 @@ use Rattle.std.specs.Option.{option_or}
 use Rattle.rma_base.specs.declared.rank.Rank.{Rank}
 use Rattle.rma_base.specs.declared.version.Version.{Version}
 use Rattle.rma_base.specs.declared.form_reason.FormReason.{FormReason}
-use Rattle.rma_base.specs.declared.form_reason.FormReason.TheVariants.{UnknownVerb, BadHeader, WrongHeader, AfterEnd, UnknownComm, UnknownWindow, RequestPending}
+use Rattle.rma_base.specs.declared.form_reason.FormReason.TheVariants.{BadHeader, WrongHeader, AfterEnd, UnknownComm, UnknownWindow, RequestPending}
 use Rattle.rma_parse.specs.declared.event.Event.{Event}
-use Rattle.rma_call.specs.declared.what.What.{What}
+use Rattle.rma_call.specs.declared.what.SyncCall.{SyncCall}
 use Rattle.rma_parse.specs.declared.event.Event.TheVariants.{Header, End, Call}
-use Rattle.rma_reader.specs.Reading.{is_typed}
 use Rattle.rma_book.specs.Naming.{Attributes, attributes_of, no_attributes, on_comm, on_window, is_header, is_end}
-use Rattle.rma_book.specs.Judging.{is_of_another_log, place_reason, name_reason, use_reason, reason_of}
+use Rattle.rma_book.specs.Judging.{is_of_another_log, place_reason, name_reason, use_reason, lacks_type, type_reason, reason_of}
+use Rattle.rma_book.specs.Types.{is_datatype, types_after}
 use Rattle.rma_book.specs.Names.{is_same, world, has_comm, is_there, window_state}
 use Rattle.rma_book.specs.inside.BookState.{BookState, Represents, IsTaken, IsJudged}
 use Rattle.rma_book.proofs.StateLemmas.{Represents_taken}
+use Rattle.rma_book.proofs.TypeLemmas.{same_after}
+
+none_more : (reason : Option FormReason) → option_or reason None ≡ reason
+none_more None = refl
+none_more (Some reason) = refl
 
 -- why an event that is no header is bad where it stands, if it is
 abbrev pub later : BookState → Option FormReason
@@ -40,21 +45,28 @@ of_header rank logs book (first ∷ events) version r n h = rw h.begun refl
 
 pub of_end : (rank logs : ℕ) (book : BookState) (events : List Event) → Represents book events
     → reason_of rank logs events End ≡ option_or (later book) (cond (nat_lt book.requests.completed book.requests.made) (Some RequestPending) None)
-of_end rank logs book events h = rw (of_place rank logs book events End h refl refl, h.completed, h.made) refl
+of_end rank logs book events h = rw (of_place rank logs book events End h refl refl, h.completed, h.made) (ap (option_or (later book)) (none_more _))
 
-pub of_call : (rank logs : ℕ) (book : BookState) (events : List Event) (event : Event) (it : Attributes) → Represents book events → is_header event ≡ false
-    → is_of_another_log rank logs event ≡ false → is_end event ≡ false → is_typed event ≡ false → it ≡ attributes_of event
-    → option_or (later book) (option_or (name_reason events it) (use_reason rank logs events it false)) ≡ reason_of rank logs events event
-of_call rank logs book events event it h plain own goes_on known same = rw (known, of_place rank logs book events event h plain own, goes_on, same) refl
+-- an event that is neither a header nor the end
+pub of_event : (rank logs : ℕ) (book : BookState) (events : List Event) (event : Event) (it : Attributes) (lacks : Bool) (typed : Option FormReason) → Represents book events
+    → is_header event ≡ false → is_of_another_log rank logs event ≡ false → is_end event ≡ false → it ≡ attributes_of event
+    → lacks ≡ lacks_type (types_after events) event → typed ≡ type_reason (types_after events) event
+    → option_or (later book) (option_or (name_reason events it lacks) (option_or (use_reason rank logs events it false) typed)) ≡ reason_of rank logs events event
+of_event rank logs book events event it lacks typed h plain own goes_on same lacking typing =
+    rw (of_place rank logs book events event h plain own, goes_on, same, lacking, typing) refl
 
--- an event that speaks of datatypes has a verb that no book knows
-pub of_typed : (rank logs : ℕ) (events : List Event) (event : Event) → is_typed event ≡ true → Some UnknownVerb ≡ reason_of rank logs events event
-of_typed rank logs events event typed = rw typed refl
+-- a call that accesses no memory
+pub of_call : (rank logs : ℕ) (book : BookState) (events : List Event) (call : SyncCall) (request : Option (List ℕ)) (it : Attributes) → Represents book events
+    → it ≡ attributes_of (Call call request)
+    → option_or (later book) (option_or (name_reason events it false) (use_reason rank logs events it false)) ≡ reason_of rank logs events (Call call request)
+of_call rank logs book events call request it h same =
+    ap (λ used. option_or (later book) (option_or (name_reason events it false) used)) (sym (none_more (use_reason rank logs events it false)))
+    ∙ of_event rank logs book events (Call call request) it false None h refl refl refl same refl refl
 
 -- an event that says nothing of names and ranks was taken
-pub IsTaken_plain : (old new : BookState) (event : Event) → attributes_of event ≡ no_attributes → new ≡ record old { begun = true; ended = new.ended }
+pub IsTaken_plain : (old new : BookState) (event : Event) → attributes_of event ≡ no_attributes → is_datatype event ≡ false → new ≡ record old { begun = true; ended = new.ended }
     → new.ended ≡ (old.ended || is_end event) → IsTaken old new event
-IsTaken_plain old new event none same ended = record {
+IsTaken_plain old new event none plain same ended = record {
   rank = ap (λ (b : BookState). b.rank) same;
   logs = ap (λ (b : BookState). b.logs) same;
   begun = ap (λ (b : BookState). b.begun) same;
@@ -66,6 +78,7 @@ IsTaken_plain old new event none same ended = record {
     made = rw none (ap (λ (b : BookState). b.requests.made) same ∙ omega arith);
     completed = rw none (ap (λ (b : BookState). b.requests.completed) same ∙ omega arith);
   };
+  types = same_after old.types new.types event (ap (λ (b : BookState). b.types) same) plain;
 }
 
 pub IsJudged_good : (old new : BookState) (event : Event) → ((events : List Event) → Represents old events → None ≡ reason_of old.rank old.logs events event)
@@ -88,16 +101,12 @@ IsJudged_bad old event reason bad = record {
 
 -- ---- a call that says no more than one name
 
-or_false : (b : Bool) → (b || false) ≡ b
+pub or_false : (b : Bool) → (b || false) ≡ b
 or_false true = refl
 or_false false = refl
 
-none_more : (reason : Option FormReason) → option_or reason None ≡ reason
-none_more None = refl
-none_more (Some reason) = refl
-
 -- what is not bad where it stands stands behind the header, and before the end
-stands : (book : BookState) (rest : Option FormReason) → option_or (later book) rest ≡ None → (book.begun ≡ true) × (book.ended ≡ false)
+pub stands : (book : BookState) (rest : Option FormReason) → option_or (later book) rest ≡ None → (book.begun ≡ true) × (book.ended ≡ false)
 stands book rest none =
     ⊎_elim
     (λ (begun : book.begun ≡ true).
@@ -105,7 +114,7 @@ stands book rest none =
     (λ (new : book.begun ≡ false). absurd (let wrong = rw new at none in cc wrong))
     (cases_Bool book.begun)
 
-module _ (book : BookState) (what : What) (request : Option (List ℕ)) (reason : Option FormReason) where
+module _ (book : BookState) (what : SyncCall) (request : Option (List ℕ)) (reason : Option FormReason) where
   IsTaken_kept : (it : Attributes) → attributes_of (Call what request) ≡ it → it.declared ≡ None → it.window ≡ None → it.made ≡ None → it.awaited ≡ None
       → book.begun ≡ true → IsTaken book book (Call what request)
   IsTaken_kept it says declared window made awaited begun = record {
@@ -120,6 +129,7 @@ module _ (book : BookState) (what : What) (request : Option (List ℕ)) (reason 
       made = rw (says, made) (omega arith);
       completed = rw (says, awaited) (omega arith);
     };
+    types = λ table same. same;
   }
 
   pub IsJudged_on_comm : (comm : List ℕ) → on_comm comm ≡ attributes_of (Call what request)
@@ -130,7 +140,7 @@ module _ (book : BookState) (what : What) (request : Option (List ℕ)) (reason 
         is
         ∙ ap (λ known. option_or (later book) (cond (not (is_same world comm || is_some known)) (Some UnknownComm) None)) (h.comms comm)
         ∙ ap (option_or (later book)) (sym (none_more (cond (not (has_comm events comm)) (Some UnknownComm) None)))
-        ∙ of_call book.rank book.logs book events (Call what request) (on_comm comm) h refl refl refl refl says;
+        ∙ of_call book.rank book.logs book events what request (on_comm comm) h says;
     taken = λ none events h.
         Represents_taken book book events (Call what request) (IsTaken_kept (on_comm comm) (sym says) refl refl refl refl (stands book _ (sym is ∙ none)).0) h;
     rank = refl;
@@ -145,7 +155,7 @@ module _ (book : BookState) (what : What) (request : Option (List ℕ)) (reason 
         is
         ∙ ap (λ known. option_or (later book) (cond (not (is_there known)) (Some UnknownWindow) None)) (h.windows window)
         ∙ ap (option_or (later book)) (sym (none_more (cond (not (is_there (window_state events window))) (Some UnknownWindow) None)))
-        ∙ of_call book.rank book.logs book events (Call what request) (on_window window) h refl refl refl refl says;
+        ∙ of_call book.rank book.logs book events what request (on_window window) h says;
     taken = λ none events h.
         Represents_taken book book events (Call what request) (IsTaken_kept (on_window window) (sym says) refl refl refl refl (stands book _ (sym is ∙ none)).0) h;
     rank = refl;

@@ -115,7 +115,7 @@ first_lines rank logs before (line ∷ after) judged =
     judged in
     subst (λ lines. AreGood rank logs lines ⊎ ((fault : FormFault) × IsFirstBad rank logs lines fault)) (append_assoc before (line ∷ []) after) (first_lines rank logs (more before line) after next)
 
-good_none : (rank logs : ℕ) → AreGood rank logs []
+pub good_none : (rank logs : ℕ) → AreGood rank logs []
 good_none rank logs zero line h = cc
 good_none rank logs (suc k) line h = cc
 

@@ -1,5 +1,5 @@
 -- What a book represents once it took one event more.
-use Rattle.std.proofs.Common.{◌≡◌, ℕ, Bool, true, false, ◌+◌, ◌||◌, List, [], ◌∷◌, ◌++◌, Option, Some, None, cond, refl, sym, ap, ◌∙◌, arith}
+use Rattle.std.proofs.Common.{◌≡◌, ℕ, Bool, true, false, ◌+◌, ◌||◌, List, [], ◌∷◌, ◌++◌, Option, Some, None, cond, refl, sym, ap, subst, ◌∙◌, arith}
 use Rattle.std.specs.Prelude.{option_map, unwrap_or}
 use Rattle.std.specs.List.{list_any}
 use Rattle.std.specs.Map.{lookup}
@@ -9,7 +9,9 @@ use Rattle.rma_parse.specs.declared.event.Event.{Event}
 use Rattle.rma_book.specs.Latest.{latest}
 use Rattle.rma_book.specs.Naming.{attributes_of, is_end}
 use Rattle.rma_book.specs.Names.{is_same, of_name, pending, request_state, request_change, made_by, awaited_by, makes, waits}
-use Rattle.rma_book.specs.inside.BookState.{BookState, Represents, IsTaken, has_begun}
+use Rattle.rma_book.specs.inside.BookState.{BookState, Represents, IsTaken, SameTypes, has_begun}
+use Rattle.rma_book.specs.Types.{types_after}
+use Rattle.rma_book.proofs.TypeLemmas.{types_after_more}
 
 option_or_assoc : {A : Type 0} → (a b c : Option A) → option_or (option_or a b) c ≡ option_or a (option_or b c)
 option_or_assoc (Some x) b c = refl
@@ -90,4 +92,5 @@ Represents_taken old new events event taken h =
           ∙ ap (λ o. unwrap_or (request_change (made_by events) it name) o) (h.pending name) ∙ sym (pending_more events event name);
       made = taken.requests.made ∙ ap (λ n. n + makes it) h.made ∙ sym (made_by_more events event);
       completed = taken.requests.completed ∙ ap (λ n. n + waits it) h.completed ∙ sym (awaited_by_more events event);
+      types = subst (λ after. SameTypes new.types after) (sym (types_after_more events event)) (taken.types (types_after events) h.types);
     }

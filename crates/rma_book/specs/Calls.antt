@@ -1,5 +1,5 @@
 -- The calls that the lines of a log record.
-use Rattle.std.specs.Prelude.{ℕ, List, [], ◌∷◌, ◌++◌, map, Option, Some, None, option_to_list, unwrap_or, if◌then◌else◌}
+use Rattle.std.specs.Prelude.{ℕ, List, [], ◌∷◌, ◌++◌, map, Option, Some, None, option_to_list, option_map, unwrap_or, if◌then◌else◌}
 use Rattle.rma_base.specs.declared.line.LineNo.{LineNo}
 use Rattle.rma_base.specs.declared.version.Version.{Version}
 use Rattle.rma_base.specs.declared.version.Version.TheVariants.{One}
@@ -9,7 +9,13 @@ use Rattle.rma_parse.specs.declared.event.Stated.{Stated}
 use Rattle.rma_book.specs.Latest.{latest}
 use Rattle.rma_book.specs.Naming.{attributes_of, is_end, named_version}
 use Rattle.rma_book.specs.Names.{request_number}
+use Rattle.rma_book.specs.Types.{types_after}
+use Rattle.rma_buffer.specs.Calls.{local_call_of, rma_call_of}
+use Rattle.rma_buffer.specs.Operands.{operand_of, operands_of}
 use Rattle.rma_call.specs.Call.{Call}
+use Rattle.rma_call.specs.declared.what.What.{What}
+use Rattle.rma_call.specs.declared.what.What.TheVariants as what
+use Rattle.rma_type.specs.Table.{Table}
 
 -- a line that states something, with its number
 pub record Entry : Type 0 where
@@ -32,14 +38,21 @@ end_line entries = latest (λ entry. if is_end (event_of entry) then Some entry.
 abbrev pub version_of : List Entry → Version
 version_of entries = unwrap_or (latest (λ entry. named_version (event_of entry)) entries) One
 
--- the call of a line with this site, this event, and a request of this number
-abbrev pub call_with : LineNo → Option (List ℕ) → Event → Option ℕ → Option Call
-call_with line site (event.Call what name) request = Some (record { line = line; site = site; what = what; request = request })
-call_with line site _ request = None
+-- what the call of an event does among these datatypes, where it is a call
+abbrev pub what_in : Table → Event → Option What
+what_in types (event.Call call request) = Some (what.Sync call)
+what_in types (event.Rma line request) = option_map (λ operands. what.Rma (rma_call_of types.origins line operands)) (operands_of types.live line.access)
+what_in types (event.Local line) = option_map (λ memory. what.Local (local_call_of types.origins line.access memory)) (operand_of types.live line.buffer)
+what_in types _ = None
+
+-- the call of a line with this site, which does this, and with a request of this number
+abbrev pub call_with : LineNo → Option (List ℕ) → Option ℕ → What → Call
+call_with line site request what = record { line = line; site = site; what = what; request = request }
 
 -- the call of a line behind these events, where it records one
 abbrev pub call_of : List Event → Entry → Option Call
-call_of before entry = call_with entry.line entry.stated.site (event_of entry) (request_number before (attributes_of (event_of entry)))
+call_of before entry =
+    option_map (call_with entry.line entry.stated.site (request_number before (attributes_of (event_of entry)))) (what_in (types_after before) (event_of entry))
 
 -- the calls of some lines behind these events, in their order
 abbrev pub calls_behind : List Event → List Entry → List Call

@@ -1,15 +1,24 @@
 -- Why an event is bad among the events before it (docs/FORMAT.md).
-use Rattle.std.specs.Prelude.{ℕ, ◌+◌, ◌==◌, Bool, true, false, not, ◌&&◌, ◌||◌, nat_lt, List, [], ◌∷◌, Option, Some, None, is_some, is_none, if◌then◌else◌}
-use Rattle.std.specs.Option.{option_or, option_map_or}
+use Rattle.std.specs.Prelude.{ℕ, ◌+◌, ◌==◌, Bool, true, false, not, ◌&&◌, ◌||◌, nat_lt, List, [], ◌∷◌, Option, Some, None, is_some, is_none, option_map, if◌then◌else◌}
+use Rattle.std.specs.Option.{option_or, option_map_or, option_and_then}
 use Rattle.std.specs.List.{list_any}
 use Rattle.rma_base.specs.Limits.{address_limit}
 use Rattle.rma_base.specs.declared.form_reason.FormReason.{FormReason}
-use Rattle.rma_base.specs.declared.form_reason.FormReason.TheVariants.{UnknownVerb, BadHeader, WrongHeader, AfterEnd, UnknownComm, UnknownWindow, UnknownRequest, NameInUse, RankTooLarge, NotInGroup, WrongWait, OutOfSpace, RequestPending, RootNotMember, NotDynamic}
+use Rattle.rma_base.specs.declared.form_reason.FormReason.TheVariants.{BadHeader, WrongHeader, AfterEnd, UnknownComm, UnknownWindow, UnknownRequest, UnknownType, NameInUse, RankTooLarge, NotInGroup, WrongWait, NegativeCount, BadSubarray, TooManyElements, OutOfSpace, RequestPending, RootNotMember, NotDynamic}
 use Rattle.rma_base.specs.RankSet.{has_number}
 use Rattle.rma_parse.specs.declared.event.Event.{Event}
-use Rattle.rma_parse.specs.declared.event.Event.TheVariants.{Header}
-use Rattle.rma_reader.specs.Reading.{is_typed}
+use Rattle.rma_parse.specs.declared.event.Event.TheVariants.{Header, Datatype, Rma, Local}
+use Rattle.rma_parse.specs.declared.event.type_line.TypeLine.{TypeLine}
+use Rattle.rma_parse.specs.declared.event.type_line.TypeLine.TheVariants.{Make, Commit, Free}
+use Rattle.rma_type.specs.declared.fault.TypeFault.{TypeFault}
+use Rattle.rma_type.specs.declared.fault.TypeFault.TheVariants as fault
+use Rattle.rma_type.specs.Names.{id_of}
+use Rattle.rma_type.specs.Refusal.{refusal}
+use Rattle.rma_type.specs.Table.{Table, names_derived}
+use Rattle.rma_buffer.specs.Operands.{kind_of, operand_of, operands_of}
+use Rattle.rma_buffer.specs.Rules.{buffers_reason, memory_reason}
 use Rattle.rma_book.specs.Naming.{Attributes, attributes_of, is_header, is_end}
+use Rattle.rma_book.specs.Types.{types_after}
 use Rattle.rma_book.specs.Names.{has_comm, has_member, window_state, had_window, is_there, is_fixed, pending, has_pending}
 
 -- ---- where an event stands
@@ -84,16 +93,43 @@ misses_root logs before it = option_map_or (λ root. not (has_member logs before
 abbrev pub attaches_wrongly : List Event → Attributes → Bool
 attaches_wrongly before it = option_map_or (λ window. is_fixed (window_state before window)) it.attached false
 
+-- ---- the datatypes of an event
+
+-- the event has a buffer, and the name of the datatype of one is not live
+abbrev pub lacks_type : Table → Event → Bool
+lacks_type types (Rma line request) = is_none (operands_of types.live line.access)
+lacks_type types (Local line) = is_none (operand_of types.live line.buffer)
+lacks_type types _ = false
+
+-- the reason that stands for the refusal of a table of datatypes
+abbrev pub fault_reason : TypeFault → FormReason
+fault_reason fault.UnknownType = UnknownType
+fault_reason fault.NameInUse = NameInUse
+fault_reason fault.NegativeCount = NegativeCount
+fault_reason fault.BadSubarray = BadSubarray
+fault_reason fault.TooManyElements = TooManyElements
+fault_reason fault.OutOfSpace = OutOfSpace
+
+-- why a line that speaks of a datatype is bad, if it is
+abbrev pub datatype_reason : Table → TypeLine → Option FormReason
+datatype_reason types (Make name constructor) = option_map fault_reason (refusal types name constructor)
+datatype_reason types (Commit name) = if is_none (id_of types.live name) then Some UnknownType else None
+datatype_reason types (Free name) = if names_derived types name then None else Some UnknownType
+
+-- why an event is bad for its datatypes, if it is: what becomes of them, or what a call does with its buffers
+abbrev pub type_reason : Table → Event → Option FormReason
+type_reason types (Datatype line) = datatype_reason types line
+type_reason types (Rma line request) =
+    option_and_then (buffers_reason types.origins types.committed (kind_of line.access) line.target) (operands_of types.live line.access)
+type_reason types (Local line) = option_and_then (memory_reason types.origins) (operand_of types.live line.buffer)
+type_reason types _ = None
+
 -- ---- the reasons
 
 -- the first of the reasons that holds
 abbrev pub first_that_holds : List (FormReason × Bool) → Option FormReason
 first_that_holds [] = None
 first_that_holds ((reason, holds) ∷ later) = if holds then Some reason else first_that_holds later
-
--- whether the verb of the event is one that a book knows: those of lines that speak of datatypes are not
-abbrev pub verb_reason : Event → Option FormReason
-verb_reason event = first_that_holds ((UnknownVerb, is_typed event) ∷ [])
 
 -- whether the event stands where it may: after the header of this log, and before the end
 abbrev pub place_reason : ℕ → ℕ → List Event → Event → Option FormReason
@@ -104,11 +140,12 @@ place_reason rank logs before event = first_that_holds (
     ∷ [])
 
 -- whether what the event names is there, and the names that it gives are free
-abbrev pub name_reason : List Event → Attributes → Option FormReason
-name_reason before it = first_that_holds (
+abbrev pub name_reason : List Event → Attributes → Bool → Option FormReason
+name_reason before it lacks_type = first_that_holds (
     (UnknownComm, lacks_comm before it)
     ∷ (UnknownWindow, lacks_window before it)
     ∷ (UnknownRequest, lacks_request before it)
+    ∷ (UnknownType, lacks_type)
     ∷ (NameInUse, takes_used_name before it)
     ∷ [])
 
@@ -128,6 +165,7 @@ use_reason rank logs before it ends = first_that_holds (
 abbrev pub reason_of : ℕ → ℕ → List Event → Event → Option FormReason
 reason_of rank logs before event =
     let it = attributes_of event in
-    option_or (verb_reason event)
-    (option_or (place_reason rank logs before event)
-    (option_or (name_reason before it) (use_reason rank logs before it (ends_early before event))))
+    let types = types_after before in
+    option_or (place_reason rank logs before event)
+    (option_or (name_reason before it (lacks_type types event))
+    (option_or (use_reason rank logs before it (ends_early before event)) (type_reason types event)))

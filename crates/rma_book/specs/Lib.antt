@@ -3,6 +3,7 @@ pub use Rattle.rma_lex.specs.Line
 pub mod Latest
 pub mod Naming
 pub mod Names
+pub mod Types
 pub mod Judging
 pub mod Calls
 pub mod Logs

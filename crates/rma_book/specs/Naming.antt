@@ -2,7 +2,7 @@
 -- definition of this crate.
 use Rattle.std.specs.Prelude.{ℕ, Bool, true, false, List, Option, Some, None, is_some, option_map}
 use Rattle.rma_base.specs.declared.version.Version.{Version}
-use Rattle.rma_call.specs.declared.what.What.TheVariants.{Sync}
+use Rattle.rma_base.specs.declared.rank.Rank.{Rank}
 use Rattle.rma_call.specs.declared.what.SyncCall.TheVariants.{Frame, Message, Window, Epoch, Moving}
 use Rattle.rma_call.specs.declared.frame.FrameCall.TheVariants.{Comm, Barrier}
 use Rattle.rma_call.specs.declared.message.MessageCall.TheVariants.{Send, Recv, Isend, Irecv, Wait}
@@ -94,6 +94,10 @@ with_target window target = record no_attributes { needed_window = Some window; 
 abbrev pub with_group : List ℕ → List ℕ → Attributes
 with_group window ranks = record no_attributes { needed_window = Some window; group = Some ranks }
 
+-- a call that accesses the part of a target, if it has one
+abbrev pub with_access : List ℕ → Option Rank → Option (List ℕ) → Attributes
+with_access window target request = record (on_window window) { rank = option_map (λ (rank : Rank). rank.0) target; made = request_that false request }
+
 -- how a window is when it is created
 abbrev pub created_state : Bool → WindowState
 created_state false = Fixed
@@ -101,47 +105,47 @@ created_state true = Dynamic
 
 -- what each event says
 abbrev pub attributes_of : Event → Attributes
-attributes_of (Call (Sync (Frame (Comm comm ranks))) request) = record no_attributes { declared = Some (comm, ranks); group = Some ranks }
-attributes_of (Call (Sync (Frame (Barrier comm))) request) = on_comm comm
-attributes_of (Call (Sync (Message (Send to tag comm))) request) = with_peer comm to.0
-attributes_of (Call (Sync (Message (Recv from tag comm))) request) = with_peer comm from.0
-attributes_of (Call (Sync (Message (Isend to tag comm))) request) = record (with_peer comm to.0) { made = request_that false request }
-attributes_of (Call (Sync (Message (Irecv comm))) request) = record (on_comm comm) { made = request_that true request }
-attributes_of (Call (Sync (Message (Wait received))) request) = record no_attributes {
+attributes_of (Call (Frame (Comm comm ranks)) request) = record no_attributes { declared = Some (comm, ranks); group = Some ranks }
+attributes_of (Call (Frame (Barrier comm)) request) = on_comm comm
+attributes_of (Call (Message (Send to tag comm)) request) = with_peer comm to.0
+attributes_of (Call (Message (Recv from tag comm)) request) = with_peer comm from.0
+attributes_of (Call (Message (Isend to tag comm)) request) = record (with_peer comm to.0) { made = request_that false request }
+attributes_of (Call (Message (Irecv comm)) request) = record (on_comm comm) { made = request_that true request }
+attributes_of (Call (Message (Wait received)) request) = record no_attributes {
   awaited = request_that (is_some received) request;
   rank = option_map (λ it. it.from.0) received;
 }
-attributes_of (Call (Sync (Window (Create window comm base bytes unit model operations dynamic))) request) = record (on_comm comm) {
+attributes_of (Call (Window (Create window comm base bytes unit model operations dynamic)) request) = record (on_comm comm) {
   created = Some window;
   window = Some (window, created_state dynamic);
   memory = Some (base, bytes);
 }
-attributes_of (Call (Sync (Window (Free window))) request) = record (on_window window) { window = Some (window, Freed) }
-attributes_of (Call (Sync (Window (Attach window address bytes))) request) = record (on_window window) { memory = Some (address, bytes); attached = Some window }
-attributes_of (Call (Sync (Window (Detach window address))) request) = record (on_window window) { attached = Some window }
-attributes_of (Call (Sync (Epoch (Fence window assertions))) request) = on_window window
-attributes_of (Call (Sync (Epoch (Post window origins assertions))) request) = with_group window origins
-attributes_of (Call (Sync (Epoch (Start window targets assertions))) request) = with_group window targets
-attributes_of (Call (Sync (Epoch (Complete window))) request) = on_window window
-attributes_of (Call (Sync (Epoch (Expwait window))) request) = on_window window
-attributes_of (Call (Sync (Epoch (Lock window target kind assertions))) request) = with_target window target.0
-attributes_of (Call (Sync (Epoch (Unlock window target))) request) = with_target window target.0
-attributes_of (Call (Sync (Epoch (LockAll window assertions))) request) = on_window window
-attributes_of (Call (Sync (Epoch (UnlockAll window))) request) = on_window window
-attributes_of (Call (Sync (Epoch (Flush window target))) request) = with_target window target.0
-attributes_of (Call (Sync (Epoch (FlushAll window))) request) = on_window window
-attributes_of (Call (Sync (Epoch (FlushLocal window target))) request) = with_target window target.0
-attributes_of (Call (Sync (Epoch (FlushLocalAll window))) request) = on_window window
-attributes_of (Call (Sync (Epoch (epoch.Sync window))) request) = on_window window
-attributes_of (Call (Sync (Moving (Bcast root bytes comm))) request) = with_root comm root.0
-attributes_of (Call (Sync (Moving (Scatter root bytes comm))) request) = with_root comm root.0
-attributes_of (Call (Sync (Moving (Gather root bytes comm))) request) = with_root comm root.0
-attributes_of (Call (Sync (Moving (Reduce root bytes comm))) request) = with_root comm root.0
-attributes_of (Call (Sync (Moving (Allreduce bytes comm))) request) = on_comm comm
-attributes_of (Call (Sync (Moving (Allgather bytes comm))) request) = on_comm comm
-attributes_of (Call (Sync (Moving (Alltoall bytes comm))) request) = on_comm comm
+attributes_of (Call (Window (Free window)) request) = record (on_window window) { window = Some (window, Freed) }
+attributes_of (Call (Window (Attach window address bytes)) request) = record (on_window window) { memory = Some (address, bytes); attached = Some window }
+attributes_of (Call (Window (Detach window address)) request) = record (on_window window) { attached = Some window }
+attributes_of (Call (Epoch (Fence window assertions)) request) = on_window window
+attributes_of (Call (Epoch (Post window origins assertions)) request) = with_group window origins
+attributes_of (Call (Epoch (Start window targets assertions)) request) = with_group window targets
+attributes_of (Call (Epoch (Complete window)) request) = on_window window
+attributes_of (Call (Epoch (Expwait window)) request) = on_window window
+attributes_of (Call (Epoch (Lock window target kind assertions)) request) = with_target window target.0
+attributes_of (Call (Epoch (Unlock window target)) request) = with_target window target.0
+attributes_of (Call (Epoch (LockAll window assertions)) request) = on_window window
+attributes_of (Call (Epoch (UnlockAll window)) request) = on_window window
+attributes_of (Call (Epoch (Flush window target)) request) = with_target window target.0
+attributes_of (Call (Epoch (FlushAll window)) request) = on_window window
+attributes_of (Call (Epoch (FlushLocal window target)) request) = with_target window target.0
+attributes_of (Call (Epoch (FlushLocalAll window)) request) = on_window window
+attributes_of (Call (Epoch (epoch.Sync window)) request) = on_window window
+attributes_of (Call (Moving (Bcast root bytes comm)) request) = with_root comm root.0
+attributes_of (Call (Moving (Scatter root bytes comm)) request) = with_root comm root.0
+attributes_of (Call (Moving (Gather root bytes comm)) request) = with_root comm root.0
+attributes_of (Call (Moving (Reduce root bytes comm)) request) = with_root comm root.0
+attributes_of (Call (Moving (Allreduce bytes comm)) request) = on_comm comm
+attributes_of (Call (Moving (Allgather bytes comm)) request) = on_comm comm
+attributes_of (Call (Moving (Alltoall bytes comm)) request) = on_comm comm
 attributes_of (Header version rank size) = no_attributes
 attributes_of End = no_attributes
 attributes_of (Datatype line) = no_attributes
-attributes_of (Rma line request) = no_attributes
+attributes_of (Rma line request) = with_access line.window line.target request
 attributes_of (Local line) = no_attributes

@@ -6,22 +6,29 @@ ghost use Rattle.std.specs.Option.{option_copied, option_map_or, option_or};
 ghost use Rattle.rma_base.specs.RankSet.{has_number};
 ghost use Rattle.rma_base.specs.declared.version.Version.{Version};
 ghost use Rattle.rma_call.specs.Call.{what_of};
-ghost use Rattle.rma_call.specs.declared.what.What.{What};
+ghost use Rattle.rma_call.specs.declared.what.SyncCall.{SyncCall};
+ghost use Rattle.rma_call.specs.declared.what.What.TheVariants.{Sync};
 ghost use Rattle.rma_parse.specs.declared.event.Event.{Event};
 ghost use Rattle.rma_parse.specs.declared.event.Event.TheVariants.{Header, End, Call};
 ghost use Rattle.rma_book.specs.Naming.{attributes_of, is_end};
+ghost use Rattle.rma_book.specs.Types.{is_datatype};
 ghost use Rattle.rma_book.specs.Names.{is_same, of_name, world, has_comm, had_window, pending, is_there, is_fixed, request_number};
 ghost use Rattle.rma_book.specs.Judging.{first_that_holds, name_reason, use_reason, lacks_comm, lacks_window, lacks_request, is_far, leaves_out, waits_wrongly, differ, leaves_space, misses_root, attaches_wrongly};
 ghost use Rattle.rma_book.specs.inside.BookState.{Represents, IsJudged, IsTaken, reason_in, number_in};
 ghost use Rattle.rma_book.specs.inside.Naming.{value_of};
 
+mod access;
+mod datatype;
+
 use crate::names::WindowState;
 use crate::naming::{Naming, Said};
 use crate::requests::Requests;
+pub use access::JudgedAccess;
 use indexmap::IndexMap;
 use rma_base::limits::SPACE;
 use rma_base::{FormReason, Memory, Name, Rank, RankSet};
 use rma_call::WhatRef;
+use rma_type::TypeTable;
 use std::alloc::Global;
 use std::marker::Model;
 
@@ -51,6 +58,8 @@ pub struct Book {
     /// The windows that were created, with what became of them.
     windows: IndexMap<Name, WindowState>,
     requests: Requests,
+    /// The datatypes.
+    types: TypeTable,
 }
 
 impl Model for Book {
@@ -66,17 +75,19 @@ impl Model for Book {
       comms = book.comms.entries;
       windows = book.windows.entries;
       requests = book.requests;
+      types = book.types;
     } };
 }
 
 impl Book {
     /// The book of a rank among so many logs, which took no event yet.
-    pub fn new(alloc: Global, rank: Rank, logs: u32) -> Book
-        ensures rank { result.rank ≡ rank.0 }
-        ensures logs { result.logs ≡ logs }
-        ensures empty { Represents result [] }
+    pub fn new(alloc: Global, rank: Rank, logs: u32) -> Result<Book, Memory>
+        ensures rank { IfOk result (λ book. book.rank ≡ rank.0) }
+        ensures logs { IfOk result (λ book. book.logs ≡ logs) }
+        ensures empty { IfOk result (λ book. Represents book []) }
     {
-        Book {
+        let types = TypeTable::new(alloc)?;
+        Ok(Book {
             rank,
             logs,
             begun: false,
@@ -84,7 +95,8 @@ impl Book {
             comms: IndexMap::new(alloc),
             windows: IndexMap::new(alloc),
             requests: Requests::new(alloc),
-        }
+            types,
+        })
     }
 
     /// The rank whose log it is.
@@ -121,15 +133,15 @@ impl Book {
         }
     }
 
-    /// Judges a call with the request that stands beside it, and takes it where it is good.
+    /// Judges a call that accesses no memory with the request that stands beside it, and takes it where it is good.
     ///
     /// # Errors
     ///
     /// `Memory` where memory ran out: the book no longer represents the events that it took.
     pub fn call(&mut self, what: WhatRef<'_>, request: Option<&Name>) -> Result<Judged, Memory>
-        ensures judged { IfOk result (λ judged. IsJudged self.old self.new (Call (what_of what.entry) (option_copied request.entry)) (reason_in judged)) }
-        ensures number { IfOk result (λ judged. reason_in judged ≡ None → (events : List Event) → Represents self.old events
-            → number_in judged ≡ request_number events (attributes_of (Call (what_of what.entry) (option_copied request.entry)))) }
+        ensures judged { IfOk result (λ judged. (call : SyncCall) → what_of what.entry ≡ Sync call → IsJudged self.old self.new (Call call (option_copied request.entry)) (reason_in judged)) }
+        ensures number { IfOk result (λ judged. (call : SyncCall) → what_of what.entry ≡ Sync call → reason_in judged ≡ None → (events : List Event) → Represents self.old events
+            → number_in judged ≡ request_number events (attributes_of (Call call (option_copied request.entry)))) }
         ensures fits { IfOk result (λ judged. IfSome (number_in judged) (λ number. number + 1 < 2 ^ 32)) }
     {
         match Said::of(what, request) {
@@ -158,12 +170,12 @@ impl Book {
 
     // Judges a call, and takes it where it is good.
     fn judge(&mut self, naming: &Naming<'_>) -> Result<Judged, Memory>
-        ensures judged { IfOk result (λ judged. (what : What) (request : Option (List ℕ)) → value_of naming.now ≡ attributes_of (Call what request) → IsJudged self.old self.new (Call what request) (reason_in judged)) }
+        ensures judged { IfOk result (λ judged. (call : SyncCall) (request : Option (List ℕ)) → value_of naming.now ≡ attributes_of (Call call request) → IsJudged self.old self.new (Call call request) (reason_in judged)) }
         ensures number { IfOk result (λ judged. reason_in judged ≡ None → (events : List Event) → Represents self.old events
             → number_in judged ≡ request_number events (value_of naming.now)) }
         ensures fits { IfOk result (λ judged. IfSome (number_in judged) (λ number. number + 1 < 2 ^ 32)) }
     {
-        match self.reason(naming) {
+        match self.reason(naming, false) {
             Some(reason) => Ok(Judged::Bad(reason)),
             None => {
                 let request = self.note(naming)?;
@@ -215,15 +227,15 @@ impl Book {
         }
     }
 
-    // Why a call is bad now, if it is.
-    fn reason(&self, naming: &Naming<'_>) -> Option<FormReason>
+    // Why a call is bad now for what it says of names and ranks, if it is; whether the name of a datatype is not live is known.
+    fn reason(&self, naming: &Naming<'_>, lacks_type: bool) -> Option<FormReason>
         ensures { (events : List Event) → Represents self.now events → result ≡ option_or
             (if not self.now.begun then Some FormReason.BadHeader else (if self.now.ended then Some FormReason.AfterEnd else None))
-            (option_or (name_reason events (value_of naming.now)) (use_reason self.now.rank self.now.logs events (value_of naming.now) false)) }
+            (option_or (name_reason events (value_of naming.now) lacks_type) (use_reason self.now.rank self.now.logs events (value_of naming.now) false)) }
     {
         match self.later_reason() {
             Some(reason) => Some(reason),
-            None => match self.name_reason(naming) {
+            None => match self.name_reason(naming, lacks_type) {
                 Some(reason) => Some(reason),
                 None => self.use_reason(naming),
             },
@@ -231,13 +243,14 @@ impl Book {
     }
 
     // Whether what a call names is there, and the names that it gives are free.
-    fn name_reason(&self, naming: &Naming<'_>) -> Option<FormReason>
-        ensures { (events : List Event) → Represents self.now events → result ≡ name_reason events (value_of naming.now) }
+    fn name_reason(&self, naming: &Naming<'_>, lacks_type: bool) -> Option<FormReason>
+        ensures { (events : List Event) → Represents self.now events → result ≡ name_reason events (value_of naming.now) lacks_type }
     {
         first_name_reason(
             self.lacks_comm(naming),
             self.lacks_window(naming),
             self.lacks_request(naming),
+            lacks_type,
             self.declares_used(naming) | (self.creates_used(naming) | self.makes_used(naming)),
         )
     }
@@ -417,7 +430,7 @@ impl Book {
 
     // Notes what a call does to the names, and answers the number of its request.
     fn note(&mut self, naming: &Naming<'_>) -> Result<Option<u32>, Memory>
-        ensures taken { OnOk result ((event : Event) → value_of naming.now ≡ attributes_of event → is_end event ≡ false → IsTaken self.old self.new event) }
+        ensures taken { OnOk result ((event : Event) → value_of naming.now ≡ attributes_of event → is_end event ≡ false → is_datatype event ≡ false → IsTaken self.old self.new event) }
         ensures number { IfOk result (λ number. (events : List Event) → Represents self.old events → number ≡ request_number events (value_of naming.now)) }
         ensures fits { IfOk result (λ number. IfSome number (λ n. n + 1 < 2 ^ 32)) }
     {
@@ -470,10 +483,12 @@ fn first_name_reason(
     lacks_comm: bool,
     lacks_window: bool,
     lacks_request: bool,
+    lacks_type: bool,
     used: bool,
 ) -> Option<FormReason>
     ensures { result ≡ first_that_holds (
-        (FormReason.UnknownComm, lacks_comm) ∷ (FormReason.UnknownWindow, lacks_window) ∷ (FormReason.UnknownRequest, lacks_request) ∷ (FormReason.NameInUse, used) ∷ []) }
+        (FormReason.UnknownComm, lacks_comm) ∷ (FormReason.UnknownWindow, lacks_window) ∷ (FormReason.UnknownRequest, lacks_request)
+        ∷ (FormReason.UnknownType, lacks_type) ∷ (FormReason.NameInUse, used) ∷ []) }
 {
     if lacks_comm {
         Some(FormReason::UnknownComm)
@@ -481,6 +496,8 @@ fn first_name_reason(
         Some(FormReason::UnknownWindow)
     } else if lacks_request {
         Some(FormReason::UnknownRequest)
+    } else if lacks_type {
+        Some(FormReason::UnknownType)
     } else if used {
         Some(FormReason::NameInUse)
     } else {

@@ -2,11 +2,12 @@
 ghost use Rattle.std.specs.Prelude.{◌≡◌, ℕ, List, Option, Some};
 ghost use Rattle.std.specs.Option.{option_copied};
 ghost use Rattle.rma_call.specs.Call.{what_of};
-ghost use Rattle.rma_call.specs.declared.what.What.TheVariants as what;
+ghost use Rattle.rma_call.specs.declared.what.What.TheVariants.{Sync};
+ghost use Rattle.rma_call.specs.declared.what.SyncCall.{SyncCall};
 ghost use Rattle.rma_call.specs.declared.what.SyncCall.TheVariants as sync;
 ghost use Rattle.rma_parse.specs.declared.event.Event.TheVariants.{Call};
-ghost use Rattle.rma_book.specs.Naming.{attributes_of, created_state, request_that};
-ghost use Rattle.rma_book.specs.inside.Naming.{said_value, named, nothing};
+ghost use Rattle.rma_book.specs.Naming.{attributes_of, created_state, request_that, with_access};
+ghost use Rattle.rma_book.specs.inside.Naming.{said_value, value_of, named, nothing};
 
 use crate::names::WindowState;
 use rma_base::{Name, Rank, RankSet};
@@ -52,10 +53,10 @@ pub(crate) enum Said<'a> {
 }
 
 impl<'a> Said<'a> {
-    /// What a call says, with the request that stands beside it.
+    /// What a call says that accesses no memory, with the request that stands beside it.
     #[inline]
     pub(crate) fn of(call: WhatRef<'a>, request: Option<&'a Name>) -> Said<'a>
-        ensures { said_value result ≡ attributes_of (Call (what_of call.entry) (option_copied request.entry)) }
+        ensures { (sync : SyncCall) → what_of call.entry ≡ Sync sync → said_value result ≡ attributes_of (Call sync (option_copied request.entry)) }
     {
         match call {
             WhatRef::Frame(call) => of_frame(call),
@@ -63,12 +64,13 @@ impl<'a> Said<'a> {
             WhatRef::Window(call) => of_window(call),
             WhatRef::Epoch(call) => of_epoch(call),
             WhatRef::Moving(call) => of_moving(call),
+            WhatRef::Rma(_) | WhatRef::Local(_) => Said::More(nothing()),
         }
     }
 }
 
 fn of_frame(call: &FrameCall) -> Said<'_>
-    ensures { (request : Option (List ℕ)) → said_value result ≡ attributes_of (Call (what.Sync (sync.Frame call.now)) request) }
+    ensures { (request : Option (List ℕ)) → said_value result ≡ attributes_of (Call (sync.Frame call.now) request) }
 {
     match call {
         FrameCall::Comm { comm, ranks } => Said::More(Naming {
@@ -81,7 +83,7 @@ fn of_frame(call: &FrameCall) -> Said<'_>
 }
 
 fn of_message<'a>(call: &'a MessageCall, request: Option<&'a Name>) -> Said<'a>
-    ensures { said_value result ≡ attributes_of (Call (what.Sync (sync.Message call.now)) (option_copied request.entry)) }
+    ensures { said_value result ≡ attributes_of (Call (sync.Message call.now) (option_copied request.entry)) }
 {
     match call {
         MessageCall::Send { to, comm, .. } => Said::More(with_peer(comm, *to)),
@@ -106,7 +108,7 @@ fn of_message<'a>(call: &'a MessageCall, request: Option<&'a Name>) -> Said<'a>
 }
 
 fn of_window(call: &WindowCall) -> Said<'_>
-    ensures { (request : Option (List ℕ)) → said_value result ≡ attributes_of (Call (what.Sync (sync.Window call.now)) request) }
+    ensures { (request : Option (List ℕ)) → said_value result ≡ attributes_of (Call (sync.Window call.now) request) }
 {
     match call {
         WindowCall::Create {
@@ -143,7 +145,7 @@ fn of_window(call: &WindowCall) -> Said<'_>
 }
 
 fn of_epoch(call: &EpochCall) -> Said<'_>
-    ensures { (request : Option (List ℕ)) → said_value result ≡ attributes_of (Call (what.Sync (sync.Epoch call.now)) request) }
+    ensures { (request : Option (List ℕ)) → said_value result ≡ attributes_of (Call (sync.Epoch call.now) request) }
 {
     match call {
         EpochCall::Fence { window, .. } => Said::OnWindow(window),
@@ -172,7 +174,7 @@ fn of_epoch(call: &EpochCall) -> Said<'_>
 }
 
 fn of_moving(call: &MovingCall) -> Said<'_>
-    ensures { (request : Option (List ℕ)) → said_value result ≡ attributes_of (Call (what.Sync (sync.Moving call.now)) request) }
+    ensures { (request : Option (List ℕ)) → said_value result ≡ attributes_of (Call (sync.Moving call.now) request) }
 {
     match call {
         MovingCall::Bcast { root, comm, .. } => Said::More(with_root(comm, *root)),
@@ -251,6 +253,21 @@ fn with_target(window: &Name, target: Rank) -> Naming<'_>
 {
     Naming {
         rank: Some(target),
+        ..on_window(window)
+    }
+}
+
+/// A call that accesses the part of a target, if it has one.
+pub(crate) fn with_access<'a>(
+    window: &'a Name,
+    target: Option<Rank>,
+    request: Option<&'a Name>,
+) -> Naming<'a>
+    ensures { value_of result ≡ with_access window.now target (option_copied request.entry) }
+{
+    Naming {
+        rank: target,
+        made: request_that(false, request),
         ..on_window(window)
     }
 }

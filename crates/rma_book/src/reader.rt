@@ -1,23 +1,24 @@
 //! Reading the lines of a log one by one.
-ghost use Rattle.std.specs.Prelude.{◌≡◌, ℕ, ◌+◌, ◌<◌, List, [], length, IfOk, IfSome, OnOk, true, false, Contains, Ok, Err, Option, Some, None};
+ghost use Rattle.std.specs.Prelude.{◌≡◌, ℕ, ◌+◌, ◌<◌, ◌^◌, List, [], length, IfOk, IfSome, OnOk, true, false, Contains, Ok, Err, Option, Some, None};
 ghost use Rattle.rma_base.specs.declared.version.Version.{Version};
 ghost use Rattle.rma_lex.specs.Content.{content, number};
 ghost use Rattle.rma_lex.specs.Line.{lines};
 ghost use Rattle.rma_lex.specs.Cutting.{Represents};
-ghost use Rattle.rma_parse.specs.declared.event.Event.TheVariants.{Header, End};
+ghost use Rattle.rma_parse.specs.declared.event.Event.TheVariants.{Header, End, Datatype, Rma, Local};
 ghost use Rattle.rma_parse.specs.declared.event.Stated.{Stated};
-ghost use Rattle.rma_reader.specs.Reading.{IsEvent, IsRead, IsSite, is_typed};
+ghost use Rattle.rma_reader.specs.Reading.{IsEvent, IsRead, IsSite};
 ghost use Rattle.rma_reader.specs.declared.read_line.ReadEvent.TheVariants as read;
 ghost use Rattle.rma_book.specs.Ends.{IsEnd};
 ghost use Rattle.rma_book.specs.Logs.{Checked};
-ghost use Rattle.rma_book.specs.inside.Reading.{HasRead, IsReading, Reads, ReadsNext};
+ghost use Rattle.rma_book.specs.Calls.{call_with};
+ghost use Rattle.rma_book.specs.inside.Reading.{Appends, HasRead, IsReading, Reads, ReadsNext};
 
-use crate::book::{Book, Judged};
+use crate::book::{Book, Judged, JudgedAccess};
 use crate::fault::{BookEnd, FormFault};
 use rma_base::{FormReason, LineNo, Memory, Name, Rank, Version};
-use rma_call::RankCalls;
+use rma_call::{RankCalls, What};
 use rma_lex::{LexFault, Line, LineCutter};
-use rma_parse::ParseError;
+use rma_parse::{LocalLine, ParseError, RmaLine, TypeLine};
 use rma_reader::{LineReader, ReadEvent, ReadLine, SharedSites, SplitLine};
 use std::alloc::Global;
 
@@ -46,7 +47,7 @@ impl Reader {
     {
         Ok(Reader {
             lines: LineReader::new(alloc, sites)?,
-            book: Book::new(alloc, rank, logs),
+            book: Book::new(alloc, rank, logs)?,
             end: None,
             fault: None,
         })
@@ -121,10 +122,9 @@ impl Reader {
                 Ok(())
             }
             ReadEvent::Call { what, request } => self.read_call(no, site, what, request),
-            ReadEvent::Typed => {
-                self.read_typed(no);
-                Ok(())
-            }
+            ReadEvent::Datatype(line) => self.read_datatype(no, &line),
+            ReadEvent::Rma { line, request } => self.read_rma(no, site, &line, request),
+            ReadEvent::Local(line) => self.read_local(no, site, &line),
         }
     }
 
@@ -157,12 +157,67 @@ impl Reader {
         }
     }
 
-    // Judges a line that speaks of datatypes: its verb is none that a book knows.
-    fn read_typed(&mut self, no: LineNo)
+    // Judges a line that speaks of a datatype, and takes it where it is good.
+    fn read_datatype(&mut self, no: LineNo, line: &TypeLine) -> Result<(), Memory>
         requires { self.old.fault ≡ None }
-        ensures { (stated : Stated) → is_typed stated.event ≡ true → Reads self.old self.new no stated }
+        ensures { OnOk result ((site : Option (List ℕ)) → Reads self.old self.new no (record { event = Datatype line.now; site = site })) }
     {
-        self.refuse(no, FormReason::UnknownVerb);
+        if let Some(reason) = self.book.datatype(line)? {
+            self.refuse(no, reason);
+        }
+        Ok(())
+    }
+
+    // Judges a call that accesses the part of a target, and takes it where it is good.
+    fn read_rma(
+        &mut self,
+        no: LineNo,
+        site: Option<u32>,
+        line: &RmaLine,
+        request: Option<Name>,
+    ) -> Result<(), Memory>
+        requires fault { self.old.fault ≡ None }
+        requires site { (text : Option (List ℕ)) × IsSite self.old.lines.calls site text }
+        ensures { OnOk result ((text : Option (List ℕ)) → IsSite self.old.lines.calls site text → Reads self.old self.new no (record { event = Rma line.now request; site = text })) }
+    {
+        match self.book.access(line, request.as_ref())? {
+            JudgedAccess::Bad(reason) => {
+                self.refuse(no, reason);
+                Ok(())
+            }
+            JudgedAccess::Good { what, request } => self.take(no, site, what, request),
+        }
+    }
+
+    // Judges a local access, and takes it where it is good.
+    fn read_local(&mut self, no: LineNo, site: Option<u32>, line: &LocalLine) -> Result<(), Memory>
+        requires fault { self.old.fault ≡ None }
+        requires site { (text : Option (List ℕ)) × IsSite self.old.lines.calls site text }
+        ensures { OnOk result ((text : Option (List ℕ)) → IsSite self.old.lines.calls site text → Reads self.old self.new no (record { event = Local line.now; site = text })) }
+    {
+        match self.book.local(line)? {
+            JudgedAccess::Bad(reason) => {
+                self.refuse(no, reason);
+                Ok(())
+            }
+            JudgedAccess::Good { what, request } => self.take(no, site, what, request),
+        }
+    }
+
+    // Appends a call that does this.
+    fn take(
+        &mut self,
+        no: LineNo,
+        site: Option<u32>,
+        what: What,
+        request: Option<u32>,
+    ) -> Result<(), Memory>
+        requires site { (text : Option (List ℕ)) × IsSite self.old.lines.calls site text }
+        requires request { IfSome request (λ number. number + 1 < 2 ^ 32) }
+        ensures { OnOk result ((text : Option (List ℕ)) → IsSite self.old.lines.calls site text → Appends self.old self.new (call_with no text request what)) }
+    {
+        let number = self.lines.add_what(what)?;
+        self.lines.push(no, site, number, request)
     }
 
     // Judges a call, and takes it where it is good.

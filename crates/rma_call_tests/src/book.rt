@@ -12,26 +12,42 @@ struct Case {
     end: Result<usize, (u32, FormReason)>,
 }
 
-static CASES: [Case; 88] = [
+static CASES: [Case; 92] = [
     Case {
         log: "put W 1 0 1 INT 8 1 INT\nend\n",
-        end: Err((1, FormReason::UnknownVerb)),
+        end: Err((1, FormReason::BadHeader)),
     },
     Case {
         log: "rma 1 1 3\ntype commit N\nend\n",
-        end: Err((2, FormReason::UnknownVerb)),
+        end: Err((2, FormReason::UnknownType)),
     },
     Case {
         log: "rma 1 1 3\nend\nload 8 1 INT\n",
-        end: Err((3, FormReason::UnknownVerb)),
+        end: Err((3, FormReason::AfterEnd)),
     },
     Case {
         log: "rma 1 1 3\nload 8 1\nend\n",
         end: Err((2, FormReason::WrongCount)),
     },
     Case {
-        log: "rma 2 1 3\npoll 8 1 INT\nend\n",
+        log: "rma 1 1 3\npoll 8 1 INT\nend\n",
         end: Err((2, FormReason::UnknownVerb)),
+    },
+    Case {
+        log: "rma 2 1 3\npoll 8 1 INT\nend\n",
+        end: Ok(1),
+    },
+    Case {
+        log: "type commit N\nend\n",
+        end: Err((1, FormReason::BadHeader)),
+    },
+    Case {
+        log: "rma 1 1 3\nend\ntype commit N\n",
+        end: Err((3, FormReason::AfterEnd)),
+    },
+    Case {
+        log: "rma 1 1 3\nend\nput W 1 0 1 INT 8 1 INT\n",
+        end: Err((3, FormReason::AfterEnd)),
     },
     Case {
         log: "rma 1 1 3\ncomm C 0,1\nbarrier C\nwin create W C 0 8 1 unified same_op\nwin free W\nend\n",
@@ -369,29 +385,36 @@ static CASES: [Case; 88] = [
     },
 ];
 
-/// The outcome of the log, read in pieces of so many bytes.
-fn ended(
+/// The outcome of the log of a rank, read in pieces of so many bytes.
+pub(crate) fn ended(
     rt: &impl Abort,
     alloc: Global,
-    log: &str,
+    rank: Rank,
+    logs: u32,
+    log: &[u8],
     most: usize,
-) -> Result<Result<usize, (u32, FormReason)>, Fail> {
-    let mut book = RankBook::new(alloc, Rank(1), 3)?;
-    for piece in log.as_bytes().chunks(most.max(1)) {
+) -> Result<BookEnd, Fail> {
+    let mut book = RankBook::new(alloc, rank, logs)?;
+    for piece in log.chunks(most.max(1)) {
         assert!(rt; book.fed() + (piece.len() as u64) < FED);
         book.feed(piece)?;
     }
-    Ok(match book.end()? {
+    Ok(book.end()?)
+}
+
+/// How many calls there are, or the first bad line.
+pub(crate) fn outcome(end: &BookEnd) -> Result<usize, (u32, FormReason)> {
+    match end {
         BookEnd::Calls(calls) => Ok(calls.calls().len()),
         BookEnd::Fault(fault) => Err((fault.line.0, fault.reason)),
-    })
+    }
 }
 
 fn check(rt: &impl Abort, alloc: Global, cases: &[Case]) -> Result<(), Fail> {
     for case in cases {
         for most in [1, 1000] {
-            let end = ended(rt, alloc, case.log, most)?;
-            assert_eq!(rt; end, case.end);
+            let end = ended(rt, alloc, Rank(1), 3, case.log.as_bytes(), most)?;
+            assert_eq!(rt; outcome(&end), case.end);
         }
     }
     Ok(())

@@ -6,10 +6,14 @@
 #[cfg(test)]
 mod book;
 #[cfg(test)]
+mod buffers;
+#[cfg(test)]
 mod call;
 #[cfg(test)]
 mod rank_book;
 #[cfg(test)]
 mod report;
+#[cfg(test)]
+mod shapes;
 #[cfg(test)]
 mod sync;

@@ -4,6 +4,7 @@ use Rattle.std.specs.Option.{option_or}
 use Rattle.rma_base.specs.declared.line.LineNo.{LineNo}
 use Rattle.rma_lex.specs.Checked.{checked_lines}
 use Rattle.rma_lex.specs.Cutting.{Cutting, Represents}
+use Rattle.rma_call.specs.Call.{Call}
 use Rattle.rma_parse.specs.declared.event.Event.{Event}
 use Rattle.rma_parse.specs.declared.event.Stated.{Stated}
 use Rattle.rma_book.specs.Naming.{is_end, named_version}
@@ -78,3 +79,11 @@ GoesOn old new at stated (Some fault) = Refuses old new at stated fault
 -- the reader took or refused a line that states this
 abbrev pub Reads : Reader → Reader → LineNo → Stated → Type 0
 Reads old new at stated = GoesOn old new at stated new.fault
+
+-- the reader has one call more
+pub record Appends (old new : Reader) (call : Call) : Type 0 where
+  pub book : new.book ≡ old.book
+  pub version : new.lines.version ≡ old.lines.version
+  pub calls : new.lines.calls.calls ≡ old.lines.calls.calls ++ call ∷ []
+  pub end : new.end ≡ old.end
+  pub fault : new.fault ≡ old.fault

@@ -2,7 +2,7 @@ use Rattle.std.proofs.Common.{length, ap, sym, ◌∙◌, subst, arith}
 use Rattle.std.proofs.lemmas.Result.{err_from_is_err_and}
 use Rattle.rma_io.specs.Source.{Opened}
 use Rattle.rma_stream.specs.inside.Feeding.{HaveBooks}
-use Rattle.rma_audit.proofs.RunLemmas.{opens_none}
+use Rattle.rma_audit.proofs.RunLemmas.{opens_all, opens_none}
 use Rattle.rma_audit.proofs.program.read_logs.Goals as goal
 
 pub returns-in_err-room-clause-stopped : goal.returns-in_err-room-clause-stopped
@@ -14,6 +14,16 @@ pub returns-in_err-audit-clause-stopped : goal.returns-in_err-audit-clause-stopp
 returns-in_err-audit-clause-stopped g c =
     let p = err_from_is_err_and c.from_residual-in_err-audit.result c.from_residual-in_err-audit.ensures.1 in
     rw (p.1, p.2) (opens_none _ _ c.requires.fresh.names c.requires.fresh.refused, omega (arith, c.requires.fresh.taken))
+
+pub returns-in_err-finish-clause-stopped : goal.returns-in_err-finish-clause-stopped
+returns-in_err-finish-clause-stopped g c =
+    let p = err_from_is_err_and c.from_residual-in_err-finish.result c.from_residual-in_err-finish.ensures.1 in
+    let opened = c.in_ok-read_all.ensures.opened in
+    let all = c.in_ok-open_all.ensures.all in
+    rw (p.1, p.2) (
+      opens_all _ _ (ap (λ (o : Opened). o.names) opened ∙ all.names) (ap (λ (o : Opened). o.refused) opened ∙ all.refused),
+      c.in_ok-read_all.ensures.taken,
+    )
 
 pub returns-clause-judged : goal.returns-clause-judged
 returns-clause-judged g c =

@@ -9,4 +9,4 @@ returns-in-None c = λ version.
     let old = c.args.self.now in
     let event = Header version c.args.rank c.args.size in
     IsJudged_good old _ event (λ events h. sym c.in-None.is ∙ c.header_reason.ensures ∙ sym (of_header old.rank old.logs old events version c.args.rank c.args.size h))
-    (rw (← c.self.view_is) (IsTaken_plain _ _ event refl refl (sym (or_false c.self.inside.ended))))
+    (rw (← c.self.view_is) (IsTaken_plain _ _ event refl refl refl (sym (or_false c.self.inside.ended))))

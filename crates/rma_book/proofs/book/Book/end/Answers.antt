@@ -13,4 +13,4 @@ pub returns-in-None : goal.returns-in-None
 returns-in-None c =
     let old = c.args.self.now in
     IsJudged_good old _ End (λ events h. sym c.in-None.is ∙ c.end_reason.ensures ∙ sym (of_end old.rank old.logs old events h))
-    (rw (← c.self.view_is) (IsTaken_plain _ _ End refl refl (sym (or_true c.self.inside.ended))))
+    (rw (← c.self.view_is) (IsTaken_plain _ _ End refl refl refl (sym (or_true c.self.inside.ended))))

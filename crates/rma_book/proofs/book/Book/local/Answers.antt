@@ -1,0 +1,17 @@
+use Rattle.std.proofs.Common.{◌≡◌, Some, sym, ap, is_none, ◌∙◌}
+use Rattle.std.specs.Option.{option_and_then}
+use Rattle.rma_buffer.specs.Operands.{operand_of}
+use Rattle.rma_buffer.specs.Rules.{memory_reason}
+use Rattle.rma_book.specs.inside.BookState.{BookState}
+use Rattle.rma_book.proofs.AccessLemmas.{local_good}
+use Rattle.rma_book.proofs.book.Book.local.Goals as goal
+
+pub returns-in-Ok-clause-judged : goal.returns-in-Ok-clause-judged
+returns-in-Ok-clause-judged c =
+    let book = c.args.self.now in
+    let memory = c.in-Some-of.memory in
+    let found : operand_of book.types.live c.args.line.now.buffer ≡ Some memory =
+    sym (ap (λ (b : BookState). operand_of b.types.live c.args.line.now.buffer) c.self.view_is) ∙ sym c.of.ensures.is ∙ c.in-Some-of.is in
+    let good = sym (ap (λ (b : BookState). memory_reason b.types.origins memory) c.self.view_is) ∙ c.in-Ok.ensures.taken in
+    local_good book c.args.line.now (sym c.later_reason.ensures ∙ c.in_default.is) (ap is_none found)
+    (ap (option_and_then (memory_reason book.types.origins)) found ∙ good)
