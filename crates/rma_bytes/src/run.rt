@@ -1,7 +1,7 @@
 //! Bytes side by side: where they end, and what two runs make.
 ghost use Rattle.std.specs.Int.{int_min};
 ghost use Rattle.std.specs.Prelude.{◌≡◌, ◌-◌, ◌^◌, ℤ, pos, ◌≤ℤ◌, ◌<ℤ◌, ◌<◌, ◌↔◌, ◌⊎◌, IsTrue};
-ghost use Rattle.rma_bytes.specs.Runs.{end_of, IsByteOf, IsInBounds};
+ghost use Rattle.rma_bytes.specs.Runs.{end_of, IsByteOf, IsInBounds, moved};
 
 /// Bytes side by side.
 #[derive(Clone, Copy, Debug, Default, PartialEq, Eq)]
@@ -25,6 +25,17 @@ pub(crate) fn capped_end(run: Run) -> i64
     ensures { result ≡ int_min (end_of run) (pos (2 ^ 63 - 1)) }
 {
     run.start.saturating_add_unsigned(run.len)
+}
+
+/// The run moved by a distance.
+pub(crate) fn moved(run: Run, by: i64) -> Run
+    requires { IsInBounds (moved by run) }
+    ensures { result ≡ moved by run }
+{
+    Run {
+        start: run.start + by,
+        ..run
+    }
 }
 
 /// The run from the start of `first` to the later of the two ends.

@@ -5,7 +5,7 @@ use crate::distance::{Distance, length};
 use crate::fault::LayoutError;
 
 /// Bytes side by side. They may lie outside the space of addresses.
-#[derive(Clone, Copy, Debug)]
+#[derive(Clone, Copy, Debug, Default)]
 pub(crate) struct Block {
     /// The address of the first byte.
     pub(crate) start: Distance,

@@ -7,7 +7,7 @@ use crate::fault::LayoutError;
 use std::marker::Model;
 
 /// A distance in bytes, which contracts see as the number.
-#[derive(Clone, Copy, Debug)]
+#[derive(Clone, Copy, Debug, Default)]
 pub(crate) struct Distance {
     bytes: i128,
 }

@@ -9,13 +9,14 @@ use crate::block::{Block, end, shifted};
 use crate::distance::{Distance, all_bytes, length};
 use crate::fault::{LayoutError, LayoutFault};
 use rma_base::limits::BLOCKS;
+use smallvec::SmallVec;
 use std::alloc::Global;
 
 /// The blocks that are written so far.
 #[derive(Drop)]
 pub(crate) struct Output {
     /// The blocks in the order of the entries. Where one begins at the end of the one before it, the two count as one.
-    pub(crate) blocks: Vec<Block>,
+    pub(crate) blocks: SmallVec<Block, 4>,
     /// The number of bytes that are still to be written.
     pub(crate) left: u64,
     /// How many blocks do not begin where the one before them ends, the first included.
@@ -55,7 +56,7 @@ fn counted(count: u64, reached: Option<Distance>, block: Block) -> Result<u64, L
 }
 
 /// Puts a block after the others: as a part of the last one, where that ends there and is not one of the first `floor`.
-fn put(blocks: &mut Vec<Block>, floor: usize, block: Block) -> Result<(), LayoutError>
+fn put(blocks: &mut SmallVec<Block, 4>, floor: usize, block: Block) -> Result<(), LayoutError>
     requires { floor ≤ length blocks.old.items }
     ensures bytes { OnOk result (bytes_of blocks.new.items ≡ bytes_of blocks.old.items ++ span block.start block.len) }
     ensures kept { OnOk result (take floor blocks.new.items ≡ take floor blocks.old.items) }
@@ -88,7 +89,7 @@ impl Output {
         ensures floor { result.floor ≡ 0 }
     {
         Output {
-            blocks: Vec::new(alloc),
+            blocks: SmallVec::new(alloc),
             left,
             count: 0,
             reached: None,

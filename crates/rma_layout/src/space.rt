@@ -9,6 +9,7 @@ use crate::block::Block;
 use crate::fault::LayoutError;
 use rma_base::limits::SPACE;
 use rma_bytes::Run;
+use smallvec::SmallVec;
 use std::alloc::Global;
 
 /// Where a buffer lies.
@@ -82,7 +83,7 @@ impl Space {
     }
 
     /// Puts a block of the space after runs, unless it has no byte.
-    fn push_run(self, runs: &mut Vec<Run>, block: &Block) -> Result<(), LayoutError>
+    fn push_run(self, runs: &mut SmallVec<Run, 4>, block: &Block) -> Result<(), LayoutError>
         requires { IsBlockIn self block.now }
         ensures bounds { OnOk result (All IsInBounds runs.old.items → All IsInBounds runs.new.items) }
         ensures bytes { OnOk result ((b : ℤ) → HasByte runs.new.items b ↔ (HasByte runs.old.items b ⊎ IsAmong (span block.now.start block.now.len) b)) }
@@ -98,13 +99,17 @@ impl Space {
     }
 
     /// Blocks of the space, as runs. Those without a byte are left out.
-    pub(crate) fn runs(self, alloc: Global, blocks: &[Block]) -> Result<Vec<Run>, LayoutError>
+    pub(crate) fn runs(
+        self,
+        alloc: Global,
+        blocks: &[Block],
+    ) -> Result<SmallVec<Run, 4>, LayoutError>
         requires { All (IsBlockIn self) blocks.now }
         ensures bounds { IfOk result (λ runs. All IsInBounds runs.items) }
         ensures bytes { IfOk result (λ runs. (b : ℤ) → HasByte runs.items b ↔ IsAmong (bytes_of blocks.now) b) }
         ensures memory { IfErr result (λ e. e ≡ LayoutError.Memory) }
     {
-        let mut runs = Vec::new(alloc);
+        let mut runs = SmallVec::new(alloc);
         'each: for block in blocks {
             if let Err(error) = self.push_run(&mut runs, block) {
                 return Err(error);

@@ -29,7 +29,7 @@ returns-in-Some-clause-ok c = λ start target h some.
     let done = rw c.in-Ok-Done.field-0-is at c.in-Ok-Done.ensures.ok in
     let after : c.seal-in-Ok-Done.new.self ≡ sealed now = c.seal-in-Ok-Done.ensures ∙ ap sealed done.0 in
     let k = c.with_known.ensures in
-    let to = c.len.ensures ∙ c.seal-in-Ok-Done.new.self.blocks.ok.0 ∙ ap (λ (o : Output). length o.blocks.items) after in
+    let to = c.len.ensures.value ∙ ap (λ (o : Output). length o.blocks.items) after in
     subst (λ o. IsExpanding origins start o target c.with_known.result c.pop.new.self.items) (sym after)
     (turn_done origins start now target c.args.top c.in-Some.frame c.with_known.result c.pop.new.self.items c.len.result
     (subst (λ fs. IsExpanding origins start now target c.args.top fs) c.in-Some.ensures.items h) some done.1 to k.id k.by k.from k.next k.row k.known)

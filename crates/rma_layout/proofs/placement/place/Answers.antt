@@ -36,7 +36,7 @@ returns-then-not-has_all-clause-fault c =
     let is : written out ≡ bytes_in es = c.in_default.ensures.ok.bytes_are ∙ ap (λ x. written start ++ take start.left (copies c.args.count x (extent m) (typemap_bytes m))) by
     ∙ all_touched m c.args.count c.args.address c.args.entries start c.new-output.ensures.none (c.new-output.ensures.all ∙ total) in
     refused_space c.args.space es c.args.entries out c.in_default.ensures.ok.sound is (omega arith)
-    (λ h. false≢true (c.if-not-has_all.ensures.1 (subst (All (IsBlockIn c.args.space)) (sym c.as_slice.ensures.value) h)))
+    (λ h. false≢true (c.if-not-has_all.ensures.1 (subst (All (IsBlockIn c.args.space)) (sym c.as_slice.ensures) h)))
 
 pub returns-clause-ok : goal.returns-clause-ok
 returns-clause-ok c =
@@ -50,9 +50,10 @@ returns-clause-ok c =
     ∙ all_touched m c.args.count c.args.address c.args.entries start c.new-output.ensures.none (c.new-output.ensures.all ∙ total) in
     let given = c.in_ok-blocks.blocks.items in
     let bytes : (b : ℤ) → HasByte given b ↔ IsAmong (bytes_of out.blocks.items) b =
-    λ b. subst (λ bs. HasByte given b ↔ IsAmong (bytes_of bs) b) c.as_slice-2.ensures.value (c.in_ok-blocks.ensures.bytes b) in
-    layout_of es out.blocks.items is given c.in-Ok.runs c.in_ok-total.total total bytes (subst (λ rs. SameBytes c.in-Ok.runs rs) c.as_slice-3.ensures.value c.in-Ok.ensures.bytes) c.in-Ok.ensures.canonical
-    c.common_element.result c.bytes_of.result c.bytes_of.ensures (c.common_element.ensures c.args.count c.args.address c.requires.there)
+    λ b. subst (λ bs. HasByte given b ↔ IsAmong (bytes_of bs) b) c.as_slice-2.ensures (c.in_ok-blocks.ensures.bytes b) in
+    rw c.in-Ok-from_runs.ensures.same
+    (layout_of es out.blocks.items is given c.in-Ok.runs c.in_ok-total.total total bytes (subst (λ rs. SameBytes c.in-Ok.runs rs) c.as_slice-3.ensures c.in-Ok.ensures.bytes) c.in-Ok.ensures.canonical
+    c.common_element.result c.bytes_of.result c.bytes_of.ensures (c.common_element.ensures c.args.count c.args.address c.requires.there))
 
 pub returns-clause-taken : goal.returns-clause-taken
 returns-clause-taken c =
@@ -65,4 +66,4 @@ returns-clause-taken c =
     let is : written out ≡ bytes_in es = c.in_default.ensures.ok.bytes_are ∙ ap (λ x. written start ++ take start.left (copies c.args.count x (extent m) (typemap_bytes m))) by
     ∙ all_touched m c.args.count c.args.address c.args.entries start c.new-output.ensures.none (c.new-output.ensures.all ∙ total) in
     taken c.args.space es c.args.entries out c.in_default.ensures.ok.sound is (omega arith)
-    (subst (All (IsBlockIn c.args.space)) c.as_slice.ensures.value (c.if-not-has_all.ensures.0 refl))
+    (subst (All (IsBlockIn c.args.space)) c.as_slice.ensures (c.if-not-has_all.ensures.0 refl))

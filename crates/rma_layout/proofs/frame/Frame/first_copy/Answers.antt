@@ -27,7 +27,7 @@ returns-clause-ok c =
         goes = goes_on origins f g h.id h.by h.from h.known (subst (λ (x : TypeId). x.0 < length origins) (sym h.old) c.requires.within);
         id = subst (λ (x : TypeId). x.0 < length origins) (sym k.id) c.requires.within;
         row = subst (λ (x : TypeId). x.0 < length origins) (sym k.old) c.requires.within;
-        from = k.from ∙ c.len.ensures ∙ c.args.output.now.blocks.ok.0;
+        from = k.from ∙ c.len.ensures.value;
         known = k.known;
         all = all_of_new origins inner c.in-Some.field-0.now k.next k.count
             (subst (λ (x : TypeId). Some (Some c.in-Some.field-0.now) ≡ option_map constructor_of (slice_get origins x.0)) (sym k.id) c.in-Some.ensures.value)

@@ -7,8 +7,8 @@ same_copies : (c : goal.After-push_copies) → copies c.args.count (pos 0) c.arg
     ≡ copies c.args.count c.args.stride c.args.stride (bytes_of (drop c.args.from c.args.self.now.blocks.items))
 same_copies c =
     let items = c.args.self.now.blocks.items in
-    let number : c.len-to.result ≡ length items = c.len-to.ensures ∙ c.args.self.now.blocks.ok.0 in
-    copies_of_only items c.args.from c.args.count c.args.stride c.index-block.result.now c.in_ok-shifted.field-0 (omega (arith, number, c.if-to-from-eq1.true)) c.index-block.ensures
+    let number : c.len-to.result ≡ length items = c.len-to.ensures.value in
+    copies_of_only items c.args.from c.args.count c.args.stride c.index-deref-from.result c.in_ok-shifted.field-0 (omega (arith, number, c.if-to-from-eq1.true)) (rw c.deref.ensures at c.index-deref-from.is)
     c.in_ok-shifted.ensures.start c.in_ok-shifted.ensures.len
 
 pub returns-then-to-from-eq1-clause-ok : goal.returns-then-to-from-eq1-clause-ok
@@ -24,13 +24,13 @@ copy_rows-requires-clause-sound c = rw c.seal.ensures (sealed_is_sound c.args.se
 
 pub copy_rows-requires-clause-within : goal.copy_rows-requires-clause-within
 copy_rows-requires-clause-within c =
-    let number : c.len-to.result ≡ length c.args.self.now.blocks.items = c.len-to.ensures ∙ c.args.self.now.blocks.ok.0 in
+    let number : c.len-to.result ≡ length c.args.self.now.blocks.items = c.len-to.ensures.value in
     rw c.seal.ensures (omega (arith, number))
 
 all_copied : (c : goal.After-copy_rows) → copies c.args.count c.args.stride c.args.stride (bytes_of (drop c.args.from (take c.len-to.result c.args.self.now.blocks.items)))
     ≡ copies c.args.count c.args.stride c.args.stride (bytes_of (drop c.args.from c.args.self.now.blocks.items))
 all_copied c =
-    let number : c.len-to.result ≡ length c.args.self.now.blocks.items = c.len-to.ensures ∙ c.args.self.now.blocks.ok.0 in
+    let number : c.len-to.result ≡ length c.args.self.now.blocks.items = c.len-to.ensures.value in
     ap (λ bs. copies c.args.count c.args.stride c.args.stride (bytes_of (drop c.args.from bs))) (take_all c.len-to.result c.args.self.now.blocks.items (omega (arith, number)))
 
 pub returns-clause-ok : goal.returns-clause-ok

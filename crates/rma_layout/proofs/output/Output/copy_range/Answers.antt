@@ -17,10 +17,10 @@ pub returns-in-Err-clause-fault : goal.returns-in-Err-clause-fault
 returns-in-Err-clause-fault c =
     let o = c.args.self.now in
     let p = c.range.self in
-    let b : Block = c.index-block.result.now in
+    let b : Block = c.index-deref-i.result in
     let copy : Block = c.in_ok-copy.copy in
     let fits = c.requires.sound.floor in
-    let at = read_kept p.blocks.items o.blocks.items o.floor c.range.i b (omega (arith, c.requires.within)) c.range.invariant.kept c.index-block.ensures in
+    let at = read_kept p.blocks.items o.blocks.items o.floor c.range.i b (omega (arith, c.requires.within)) c.range.invariant.kept (rw c.deref.ensures at c.index-deref-i.is) in
     range_refused o p c.args.by c.args.from c.range.i c.args.to o.blocks.items c.range.auto.i (omega (arith, c.requires.within)) b c.range-test.true at c.in-Err.error c.range.invariant
     (refuses_same p _ _ c.in-Err.error (same_block copy.start (c.args.by +ℤ b.start) copy.len b.len c.in_ok-copy.ensures.start c.in_ok-copy.ensures.len) c.in-Err.ensures.fault)
 
@@ -28,9 +28,9 @@ pub range-preserved : goal.range-preserved
 range-preserved c =
     let o = c.args.self.now in
     let p = c.range.self in
-    let b : Block = c.index-block.result.now in
+    let b : Block = c.index-deref-i.result in
     let copy : Block = c.in_ok-copy.copy in
     let fits = c.requires.sound.floor in
-    let at = read_kept p.blocks.items o.blocks.items o.floor c.range.i b (omega (arith, c.requires.within)) c.range.invariant.kept c.index-block.ensures in
+    let at = read_kept p.blocks.items o.blocks.items o.floor c.range.i b (omega (arith, c.requires.within)) c.range.invariant.kept (rw c.deref.ensures at c.index-deref-i.is) in
     range_step o p c.args.by c.args.from c.range.i c.args.to o.blocks.items c.range.auto.i (omega (arith, c.requires.within)) b c.range-test.true at c.push.new.self c.range.invariant
     (appends_same p c.push.new.self _ _ (same_block copy.start (c.args.by +ℤ b.start) copy.len b.len c.in_ok-copy.ensures.start c.in_ok-copy.ensures.len) c.in_default.ensures.ok)

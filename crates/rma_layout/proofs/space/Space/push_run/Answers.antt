@@ -6,4 +6,4 @@ returns-then-block-eq0-clause-bytes c = no_run_more c.args.runs.now.items c.args
 
 pub returns-in-Ok-clause-bytes : goal.returns-in-Ok-clause-bytes
 returns-in-Ok-clause-bytes c =
-    run_more c.args.runs.now.items c.push.new.self.items c.run.result c.args.block.now.start c.args.block.now.len c.in-Ok.ensures.items c.run.ensures.start c.run.ensures.len
+    run_more c.args.runs.now.items c.push.new.self.items c.run.result c.args.block.now.start c.args.block.now.len c.in-Ok.ensures.ok c.run.ensures.start c.run.ensures.len
