@@ -1,7 +1,7 @@
 -- The calls of lines, where their buffers are good.
 use Rattle.std.proofs.Common.{◌≡◌, ℕ, List, Bool, true, false, not, Option, Some, None, is_none, is_some, Result, Ok, Err, OnOk, option_map, refl, sym, ap, ◌∙◌}
 use Rattle.rma_base.specs.declared.form_reason.FormReason.{FormReason}
-use Rattle.rma_bytes.specs.declared.layout.Layout.{Layout}
+use Rattle.rma_bytes.specs.Layout.{Layout}
 use Rattle.rma_call.specs.declared.local.LocalAccess.{LocalAccess}
 use Rattle.rma_call.specs.declared.local.LocalCall.{LocalCall}
 use Rattle.rma_call.specs.declared.rma.RmaCall.{RmaCall}

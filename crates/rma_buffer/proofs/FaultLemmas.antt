@@ -5,7 +5,7 @@ use Rattle.std.proofs.lemmas.Bool.{le-ltb}
 use Rattle.std.proofs.lemmas.List.Folds.{list_any-append}
 use Rattle.rma_base.specs.Limits.{element_limit}
 use Rattle.rma_base.specs.declared.form_reason.FormReason.TheVariants as reason
-use Rattle.rma_bytes.specs.declared.layout.Layout.{Layout}
+use Rattle.rma_bytes.specs.Layout.{Layout}
 use Rattle.rma_call.specs.declared.rma.RmaKind.{RmaKind}
 use Rattle.rma_layout.specs.Refusal.{first_fault, is_all_in, refusal}
 use Rattle.rma_layout.specs.declared.fault.LayoutFault.{LayoutFault}

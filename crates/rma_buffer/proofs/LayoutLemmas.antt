@@ -7,7 +7,7 @@ use Rattle.std.proofs.lemmas.Int.{ints, int_max_is}
 use Rattle.rma_base.proofs.NameLemmas.{and_left, and_right}
 use Rattle.rma_base.specs.Limits.{address_limit, block_limit, element_limit}
 use Rattle.rma_bytes.proofs.RunLemmas.{canonical_unique}
-use Rattle.rma_bytes.specs.declared.layout.Layout.{Layout}
+use Rattle.rma_bytes.specs.Layout.{Layout}
 use Rattle.rma_bytes.specs.declared.run.Run.{Run}
 use Rattle.rma_bytes.specs.Runs.{HasByte, IsCanonical, IsInBounds}
 use Rattle.rma_layout.proofs.SignatureLemmas.{size_some}

@@ -1,7 +1,7 @@
 -- The calls that lines make of their buffers.
 use Rattle.std.specs.Prelude.{ℕ, List, Option, Some, None, is_none, option_map, if◌then◌else◌}
 use Rattle.rma_base.specs.declared.rank.Rank.{Rank}
-use Rattle.rma_bytes.specs.declared.layout.Layout.{Layout}
+use Rattle.rma_bytes.specs.Layout.{Layout}
 use Rattle.rma_call.specs.declared.rma.RmaCall.{RmaCall}
 use Rattle.rma_call.specs.declared.rma.RmaKind.{RmaKind}
 use Rattle.rma_call.specs.declared.local.LocalAccess.{LocalAccess}

@@ -6,7 +6,7 @@ use Rattle.std.specs.Cmp.Lexicographic.{pointwise}
 use Rattle.rma_datatype.specs.declared.basic.Basic.{Basic}
 use Rattle.rma_datatype.specs.Basic.{basic_size, basic_word}
 use Rattle.rma_bytes.specs.declared.run.Run.{Run}
-use Rattle.rma_bytes.specs.declared.layout.Layout.{Layout}
+use Rattle.rma_bytes.specs.Layout.{Layout}
 use Rattle.rma_bytes.specs.Runs as run
 use Rattle.rma_typemap.specs.Typemap.{start_of, end_of}
 

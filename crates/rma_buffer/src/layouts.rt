@@ -172,7 +172,7 @@ fn overlap(kind: RmaKind, layouts: &Layouts) -> bool
 {
     let written = match kind {
         RmaKind::Get => overlaps_if(&layouts.origin),
-        _ => layouts.target.overlaps,
+        _ => layouts.target.overlaps(),
     };
     written || overlaps_if(&layouts.result)
 }
@@ -182,7 +182,7 @@ fn overlaps_if(layout: &Option<Layout>) -> bool
     ensures { result ≡ overlaps_if layout.now }
 {
     match layout {
-        Some(layout) => layout.overlaps,
+        Some(layout) => layout.overlaps(),
         None => false,
     }
 }

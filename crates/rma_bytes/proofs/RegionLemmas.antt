@@ -51,3 +51,7 @@ moved_at_within a runs i run at good =
     let there = moved_at a runs i run at in
     let lt = slice_get_within (map (moved a) runs) i (moved a run) there in
     rw (get_or_from_slice_get (map (moved a) runs) i (moved a run) (moved a run) there) at (canonical_at (map (moved a) runs) i (moved a run) good lt).0
+
+-- so does where a run within the bounds starts
+pub start_fits : (run : Run) → IsInBounds run → SFits w64 run.start
+start_fits run bounds = let low = bounds.0 in let high = bounds.1 in omega (arith, ints)

@@ -2,8 +2,10 @@
 //!
 //! A [`Run`] is bytes side by side, and [`Runs`] a set of bytes, as the one ascending list of runs that has them: equal sets
 //! are equal lists ([`laws`]). A set is made of blocks in any order by a sort, two sets are compared by one walk over both
-//! lists, and one run by a binary search. A [`Region`] is such a set, as calls keep it: where it has several runs, it shares them
-//! with the regions that differ by a distance alone. A [`Layout`] is the bytes that a call touches in a buffer.
+//! lists, and one run by a binary search.
+//!
+//! A [`Layout`] is the bytes that a call touches in a buffer. A log has millions of them, most of a few entries side by side,
+//! which take 16 bytes; the others share their runs with the layouts that differ by a distance alone.
 #![tactic(auto)]
 
 pub mod laws;
@@ -17,6 +19,5 @@ mod runs;
 mod search;
 
 pub use layout::Layout;
-pub use region::Region;
 pub use run::Run;
 pub use runs::Runs;

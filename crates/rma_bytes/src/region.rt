@@ -1,5 +1,5 @@
 //! Sets of bytes that share their runs.
-ghost use Rattle.std.specs.Prelude.{◌≡◌, ◌<◌, ◌≤◌, length, map, [], ℤ, ◌+ℤ◌, IfOk, IsOk, IsTrue, ◌↔◌, slice_get, Some};
+ghost use Rattle.std.specs.Prelude.{◌≡◌, ◌<◌, ◌≤◌, length, map, ℤ, ◌+ℤ◌, IfOk, IsOk, slice_get, Some};
 ghost use Rattle.rma_bytes.specs.Runs.{HasByte, IsCanonical, IsWithinBounds, moved};
 
 use crate::run::{Run, moved};
@@ -9,10 +9,10 @@ use std::alloc::Global;
 use std::marker::Model;
 use std::rc::Rc;
 
-/// A set of bytes that a call touches. Contracts see it as the runs of the set. A single run lies in the value itself; more are
-/// shared by all regions that differ by a distance alone, so that the column of a matrix takes as little as one number.
+/// A set of bytes. Contracts see it as the runs of the set. A single run lies in the value itself; more are shared by all regions
+/// that differ by a distance alone.
 #[derive(Debug, Drop)]
-pub struct Region {
+pub(crate) struct Region {
     stored: Stored,
 }
 
@@ -41,7 +41,7 @@ impl Model for Region {
 
 impl Region {
     /// The region of these bytes. Bytes side by side take no memory.
-    pub fn from_runs(alloc: Global, runs: Runs) -> Result<Region, Memory>
+    pub(crate) fn from_runs(alloc: Global, runs: Runs) -> Result<Region, Memory>
         ensures same { IfOk result (λ region. region ≡ runs) }
         ensures short { length runs < 2 → IsOk result }
     {
@@ -69,7 +69,7 @@ impl Region {
     }
 
     /// The region with each byte moved by a distance, which must leave the bytes within the bounds. It takes no memory.
-    pub fn moved(&self, by: i64) -> Result<Region, Memory>
+    pub(crate) fn moved(&self, by: i64) -> Result<Region, Memory>
         requires { (b : ℤ) → HasByte self.now b → IsWithinBounds (b +ℤ by) }
         ensures moved { IfOk result (λ region. region ≡ map (moved by) self.now) }
         ensures short { length self.now < 2 → IsOk result }
@@ -89,7 +89,7 @@ impl Region {
     }
 
     /// The number of runs.
-    pub fn len(&self) -> usize
+    pub(crate) fn len(&self) -> usize
         ensures { result ≡ length self.now }
     {
         match &self.stored {
@@ -99,15 +99,8 @@ impl Region {
         }
     }
 
-    /// Whether the region has no byte.
-    pub fn is_empty(&self) -> bool
-        ensures { IsTrue result ↔ (self.now ≡ []) }
-    {
-        self.len() == 0
-    }
-
     /// The run at an index, from 0, in ascending order.
-    pub fn get(&self, i: usize) -> Run
+    pub(crate) fn get(&self, i: usize) -> Run
         requires { i < length self.now }
         ensures { slice_get self.now i ≡ Some result }
     {

@@ -149,11 +149,11 @@ static LOCALS: [(&str, LocalAccess, Shape); 3] = [
 
 fn check_shape(rt: &impl Abort, layout: &Layout, shape: Shape, lines: &str) {
     let (runs, element, overlaps) = shape;
-    assert!(rt; layout.element == element, "{lines}");
-    assert!(rt; layout.overlaps == overlaps, "{lines}");
-    assert!(rt; layout.runs.len() == runs.len(), "{lines}");
-    for i in 0..layout.runs.len() {
-        let run = layout.runs.get(i);
+    assert!(rt; layout.element() == element, "{lines}");
+    assert!(rt; layout.overlaps() == overlaps, "{lines}");
+    assert!(rt; layout.len() == runs.len(), "{lines}");
+    for i in 0..layout.len() {
+        let run = layout.get(i);
         assert_eq!(rt; (run.start, run.len), runs[i], "{lines}");
     }
 }

@@ -1,7 +1,7 @@
 //! Layouts against a plain listing of the touched elements.
 use crate::plan::{Plan, name};
 use crate::typemap::{MADE, make, make_known};
-use rma_bytes::{Layout, Runs};
+use rma_bytes::Layout;
 use rma_datatype::{Basic, Order};
 use rma_layout::{LayoutError, LayoutFault, Space, place};
 use rma_type::{Component, TypeId, TypeTable};
@@ -206,11 +206,11 @@ fn touched(
     Ok((bytes, basics))
 }
 
-/// The bytes of a set, in ascending order.
-fn bytes_of(alloc: Global, runs: &Runs) -> Result<Vec<i64>, Fail> {
+/// The bytes of a layout, in ascending order.
+fn bytes_of(alloc: Global, layout: &Layout) -> Result<Vec<i64>, Fail> {
     let mut bytes = Vec::new(alloc);
-    for i in 0..runs.len() {
-        let run = runs.get(i);
+    for i in 0..layout.len() {
+        let run = layout.get(i);
         let mut at = run.start;
         for _k in 0..run.len {
             bytes.push(at)?;
@@ -235,8 +235,8 @@ fn is_layout(
         [first, ..] if basics.iter().all(|basic| *basic == *first) => Some(*first),
         _ => None,
     };
-    let same = bytes_of(alloc, &layout.runs)?.as_slice() == bytes.as_slice();
-    Ok(same && layout.overlaps == (bytes.len() < all) && layout.element == element)
+    let same = bytes_of(alloc, layout)?.as_slice() == bytes.as_slice();
+    Ok(same && layout.overlaps() == (bytes.len() < all) && layout.element() == element)
 }
 
 /// Whether a byte lies outside the space.

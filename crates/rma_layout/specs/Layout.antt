@@ -1,7 +1,7 @@
 -- What a layout says of the entries that are touched (MPI 4.0, "Datatypes").
 use Rattle.std.specs.Prelude.{◌≡◌, ◌≢◌, ℤ, ◌≤ℤ◌, ◌<ℤ◌, List, [], ◌∷◌, All, Option, Some, None, ◌⊎◌, ◌↔◌, IsTrue}
 use Rattle.rma_datatype.specs.declared.basic.Basic.{Basic}
-use Rattle.rma_bytes.specs.declared.layout.Layout.{Layout}
+use Rattle.rma_bytes.specs.Layout.{Layout}
 use Rattle.rma_bytes.specs.Runs.{HasByte, IsCanonical}
 use Rattle.rma_typemap.specs.Typemap.{start_of, end_of}
 

@@ -14,7 +14,7 @@ use crate::overlap::bytes_of;
 use crate::prefix::{common_element, touched_bytes};
 use crate::space::Space;
 use rma_base::limits::ELEMENTS;
-use rma_bytes::{Layout, Region, Runs};
+use rma_bytes::{Layout, Runs};
 use rma_type::{TypeId, TypeTable};
 
 /// The layout of the first `entries` elements of `count` copies of a datatype at an address.
@@ -55,12 +55,9 @@ pub fn place(
         return Err(LayoutError::Memory);
     };
     let overlaps = bytes_of(&runs) < total;
-    let Ok(runs) = Region::from_runs(alloc, runs) else {
-        return Err(LayoutError::Memory);
-    };
-    Ok(Layout {
-        runs,
-        element: common_element(types, datatype, entries),
-        overlaps,
-    })
+    let element = common_element(types, datatype, entries);
+    match Layout::new(alloc, runs, element, overlaps) {
+        Ok(layout) => Ok(layout),
+        Err(_) => Err(LayoutError::Memory),
+    }
 }

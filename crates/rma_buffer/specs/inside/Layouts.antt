@@ -2,7 +2,7 @@
 use Rattle.std.specs.Prelude.{◌≡◌, ℕ, ◌≤◌, Bool, true, false, ◌||◌, List, [], ◌∷◌, Option, Some, None, option_map, Result, Ok, Err, IfSome, if◌then◌else◌}
 use Rattle.rma_base.specs.declared.form_reason.FormReason.{FormReason}
 use Rattle.rma_base.specs.declared.form_reason.FormReason.TheVariants as reason
-use Rattle.rma_bytes.specs.declared.layout.Layout.{Layout}
+use Rattle.rma_bytes.specs.Layout.{Layout}
 use Rattle.rma_call.specs.declared.rma.RmaKind.{RmaKind}
 use Rattle.rma_call.specs.declared.rma.RmaKind.TheVariants.{Get}
 use Rattle.rma_layout.specs.declared.fault.LayoutFault.{LayoutFault}

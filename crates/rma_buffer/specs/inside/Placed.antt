@@ -1,6 +1,6 @@
 -- What became of a buffer that was laid out.
 use Rattle.std.specs.Prelude.{◌≡◌, ℕ, List, Option, Some, None, Result, Ok, Err}
-use Rattle.rma_bytes.specs.declared.layout.Layout.{Layout}
+use Rattle.rma_bytes.specs.Layout.{Layout}
 use Rattle.rma_layout.specs.declared.fault.LayoutFault.{LayoutFault}
 use Rattle.rma_layout.specs.declared.space.Space.{Space}
 use Rattle.rma_layout.specs.declared.space.Space.TheVariants.{Local}

@@ -12,7 +12,7 @@ use Rattle.rma_call.specs.declared.rma.RmaCall.{RmaCall}
 use Rattle.rma_call.specs.declared.rma.RmaKind.TheVariants.{CompareAndSwap}
 use Rattle.rma_call.specs.declared.local.LocalCall.{LocalCall}
 use Rattle.rma_call.specs.declared.local.LocalAccess.TheVariants.{Load}
-use Rattle.rma_bytes.specs.declared.layout.Layout.{Layout}
+use Rattle.rma_bytes.specs.Layout.{Layout}
 use Rattle.rma_call.specs.declared.what.SyncCall.TheVariants as sync
 use Rattle.rma_call.specs.declared.groups.Groups.{Groups}
 use Rattle.rma_call.specs.declared.groups.Place.{Place}

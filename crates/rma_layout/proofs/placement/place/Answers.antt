@@ -38,8 +38,8 @@ returns-then-not-has_all-clause-fault c =
     refused_space c.args.space es c.args.entries out c.in_default.ensures.ok.sound is (omega arith)
     (λ h. false≢true (c.if-not-has_all.ensures.1 (subst (All (IsBlockIn c.args.space)) (sym c.as_slice.ensures) h)))
 
-pub returns-clause-ok : goal.returns-clause-ok
-returns-clause-ok c =
+pub returns-in-Ok-new-clause-ok : goal.returns-in-Ok-new-clause-ok
+returns-in-Ok-new-clause-ok c =
     let m = typemap_in (typemaps c.args.types.now.origins) c.args.datatype in
     let out = c.write_copies.new.output in
     let es = touched m c.args.count c.args.address c.args.entries in
@@ -51,12 +51,12 @@ returns-clause-ok c =
     let given = c.in_ok-blocks.blocks.items in
     let bytes : (b : ℤ) → HasByte given b ↔ IsAmong (bytes_of out.blocks.items) b =
     λ b. subst (λ bs. HasByte given b ↔ IsAmong (bytes_of bs) b) c.as_slice-2.ensures (c.in_ok-blocks.ensures.bytes b) in
-    rw c.in-Ok-from_runs.ensures.same
+    rw c.in-Ok-new.ensures
     (layout_of es out.blocks.items is given c.in-Ok.runs c.in_ok-total.total total bytes (subst (λ rs. SameBytes c.in-Ok.runs rs) c.as_slice-3.ensures c.in-Ok.ensures.bytes) c.in-Ok.ensures.canonical
-    c.common_element.result c.bytes_of.result c.bytes_of.ensures (c.common_element.ensures c.args.count c.args.address c.requires.there))
+    c.common_element-element.result c.bytes_of.result c.bytes_of.ensures (c.common_element-element.ensures c.args.count c.args.address c.requires.there))
 
-pub returns-clause-taken : goal.returns-clause-taken
-returns-clause-taken c =
+pub returns-in-Ok-new-clause-taken : goal.returns-in-Ok-new-clause-taken
+returns-in-Ok-new-clause-taken c =
     let m = typemap_in (typemaps c.args.types.now.origins) c.args.datatype in
     let out = c.write_copies.new.output in
     let es = touched m c.args.count c.args.address c.args.entries in
