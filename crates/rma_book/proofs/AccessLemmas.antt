@@ -3,10 +3,10 @@ use Rattle.std.proofs.Common.{◌≡◌, ℕ, Bool, true, false, List, [], ◌�
 use Rattle.std.specs.Option.{option_or}
 use Rattle.rma_base.specs.declared.form_reason.FormReason.{FormReason}
 use Rattle.rma_base.specs.declared.form_reason.FormReason.TheVariants.{UnknownComm, UnknownWindow, UnknownRequest, UnknownType, NameInUse}
-use Rattle.rma_parse.specs.declared.event.Event.{Event}
-use Rattle.rma_parse.specs.declared.event.Event.TheVariants.{Datatype, Local}
-use Rattle.rma_parse.specs.declared.event.local_line.LocalLine.{LocalLine}
-use Rattle.rma_parse.specs.declared.event.type_line.TypeLine.{TypeLine}
+use Rattle.rma_form.specs.declared.event.Event.{Event}
+use Rattle.rma_form.specs.declared.event.Event.TheVariants.{Datatype, Local}
+use Rattle.rma_form.specs.declared.event.local_line.LocalLine.{LocalLine}
+use Rattle.rma_form.specs.declared.event.type_line.TypeLine.{TypeLine}
 use Rattle.rma_type.specs.Table.{Table}
 use Rattle.rma_book.specs.Judging.{first_that_holds, is_of_another_log, lacks_comm, lacks_request, lacks_type, lacks_window, name_reason, reason_of, takes_used_name, type_reason, use_reason}
 use Rattle.rma_book.specs.Naming.{Attributes, attributes_of, is_end, is_header, no_attributes}

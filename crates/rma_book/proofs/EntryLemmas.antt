@@ -4,7 +4,7 @@ use Rattle.std.specs.Prelude.{option_to_list, unwrap_or}
 use Rattle.std.specs.Option.{option_or}
 use Rattle.std.proofs.lemmas.List.{append-nil, map-append}
 use Rattle.rma_base.specs.declared.version.Version.TheVariants.{One}
-use Rattle.rma_parse.specs.declared.event.Event.{Event}
+use Rattle.rma_form.specs.declared.event.Event.{Event}
 use Rattle.rma_book.specs.Latest.{latest}
 use Rattle.rma_book.specs.Naming.{is_end, named_version}
 use Rattle.rma_book.specs.Calls.{Entry, call_of, calls_behind, calls_of, end_line, event_of, events_of, version_of}

@@ -7,9 +7,9 @@ use Rattle.rma_base.specs.declared.rank.Rank.{Rank}
 use Rattle.rma_base.specs.declared.version.Version.{Version}
 use Rattle.rma_base.specs.declared.form_reason.FormReason.{FormReason}
 use Rattle.rma_base.specs.declared.form_reason.FormReason.TheVariants.{BadHeader, WrongHeader, AfterEnd, UnknownComm, UnknownWindow, RequestPending}
-use Rattle.rma_parse.specs.declared.event.Event.{Event}
+use Rattle.rma_form.specs.declared.event.Event.{Event}
 use Rattle.rma_call.specs.declared.what.SyncCall.{SyncCall}
-use Rattle.rma_parse.specs.declared.event.Event.TheVariants.{Header, End, Call}
+use Rattle.rma_form.specs.declared.event.Event.TheVariants.{Header, End, Call}
 use Rattle.rma_book.specs.Naming.{Attributes, attributes_of, no_attributes, on_comm, on_window, is_header, is_end}
 use Rattle.rma_book.specs.Judging.{is_of_another_log, place_reason, name_reason, use_reason, lacks_type, type_reason, reason_of}
 use Rattle.rma_book.specs.Types.{is_datatype, types_after}

@@ -15,9 +15,9 @@ use Rattle.rma_lex.specs.Cutting.{Cutting}
 use Rattle.rma_lex.specs.Cutting as cutting
 use Rattle.rma_lex.proofs.CheckLemmas.{length_checked_lines}
 use Rattle.rma_lex.proofs.CutterLemmas.{handed_stay}
-use Rattle.rma_parse.specs.declared.event.Event.{Event}
-use Rattle.rma_parse.specs.declared.event.Stated.{Stated}
-use Rattle.rma_parse.specs.Lines.{reading}
+use Rattle.rma_form.specs.declared.event.Event.{Event}
+use Rattle.rma_form.specs.declared.event.Stated.{Stated}
+use Rattle.rma_form.specs.Lines.{reading}
 use Rattle.rma_reader.specs.Reading.{Reading, Grows}
 use Rattle.rma_book.specs.Naming.{is_end, named_version}
 use Rattle.rma_book.specs.Judging.{reason_of}

@@ -5,7 +5,7 @@ use Rattle.std.specs.List.{list_any}
 use Rattle.std.specs.Map.{lookup}
 use Rattle.std.specs.Option.{option_or}
 use Rattle.std.proofs.lemmas.List.Folds.{list_any-append}
-use Rattle.rma_parse.specs.declared.event.Event.{Event}
+use Rattle.rma_form.specs.declared.event.Event.{Event}
 use Rattle.rma_book.specs.Latest.{latest}
 use Rattle.rma_book.specs.Naming.{attributes_of, is_end}
 use Rattle.rma_book.specs.Names.{is_same, of_name, pending, request_state, request_change, made_by, awaited_by, makes, waits}

@@ -9,12 +9,12 @@ use Rattle.rma_base.specs.declared.form_reason.FormReason.TheVariants.{UnknownTy
 use Rattle.rma_type.specs.declared.fault.TypeFault.{TypeFault}
 use Rattle.rma_type.specs.declared.fault.TypeFault.TheVariants as fault
 use Rattle.rma_datatype.specs.declared.make.Make.{Make}
-use Rattle.rma_parse.specs.declared.event.Event.{Event}
-use Rattle.rma_parse.specs.declared.event.Event.TheVariants.{Header, End, Call, Datatype, Rma, Local}
-use Rattle.rma_parse.specs.declared.event.rma_line.Access.{Access}
-use Rattle.rma_parse.specs.declared.event.rma_line.Buffer.{Buffer}
-use Rattle.rma_parse.specs.declared.event.type_line.TypeLine.{TypeLine}
-use Rattle.rma_parse.specs.declared.event.type_line.TypeLine.TheVariants.{Make as Made, Commit, Free}
+use Rattle.rma_form.specs.declared.event.Event.{Event}
+use Rattle.rma_form.specs.declared.event.Event.TheVariants.{Header, End, Call, Datatype, Rma, Local}
+use Rattle.rma_form.specs.declared.event.rma_line.Access.{Access}
+use Rattle.rma_form.specs.declared.event.rma_line.Buffer.{Buffer}
+use Rattle.rma_form.specs.declared.event.type_line.TypeLine.{TypeLine}
+use Rattle.rma_form.specs.declared.event.type_line.TypeLine.TheVariants.{Make as Made, Commit, Free}
 use Rattle.rma_type.specs.declared.id.TypeId.{TypeId}
 use Rattle.rma_type.specs.declared.origin.Origin.TheVariants.{Derived}
 use Rattle.rma_type.specs.Change.{IsMade, IsCommitted, IsFreed}

@@ -3,9 +3,9 @@ use Rattle.std.specs.Prelude.{ℕ, List, [], ◌∷◌, ◌++◌, map, Option, S
 use Rattle.rma_base.specs.declared.line.LineNo.{LineNo}
 use Rattle.rma_base.specs.declared.version.Version.{Version}
 use Rattle.rma_base.specs.declared.version.Version.TheVariants.{One}
-use Rattle.rma_parse.specs.declared.event.Event.{Event}
-use Rattle.rma_parse.specs.declared.event.Event.TheVariants as event
-use Rattle.rma_parse.specs.declared.event.Stated.{Stated}
+use Rattle.rma_form.specs.declared.event.Event.{Event}
+use Rattle.rma_form.specs.declared.event.Event.TheVariants as event
+use Rattle.rma_form.specs.declared.event.Stated.{Stated}
 use Rattle.rma_book.specs.Latest.{latest}
 use Rattle.rma_book.specs.Naming.{attributes_of, is_end, named_version}
 use Rattle.rma_book.specs.Names.{request_number}

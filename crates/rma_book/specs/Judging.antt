@@ -6,10 +6,10 @@ use Rattle.rma_base.specs.Limits.{address_limit}
 use Rattle.rma_base.specs.declared.form_reason.FormReason.{FormReason}
 use Rattle.rma_base.specs.declared.form_reason.FormReason.TheVariants.{BadHeader, WrongHeader, AfterEnd, UnknownComm, UnknownWindow, UnknownRequest, UnknownType, NameInUse, RankTooLarge, NotInGroup, WrongWait, NegativeCount, BadSubarray, TooManyElements, OutOfSpace, RequestPending, RootNotMember, NotDynamic}
 use Rattle.rma_base.specs.RankSet.{has_number}
-use Rattle.rma_parse.specs.declared.event.Event.{Event}
-use Rattle.rma_parse.specs.declared.event.Event.TheVariants.{Header, Datatype, Rma, Local}
-use Rattle.rma_parse.specs.declared.event.type_line.TypeLine.{TypeLine}
-use Rattle.rma_parse.specs.declared.event.type_line.TypeLine.TheVariants.{Make, Commit, Free}
+use Rattle.rma_form.specs.declared.event.Event.{Event}
+use Rattle.rma_form.specs.declared.event.Event.TheVariants.{Header, Datatype, Rma, Local}
+use Rattle.rma_form.specs.declared.event.type_line.TypeLine.{TypeLine}
+use Rattle.rma_form.specs.declared.event.type_line.TypeLine.TheVariants.{Make, Commit, Free}
 use Rattle.rma_type.specs.declared.fault.TypeFault.{TypeFault}
 use Rattle.rma_type.specs.declared.fault.TypeFault.TheVariants as fault
 use Rattle.rma_type.specs.Names.{id_of}

@@ -3,8 +3,8 @@ use Rattle.std.specs.Prelude.{◌≡◌, ℕ, ◌+◌, List, [], ◌∷◌, ◌+
 use Rattle.rma_base.specs.declared.form_reason.FormReason.{FormReason}
 use Rattle.rma_base.specs.declared.form_reason.FormReason.TheVariants.{MissingEnd}
 use Rattle.rma_lex.specs.Checked.{checked_lines}
-use Rattle.rma_parse.specs.declared.event.Stated.{Stated}
-use Rattle.rma_parse.specs.Lines.{reading}
+use Rattle.rma_form.specs.declared.event.Stated.{Stated}
+use Rattle.rma_form.specs.Lines.{reading}
 use Rattle.rma_base.specs.declared.version.Version.{Version}
 use Rattle.rma_book.specs.Calls.{Entry, events_of, end_line, version_of}
 use Rattle.rma_book.specs.Judging.{reason_of}

@@ -3,7 +3,7 @@ use Rattle.std.specs.Prelude.{ℕ, zero, suc, ◌+◌, Bool, true, false, ◌||�
 use Rattle.std.specs.Option.{option_or, option_map_or, option_and_then}
 use Rattle.std.specs.Cmp.Lexicographic.{pointwise}
 use Rattle.rma_base.specs.RankSet.{has_number}
-use Rattle.rma_parse.specs.declared.event.Event.{Event}
+use Rattle.rma_form.specs.declared.event.Event.{Event}
 use Rattle.rma_book.specs.Latest.{latest}
 use Rattle.rma_book.specs.Naming.{Attributes, attributes_of}
 use Rattle.rma_book.specs.declared.names.WindowState.{WindowState}

@@ -1,10 +1,10 @@
 -- The datatypes of a log after some events (MPI 4.0, "Datatypes").
 use Rattle.std.specs.Prelude.{ℕ, List, [], ◌∷◌, ◌++◌, length, filter, fold, slice_set, Bool, true, false, not, Option, Some, None}
 use Rattle.rma_datatype.specs.declared.make.Make.{Make}
-use Rattle.rma_parse.specs.declared.event.Event.{Event}
-use Rattle.rma_parse.specs.declared.event.Event.TheVariants.{Datatype}
-use Rattle.rma_parse.specs.declared.event.type_line.TypeLine.{TypeLine}
-use Rattle.rma_parse.specs.declared.event.type_line.TypeLine.TheVariants.{Make as Made, Commit, Free}
+use Rattle.rma_form.specs.declared.event.Event.{Event}
+use Rattle.rma_form.specs.declared.event.Event.TheVariants.{Datatype}
+use Rattle.rma_form.specs.declared.event.type_line.TypeLine.{TypeLine}
+use Rattle.rma_form.specs.declared.event.type_line.TypeLine.TheVariants.{Make as Made, Commit, Free}
 use Rattle.rma_type.specs.declared.id.TypeId.{TypeId}
 use Rattle.rma_type.specs.declared.origin.Origin.TheVariants.{Derived}
 use Rattle.rma_type.specs.FirstTable.{basics, table_of_basics}

@@ -5,7 +5,7 @@ ghost use Rattle.rma_call.specs.Call.{what_of};
 ghost use Rattle.rma_call.specs.declared.what.What.TheVariants.{Sync};
 ghost use Rattle.rma_call.specs.declared.what.SyncCall.{SyncCall};
 ghost use Rattle.rma_call.specs.declared.what.SyncCall.TheVariants as sync;
-ghost use Rattle.rma_parse.specs.declared.event.Event.TheVariants.{Call};
+ghost use Rattle.rma_form.specs.declared.event.Event.TheVariants.{Call};
 ghost use Rattle.rma_book.specs.Naming.{attributes_of, created_state, request_that, with_access};
 ghost use Rattle.rma_book.specs.inside.Naming.{said_value, value_of, named, nothing};
 

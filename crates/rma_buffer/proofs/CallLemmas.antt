@@ -8,7 +8,7 @@ use Rattle.rma_call.specs.declared.rma.RmaCall.{RmaCall}
 use Rattle.rma_call.specs.declared.rma.RmaKind.{RmaKind}
 use Rattle.rma_layout.specs.declared.fault.LayoutFault.{LayoutFault}
 use Rattle.rma_layout.specs.declared.space.Space.TheVariants.{Local}
-use Rattle.rma_parse.specs.declared.event.rma_line.RmaLine.{RmaLine}
+use Rattle.rma_form.specs.declared.event.rma_line.RmaLine.{RmaLine}
 use Rattle.rma_type.specs.Table.{typemaps}
 use Rattle.rma_type.specs.declared.origin.Origin.{Origin}
 use Rattle.rma_buffer.specs.Calls.{layout_in, local_call_of, moved_count, rma_call_of}

@@ -6,7 +6,7 @@ use Rattle.rma_call.specs.declared.rma.RmaCall.{RmaCall}
 use Rattle.rma_call.specs.declared.rma.RmaKind.{RmaKind}
 use Rattle.rma_call.specs.declared.local.LocalAccess.{LocalAccess}
 use Rattle.rma_call.specs.declared.local.LocalCall.{LocalCall}
-use Rattle.rma_parse.specs.declared.event.rma_line.RmaLine.{RmaLine}
+use Rattle.rma_form.specs.declared.event.rma_line.RmaLine.{RmaLine}
 use Rattle.rma_type.specs.declared.origin.Origin.{Origin}
 use Rattle.rma_type.specs.Table.{typemaps}
 use Rattle.rma_typemap.specs.Typemap.{Typemap}

@@ -1,4 +1,4 @@
-pub use Rattle.rma_parse.specs.Lines
+pub use Rattle.rma_form.specs.Lines
 pub use Rattle.rma_type.specs.Table
 pub use Rattle.rma_layout.specs.Touched
 pub mod Layouts

@@ -5,10 +5,10 @@ use Rattle.std.specs.Option.{option_and_then}
 use Rattle.rma_base.specs.Limits.{address_limit}
 use Rattle.rma_call.specs.declared.rma.RmaKind.{RmaKind}
 use Rattle.rma_call.specs.declared.rma.RmaKind.TheVariants as kind
-use Rattle.rma_parse.specs.declared.event.rma_line.Access.{Access}
-use Rattle.rma_parse.specs.declared.event.rma_line.Access.TheVariants.{Put, Get, Accumulate, GetAccumulate, FetchAndOp, CompareAndSwap}
-use Rattle.rma_parse.specs.declared.event.rma_line.Buffer.{Buffer}
-use Rattle.rma_parse.specs.declared.event.rma_line.Transfer.{Transfer}
+use Rattle.rma_form.specs.declared.event.rma_line.Access.{Access}
+use Rattle.rma_form.specs.declared.event.rma_line.Access.TheVariants.{Put, Get, Accumulate, GetAccumulate, FetchAndOp, CompareAndSwap}
+use Rattle.rma_form.specs.declared.event.rma_line.Buffer.{Buffer}
+use Rattle.rma_form.specs.declared.event.rma_line.Transfer.{Transfer}
 use Rattle.rma_type.specs.declared.id.TypeId.{TypeId}
 use Rattle.rma_type.specs.Names.{id_of}
 use Rattle.rma_type.specs.Table.{typemap_in}

@@ -14,7 +14,7 @@ use crate::operand::{Operands, kind_of};
 use crate::rule::{are_committed, reason, touched_count};
 use rma_base::{FormReason, Rank};
 use rma_call::{RmaCall, RmaKind};
-use rma_parse::RmaLine;
+use rma_form::RmaLine;
 use rma_type::TypeTable;
 
 /// The call of a line that accesses the part of a target, with these buffers.

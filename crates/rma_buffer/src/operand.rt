@@ -6,7 +6,7 @@ ghost use Rattle.rma_buffer.specs.Operands.{AreOf, IsOf, kind_of, operand_at, op
 use rma_base::Name;
 use rma_base::limits::SPACE;
 use rma_call::RmaKind;
-use rma_parse::{Access, Buffer, Transfer};
+use rma_form::{Access, Buffer, Transfer};
 use rma_type::{TypeId, TypeTable};
 
 /// A buffer with its datatype.

@@ -3,7 +3,7 @@ use crate::calls::{canonical_line, reason_of, stated};
 use rma_base::{FormReason, Rank, Version};
 use rma_call::LocalAccess;
 use rma_datatype::Op;
-use rma_parse::{Access, Event, RmaLine};
+use rma_form::{Access, Event, RmaLine};
 use std::process::Abort;
 use std::test::Fail;
 

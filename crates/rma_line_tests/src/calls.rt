@@ -1,7 +1,8 @@
 //! Lines, good and bad, and what each says.
 use rma_base::{AccOps, FormReason, Rank, Version, WinModel};
 use rma_call::{FrameCall, MessageCall, SyncCall, WindowCall};
-use rma_parse::{Event, ParseError, Stated, Texts, line_of, parse_line};
+use rma_form::line_of;
+use rma_parse::{Event, ParseError, Stated, Texts, parse_line};
 use std::process::Abort;
 use std::test::Fail;
 

@@ -2,7 +2,7 @@
 use crate::calls::{canonical_line, reason_of, stated};
 use rma_base::{FormReason, Version};
 use rma_datatype::{Block, Dimension, Make, Order};
-use rma_parse::{Event, TypeLine};
+use rma_form::{Event, TypeLine};
 use std::process::Abort;
 use std::test::Fail;
 

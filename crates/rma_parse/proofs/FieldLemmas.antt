@@ -1,16 +1,27 @@
 -- The further fields of a form, each by its place.
-use Rattle.std.proofs.Common.{◌≡◌, ℕ, ◌≤◌, List, [], ◌∷◌, ◌++◌, length, drop, get_or, None, Result, Ok, Err, Bor, refl, sym, subst, arith}
+use Rattle.std.proofs.Common.{◌≡◌, ℕ, ◌+◌, ◌≤◌, List, [], ◌∷◌, ◌++◌, length, drop, get_or, None, Result, Ok, Err, Bor, refl, sym, subst, arith}
+use Rattle.std.proofs.lemmas.Bool.{le-ltb}
+use Rattle.std.proofs.lemmas.List.{length-map}
 use Rattle.rma_base.specs.declared.version.Version.{Version}
 use Rattle.rma_field.specs.declared.parse_error.ParseError.{ParseError}
 use Rattle.rma_field.specs.Steps.{Gives}
 use Rattle.rma_field.specs.Texts.{texts_at}
 use Rattle.rma_base.specs.declared.form_reason.FormReason.TheVariants.{WrongCount}
-use Rattle.rma_parse.specs.Forms.{event_of, form_at}
-use Rattle.rma_parse.specs.Tails.{received, tail_of}
-use Rattle.rma_parse.specs.declared.event.Event.{Event}
-use Rattle.rma_parse.specs.declared.form.LineForm.{LineForm}
+use Rattle.rma_form.specs.Forms.{event_of, form_at, kind_words}
+use Rattle.rma_form.specs.Lines.{counted}
+use Rattle.rma_form.specs.Tails.{received, tail_counted, tail_of}
+use Rattle.rma_form.specs.declared.event.Event.{Event}
+use Rattle.rma_form.specs.declared.form.LineForm.{LineForm}
 use Rattle.rma_parse.specs.inside.Places.{from_place}
+use Rattle.rma_form.proofs.LineLemmas.{counted_enough}
 use Rattle.rma_parse.proofs.SeenLemmas.{texts_each}
+
+-- enough fields are counted by what stands behind them
+pub counted_fields : (v : Version) (form : LineForm) (fields : List (Bor (List ℕ))) (least : ℕ) → least ≡ kind_words form + length (form_at form).kinds → least ≤ length fields
+    → counted v form (texts_at fields) ≡ tail_counted v (form_at form).tail (drop least (texts_at fields))
+counted_fields v form fields least is enough =
+    let long : length (texts_at fields) ≡ length fields = length-map fields (λ text. text.now) in
+    counted_enough v form (texts_at fields) least is (le-ltb (length (texts_at fields)) least (rw long enough))
 
 -- what was read of the fields at their places, and of the rest, is what the fields of the form state
 pub read_rest : (v : Version) (form at : LineForm) (fields : List (Bor (List ℕ))) (other : Bor (List ℕ)) (rest : List (List ℕ)) (result : Result Event ParseError)

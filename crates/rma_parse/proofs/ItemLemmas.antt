@@ -5,12 +5,17 @@ use Rattle.std.proofs.lemmas.Nat.{div-mul-add, mod_below}
 use Rattle.std.specs.Borrow.{Bor}
 use Rattle.rma_base.specs.declared.form_reason.FormReason.{FormReason}
 use Rattle.rma_field.specs.declared.parse_error.ParseError.{ParseError}
+use Rattle.rma_field.specs.declared.parse_error.ParseError.TheVariants.{Fault, Memory}
 use Rattle.rma_field.specs.Steps.{◌>>=◌, Fails}
 use Rattle.rma_field.specs.Texts.{texts_at}
-use Rattle.rma_parse.specs.Groups.{items_read}
+use Rattle.rma_form.specs.Groups.{items_read}
 use Rattle.rma_parse.specs.inside.Places.{first_texts, nowhere}
-use Rattle.rma_parse.proofs.LineLemmas.{Fails_bind}
 use Rattle.rma_parse.proofs.SeenLemmas.{texts_each}
+
+-- a read that fails makes what follows fail
+pub Fails_bind : {A B : Type 0} (error : ParseError) (read : Result A FormReason) (f : A → Result B FormReason) → Fails error read → Fails error (read >>= f)
+Fails_bind Memory read f fails = tt
+Fails_bind (Fault fault) read f fails = rw fails
 
 -- one divisor more is one more
 pub div_more : (m k : ℕ) → 0 < k → (m + k) / k ≡ suc (m / k)

@@ -1,13 +1,3 @@
-pub mod LineLemmas
 pub mod SeenLemmas
-pub mod WordLemmas
-pub mod PlainLemmas
-pub mod KindLemmas
 pub mod ItemLemmas
-pub mod GroupLemmas
-pub mod TailLemmas
-pub mod HeadLemmas
-pub mod CanonicalLemmas
 pub mod FieldLemmas
-pub mod LineTextLemmas
-pub mod WrittenLemmas

@@ -1,16 +1,30 @@
 -- The words of a line behind its verb, as they are seen one after another.
-use Rattle.std.proofs.Common.{◌≡◌, ℕ, ◌-◌, ◌≤◌, ◌<◌, List, [], ◌∷◌, ◌++◌, length, take, drop, Some, refl, sym, ap, subst, ◌∙◌, arith, zero, suc, min}
-use Rattle.std.specs.Prelude.{slice_get, unwrap_or}
+use Rattle.std.proofs.Common.{◌≡◌, ℕ, ◌-◌, ◌≤◌, ◌<◌, true, false, List, [], ◌∷◌, ◌++◌, length, take, drop, Some, refl, sym, ap, subst, ◌∙◌, arith, zero, suc, min, ⊎_elim, length-take-le}
+use Rattle.std.specs.Prelude.{is_some, slice_get, unwrap_or}
 use Rattle.std.specs.Borrow.{Bor}
 use Rattle.std.proofs.Math.ListN.{get_or}
+use Rattle.std.proofs.lemmas.Bool.{cases_Bool}
 use Rattle.std.proofs.lemmas.List.{append-nil, drop-map, length-drop, length-map, length-take, take-append-le, take-map}
 use Rattle.std.proofs.Math.Seq.{take-append_seam, take-length}
 use Rattle.std.proofs.Math.Nat.{min-le_right}
 use Rattle.std.proofs.lemmas.Option.{none-some}
-use Rattle.rma_parse.proofs.LineLemmas.{fields_front}
-use Rattle.rma_parse.specs.Lines.{fields_of}
+use Rattle.rma_form.specs.Lines.{fields_of, site_text}
 use Rattle.rma_field.specs.Texts.{texts_at}
 use Rattle.rma_parse.specs.inside.Places.{from_place}
+
+-- the words without the site are the first
+pub fields_front : (words : List (List ℕ)) (n : ℕ) → length (fields_of words) ≡ n → fields_of words ≡ take n words
+fields_front words n is =
+    ⊎_elim
+    (λ (sited : is_some (site_text words) ≡ true).
+    let cut : fields_of words ≡ take (length words - 1) words = rw sited in
+    let long : length (take (length words - 1) words) ≡ length words - 1 = length-take-le (length words - 1) words (omega arith) in
+    let same : length words - 1 ≡ n = sym long ∙ ap length (sym cut) ∙ is in
+    cut ∙ ap (λ m. take m words) same)
+    (λ (bare : is_some (site_text words) ≡ false).
+    let whole : fields_of words ≡ words = rw bare in
+    whole ∙ sym (take-length words) ∙ ap (λ m. take m words) (ap length (sym whole) ∙ is))
+    (cases_Bool (is_some (site_text words)))
 
 -- one more word is kept
 texts_more : (items : List (Bor (List ℕ))) (text : Bor (List ℕ)) (later : List (List ℕ)) → texts_at (items ++ text ∷ []) ++ later ≡ texts_at items ++ text.now ∷ later

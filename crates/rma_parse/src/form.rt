@@ -1,484 +1,106 @@
-//! The table of the forms of lines. `specs/Forms.antt` has the same rows.
-ghost use Rattle.std.specs.Prelude.{◌≡◌, ◌+◌, ◌≤◌, length, find, option_map, is_some, true, None, IfSome};
-ghost use Rattle.rma_parse.specs.Forms.{form_at, forms, has_verb, has_words, is_in, is_since_two, kind_words};
-ghost use Rattle.rma_parse.specs.Tails.{allowed_in};
-ghost use Rattle.rma_parse.specs.inside.Kind.{IsKind};
-ghost use Rattle.rma_parse.specs.inside.TailKinds.{HasWords, tail_kind};
+//! Reading the fields of a line, by its form.
+ghost use Rattle.std.specs.Prelude.{◌≤◌, length};
+ghost use Rattle.rma_field.specs.Steps.{Gives};
+ghost use Rattle.rma_field.specs.Texts.{texts_at};
+ghost use Rattle.rma_form.specs.Forms.{event_of, form_at};
 
-pub(crate) mod datatype;
-pub(crate) mod epoch;
-pub(crate) mod frame;
-pub(crate) mod group;
-mod likely;
-pub(crate) mod local;
-pub(crate) mod message;
-pub(crate) mod moving;
-pub(crate) mod rma;
-pub(crate) mod window;
+mod datatype;
+mod epoch;
+mod frame;
+mod group;
+mod local;
+mod message;
+mod moving;
+mod rma;
+mod window;
 
-use likely::likely;
+use crate::words::behind;
+use rma::Movement;
 use rma_base::Version;
-use rma_call::Assertion;
+use rma_call::LocalAccess;
+use rma_field::{ParseError, Texts};
+use rma_form::{Event, LineForm};
 
-/// A form of a line, by its words.
-#[derive(Clone, Copy, Debug, PartialEq, Eq)]
-pub enum LineForm {
-    /// `rma`
-    Header,
-    /// `end`
-    End,
-    /// `comm`
-    Comm,
-    /// `barrier`
-    Barrier,
-    /// `send`
-    Send,
-    /// `recv`
-    Recv,
-    /// `isend`
-    Isend,
-    /// `irecv`
-    Irecv,
-    /// `wait`
-    Wait,
-    /// `win create`
-    Create,
-    /// `win free`
-    Free,
-    /// `fence`
-    Fence,
-    /// `post`
-    Post,
-    /// `start`
-    Start,
-    /// `complete`
-    Complete,
-    /// `expwait`
-    Expwait,
-    /// `lock`
-    Lock,
-    /// `unlock`
-    Unlock,
-    /// `lockall`
-    LockAll,
-    /// `unlockall`
-    UnlockAll,
-    /// `flush`
-    Flush,
-    /// `flushall`
-    FlushAll,
-    /// `flushlocal`
-    FlushLocal,
-    /// `flushlocalall`
-    FlushLocalAll,
-    /// `sync`
-    Sync,
-    /// `win dynamic`
-    Dynamic,
-    /// `attach`
-    Attach,
-    /// `detach`
-    Detach,
-    /// `bcast`
-    Bcast,
-    /// `scatter`
-    Scatter,
-    /// `gather`
-    Gather,
-    /// `reduce`
-    Reduce,
-    /// `allreduce`
-    Allreduce,
-    /// `allgather`
-    Allgather,
-    /// `alltoall`
-    Alltoall,
-    /// `type contiguous`
-    Contiguous,
-    /// `type vector`
-    Vector,
-    /// `type hvector`
-    Hvector,
-    /// `type indexed`
-    Indexed,
-    /// `type hindexed`
-    Hindexed,
-    /// `type indexed_block`
-    IndexedBlock,
-    /// `type struct`
-    Struct,
-    /// `type resized`
-    Resized,
-    /// `type subarray`
-    Subarray,
-    /// `type commit`
-    Commit,
-    /// `type free`
-    FreeType,
-    /// `put`
-    Put,
-    /// `get`
-    Get,
-    /// `acc`
-    Accumulate,
-    /// `getacc`
-    GetAccumulate,
-    /// `fop`
-    FetchAndOp,
-    /// `cas`
-    CompareAndSwap,
-    /// `rput`
-    Rput,
-    /// `rget`
-    Rget,
-    /// `racc`
-    Raccumulate,
-    /// `rgetacc`
-    RgetAccumulate,
-    /// `load`
-    Load,
-    /// `store`
-    Store,
-    /// `poll`
-    Poll,
-}
-
-// Each form once.
-const FORMS: [LineForm; 59] = [
-    LineForm::Header,
-    LineForm::End,
-    LineForm::Comm,
-    LineForm::Barrier,
-    LineForm::Send,
-    LineForm::Recv,
-    LineForm::Isend,
-    LineForm::Irecv,
-    LineForm::Wait,
-    LineForm::Create,
-    LineForm::Free,
-    LineForm::Fence,
-    LineForm::Post,
-    LineForm::Start,
-    LineForm::Complete,
-    LineForm::Expwait,
-    LineForm::Lock,
-    LineForm::Unlock,
-    LineForm::LockAll,
-    LineForm::UnlockAll,
-    LineForm::Flush,
-    LineForm::FlushAll,
-    LineForm::FlushLocal,
-    LineForm::FlushLocalAll,
-    LineForm::Sync,
-    LineForm::Dynamic,
-    LineForm::Attach,
-    LineForm::Detach,
-    LineForm::Bcast,
-    LineForm::Scatter,
-    LineForm::Gather,
-    LineForm::Reduce,
-    LineForm::Allreduce,
-    LineForm::Allgather,
-    LineForm::Alltoall,
-    LineForm::Contiguous,
-    LineForm::Vector,
-    LineForm::Hvector,
-    LineForm::Indexed,
-    LineForm::Hindexed,
-    LineForm::IndexedBlock,
-    LineForm::Struct,
-    LineForm::Resized,
-    LineForm::Subarray,
-    LineForm::Commit,
-    LineForm::FreeType,
-    LineForm::Put,
-    LineForm::Get,
-    LineForm::Accumulate,
-    LineForm::GetAccumulate,
-    LineForm::FetchAndOp,
-    LineForm::CompareAndSwap,
-    LineForm::Rput,
-    LineForm::Rget,
-    LineForm::Raccumulate,
-    LineForm::RgetAccumulate,
-    LineForm::Load,
-    LineForm::Store,
-    LineForm::Poll,
-];
-
-// A row of the table: the verb, the word of its kind behind some verbs, and the number of further fields.
-#[derive(Clone, Copy)]
-struct Row {
-    verb: &'static str,
-    kind: Option<&'static str>,
-    fields: usize,
-}
-
-/// What may stand behind the fields of a line.
-#[derive(Clone, Copy, Debug, PartialEq, Eq)]
-pub(crate) enum TailKind {
-    /// Nothing.
-    Closed,
-    /// The source and the tag of a message, or nothing.
-    Received,
-    /// Words of assertions.
-    Asserted,
-    /// Groups of words.
-    Groups {
-        /// How many words each has.
-        size: usize,
-        /// How many groups there are at least.
-        least: usize,
-        /// How many there are at most, if that is bounded.
-        most: Option<usize>,
-    },
-}
-
-impl LineForm {
-    // The row of the form.
-    fn row(self) -> Row
-        ensures verb { result.verb.now ≡ (form_at self).verb }
-        ensures kind { option_map (λ word. word.now) result.kind ≡ (form_at self).kind_word }
-        ensures fields { result.fields ≡ length (form_at self).kinds }
-        ensures few { result.fields ≤ 14 }
-    {
-        let (verb, kind, fields) = match self {
-            LineForm::Header => ("rma", None, 3),
-            LineForm::End => ("end", None, 0),
-            LineForm::Comm => ("comm", None, 2),
-            LineForm::Barrier => ("barrier", None, 1),
-            LineForm::Send => ("send", None, 3),
-            LineForm::Recv => ("recv", None, 3),
-            LineForm::Isend => ("isend", None, 4),
-            LineForm::Irecv => ("irecv", None, 2),
-            LineForm::Wait => ("wait", None, 1),
-            LineForm::Create => ("win", Some("create"), 7),
-            LineForm::Free => ("win", Some("free"), 1),
-            LineForm::Fence => ("fence", None, 1),
-            LineForm::Post => ("post", None, 2),
-            LineForm::Start => ("start", None, 2),
-            LineForm::Complete => ("complete", None, 1),
-            LineForm::Expwait => ("expwait", None, 1),
-            LineForm::Lock => ("lock", None, 3),
-            LineForm::Unlock => ("unlock", None, 2),
-            LineForm::LockAll => ("lockall", None, 1),
-            LineForm::UnlockAll => ("unlockall", None, 1),
-            LineForm::Flush => ("flush", None, 2),
-            LineForm::FlushAll => ("flushall", None, 1),
-            LineForm::FlushLocal => ("flushlocal", None, 2),
-            LineForm::FlushLocalAll => ("flushlocalall", None, 1),
-            LineForm::Sync => ("sync", None, 1),
-            LineForm::Dynamic => ("win", Some("dynamic"), 3),
-            LineForm::Attach => ("attach", None, 3),
-            LineForm::Detach => ("detach", None, 2),
-            LineForm::Bcast => ("bcast", None, 3),
-            LineForm::Scatter => ("scatter", None, 3),
-            LineForm::Gather => ("gather", None, 3),
-            LineForm::Reduce => ("reduce", None, 3),
-            LineForm::Allreduce => ("allreduce", None, 2),
-            LineForm::Allgather => ("allgather", None, 2),
-            LineForm::Alltoall => ("alltoall", None, 2),
-            LineForm::Contiguous => ("type", Some("contiguous"), 3),
-            LineForm::Vector => ("type", Some("vector"), 5),
-            LineForm::Hvector => ("type", Some("hvector"), 5),
-            LineForm::Indexed => ("type", Some("indexed"), 2),
-            LineForm::Hindexed => ("type", Some("hindexed"), 2),
-            LineForm::IndexedBlock => ("type", Some("indexed_block"), 3),
-            LineForm::Struct => ("type", Some("struct"), 1),
-            LineForm::Resized => ("type", Some("resized"), 4),
-            LineForm::Subarray => ("type", Some("subarray"), 3),
-            LineForm::Commit => ("type", Some("commit"), 1),
-            LineForm::FreeType => ("type", Some("free"), 1),
-            LineForm::Put => ("put", None, 8),
-            LineForm::Get => ("get", None, 8),
-            LineForm::Accumulate => ("acc", None, 9),
-            LineForm::GetAccumulate => ("getacc", None, 12),
-            LineForm::FetchAndOp => ("fop", None, 7),
-            LineForm::CompareAndSwap => ("cas", None, 7),
-            LineForm::Rput => ("rput", None, 9),
-            LineForm::Rget => ("rget", None, 9),
-            LineForm::Raccumulate => ("racc", None, 10),
-            LineForm::RgetAccumulate => ("rgetacc", None, 13),
-            LineForm::Load => ("load", None, 3),
-            LineForm::Store => ("store", None, 3),
-            LineForm::Poll => ("poll", None, 3),
-        };
-        Row { verb, kind, fields }
-    }
-
-    // Whether logs of the first version do not have the form.
-    fn is_since_two(self) -> bool
-        ensures { result ≡ is_since_two self }
-    {
-        match self {
-            LineForm::Dynamic
-            | LineForm::Attach
-            | LineForm::Detach
-            | LineForm::Bcast
-            | LineForm::Scatter
-            | LineForm::Gather
-            | LineForm::Reduce
-            | LineForm::Allreduce
-            | LineForm::Allgather
-            | LineForm::Alltoall
-            | LineForm::Poll => true,
-            _ => false,
-        }
-    }
-
-    // Whether logs of the version have the form.
-    fn is_in(self, version: Version) -> bool
-        ensures { result ≡ is_in version self }
-    {
-        match version {
-            Version::One => !self.is_since_two(),
-            Version::Two => true,
-        }
-    }
-
-    /// What may stand behind the fields.
-    pub(crate) fn tail(self) -> TailKind
-        ensures is { result ≡ tail_kind (form_at self).tail }
-        ensures words { HasWords result }
-    {
-        match self {
-            LineForm::Wait => TailKind::Received,
-            LineForm::Fence
-            | LineForm::Post
-            | LineForm::Start
-            | LineForm::Lock
-            | LineForm::LockAll => TailKind::Asserted,
-            LineForm::IndexedBlock => any_groups(1),
-            LineForm::Indexed | LineForm::Hindexed => any_groups(2),
-            LineForm::Struct => any_groups(3),
-            LineForm::Subarray => TailKind::Groups {
-                size: 3,
-                least: 1,
-                most: Some(8),
-            },
-            _ => TailKind::Closed,
-        }
-    }
-
-    /// The assertions that a line may have in a log of this version.
-    pub(crate) fn allowed(self, version: Version) -> &'static [Assertion]
-        ensures { result.now ≡ allowed_in version (form_at self).tail }
-    {
-        match version {
-            Version::One => self.allowed_in_one(),
-            Version::Two => self.allowed_in_two(),
-        }
-    }
-
-    fn allowed_in_one(self) -> &'static [Assertion]
-        ensures { result.now ≡ allowed_in Version.One (form_at self).tail }
-    {
-        match self {
-            LineForm::Fence => &[Assertion::Noprecede, Assertion::Nosucceed],
-            _ => &[],
-        }
-    }
-
-    fn allowed_in_two(self) -> &'static [Assertion]
-        ensures { result.now ≡ allowed_in Version.Two (form_at self).tail }
-    {
-        match self {
-            LineForm::Fence => &[
-                Assertion::Noprecede,
-                Assertion::Nosucceed,
-                Assertion::Nostore,
-                Assertion::Noput,
-            ],
-            LineForm::Post => &[Assertion::Nocheck, Assertion::Nostore, Assertion::Noput],
-            LineForm::Start | LineForm::Lock | LineForm::LockAll => &[Assertion::Nocheck],
-            _ => &[],
-        }
-    }
-
-    /// How many words of its kind stand behind the verb, and how many further fields.
-    pub(crate) fn counts(self) -> (usize, usize)
-        ensures kind_words { result.0 ≡ kind_words self }
-        ensures further { result.1 ≡ length (form_at self).kinds }
-        ensures few { result.0 + result.1 ≤ 15 }
-    {
-        let row = self.row();
-        match row.kind {
-            Some(_) => (1, row.fields),
-            None => (0, row.fields),
-        }
-    }
-
-    /// Whether a word of its kind stands behind the verb.
-    pub(crate) fn has_kind(self) -> bool
-        ensures { result ≡ is_some (form_at self).kind_word }
-    {
-        self.row().kind.is_some()
-    }
-
-    fn has_verb(self, version: Version, verb: &[u8]) -> bool
-        ensures { result ≡ has_verb version verb.now self }
-    {
-        verb == self.row().verb.as_bytes() && self.is_in(version)
-    }
-
-    fn has_words(self, version: Version, verb: &[u8], kind: &[u8]) -> bool
-        ensures { result ≡ has_words version verb.now kind.now self }
-    {
-        match self.row().kind {
-            Some(word) => self.has_verb(version, verb) && kind == word.as_bytes(),
-            None => false,
-        }
-    }
-
-    /// The form that a line with this verb, and this word behind it, has by its looks, if it does have it.
-    pub(crate) fn seen(version: Version, verb: &[u8], kind: Option<&[u8]>) -> Option<LineForm>
-        ensures { IfSome result (λ form. (has_verb version verb.now form ≡ true) × IsKind (form_at form).kind_word (option_map (λ text. text.now) kind.entry)) }
-    {
-        match likely(verb, kind) {
-            Some(form) if form.has_verb(version, verb) && form.has_kind_word(kind) => Some(form),
-            _ => None,
-        }
-    }
-
-    // Whether this is the word of its kind, where the form has one.
-    fn has_kind_word(self, kind: Option<&[u8]>) -> bool
-        ensures { result ≡ true → IsKind (form_at self).kind_word (option_map (λ text. text.now) kind.entry) }
-    {
-        match (self.row().kind, kind) {
-            (None, _) => true,
-            (Some(word), Some(kind)) => kind == word.as_bytes(),
-            (Some(_), None) => false,
-        }
-    }
-
-    /// The first form with that verb.
-    pub(crate) fn with_verb(version: Version, verb: &[u8]) -> Option<LineForm>
-        ensures { result ≡ find (has_verb version verb.now) forms }
-    {
-        FORMS
-            .iter()
-            .copied()
-            .find(|form| form.has_verb(version, verb))
-    }
-
-    /// The form with that verb and that word behind it.
-    pub(crate) fn with_words(version: Version, verb: &[u8], kind: &[u8]) -> Option<LineForm>
-        ensures { result ≡ find (has_words version verb.now kind.now) forms }
-    {
-        FORMS
-            .iter()
-            .copied()
-            .find(|form| form.has_words(version, verb, kind))
-    }
-}
-
-// Any number of groups of so many words.
-fn any_groups(size: usize) -> TailKind
-    ensures { result ≡ TailKind.Groups size 0 None }
+/// What the further fields of a line of the form state.
+pub(crate) fn read_fields(
+    kept: &mut Texts,
+    version: Version,
+    form: LineForm,
+    fields: &[&[u8]],
+) -> Result<Event, ParseError>
+    requires { length (form_at form).kinds ≤ length fields.now }
+    ensures { Gives result (event_of version form (texts_at fields.now)) }
 {
-    TailKind::Groups {
-        size,
-        least: 0,
-        most: None,
+    match form {
+        LineForm::Header => frame::header(version, fields[0], fields[1], fields[2]),
+        LineForm::End => Ok(Event::End),
+        LineForm::Comm => frame::comm(kept, version, fields[0], fields[1]),
+        LineForm::Barrier => frame::barrier(kept, fields[0]),
+        LineForm::Send => message::send(kept, version, fields[0], fields[1], fields[2]),
+        LineForm::Recv => message::recv(kept, version, fields[0], fields[1], fields[2]),
+        LineForm::Isend => message::isend(
+            kept, version, fields[0], fields[1], fields[2], fields[3],
+        ),
+        LineForm::Irecv => message::irecv(kept, fields[0], fields[1]),
+        LineForm::Wait => message::wait(kept, version, fields[0], behind(fields, 1)),
+        LineForm::Create => window::create(
+            kept, fields[0], fields[1], fields[2], fields[3], fields[4], fields[5], fields[6],
+        ),
+        LineForm::Free => window::free(kept, fields[0]),
+        LineForm::Fence => epoch::fence(kept, version, fields[0], behind(fields, 1)),
+        LineForm::Post => epoch::post(kept, version, fields[0], fields[1], behind(fields, 2)),
+        LineForm::Start => epoch::start(kept, version, fields[0], fields[1], behind(fields, 2)),
+        LineForm::Complete => epoch::complete(kept, fields[0]),
+        LineForm::Expwait => epoch::expwait(kept, fields[0]),
+        LineForm::Lock => epoch::lock(
+            kept,
+            version,
+            fields[0],
+            fields[1],
+            fields[2],
+            behind(fields, 3),
+        ),
+        LineForm::Unlock => epoch::unlock(kept, version, fields[0], fields[1]),
+        LineForm::LockAll => epoch::lock_all(kept, version, fields[0], behind(fields, 1)),
+        LineForm::UnlockAll => epoch::unlock_all(kept, fields[0]),
+        LineForm::Flush => epoch::flush(kept, version, fields[0], fields[1]),
+        LineForm::FlushAll => epoch::flush_all(kept, fields[0]),
+        LineForm::FlushLocal => epoch::flush_local(kept, version, fields[0], fields[1]),
+        LineForm::FlushLocalAll => epoch::flush_local_all(kept, fields[0]),
+        LineForm::Sync => epoch::sync(kept, fields[0]),
+        LineForm::Dynamic => window::dynamic(kept, fields[0], fields[1], fields[2]),
+        LineForm::Attach => window::attach(kept, fields[0], fields[1], fields[2]),
+        LineForm::Detach => window::detach(kept, fields[0], fields[1]),
+        LineForm::Bcast => moving::bcast(kept, version, fields[0], fields[1], fields[2]),
+        LineForm::Scatter => moving::scatter(kept, version, fields[0], fields[1], fields[2]),
+        LineForm::Gather => moving::gather(kept, version, fields[0], fields[1], fields[2]),
+        LineForm::Reduce => moving::reduce(kept, version, fields[0], fields[1], fields[2]),
+        LineForm::Allreduce => moving::allreduce(kept, fields[0], fields[1]),
+        LineForm::Allgather => moving::allgather(kept, fields[0], fields[1]),
+        LineForm::Alltoall => moving::alltoall(kept, fields[0], fields[1]),
+        LineForm::Contiguous => datatype::contiguous(kept, fields),
+        LineForm::Vector => datatype::vector(kept, fields),
+        LineForm::Hvector => datatype::hvector(kept, fields),
+        LineForm::Indexed => datatype::indexed(kept, fields, behind(fields, 2)),
+        LineForm::Hindexed => datatype::hindexed(kept, fields, behind(fields, 2)),
+        LineForm::IndexedBlock => datatype::indexed_block(kept, fields, behind(fields, 3)),
+        LineForm::Struct => datatype::structure(kept, fields, behind(fields, 1)),
+        LineForm::Resized => datatype::resized(kept, fields),
+        LineForm::Subarray => datatype::subarray(kept, fields, behind(fields, 3)),
+        LineForm::Commit => datatype::commit(kept, fields[0]),
+        LineForm::FreeType => datatype::free(kept, fields[0]),
+        LineForm::Put => rma::transfer(kept, version, Movement::Put, None, fields, 0),
+        LineForm::Get => rma::transfer(kept, version, Movement::Get, None, fields, 0),
+        LineForm::Accumulate => rma::accumulate(kept, version, fields),
+        LineForm::GetAccumulate => rma::get_accumulate(kept, version, fields),
+        LineForm::FetchAndOp => rma::fetch_and_op(kept, version, fields),
+        LineForm::CompareAndSwap => rma::compare_and_swap(kept, version, fields),
+        LineForm::Rput => rma::requested(kept, version, Movement::Put, fields),
+        LineForm::Rget => rma::requested(kept, version, Movement::Get, fields),
+        LineForm::Raccumulate => rma::raccumulate(kept, version, fields),
+        LineForm::RgetAccumulate => rma::rget_accumulate(kept, version, fields),
+        LineForm::Load => local::access(kept, LocalAccess::Load, fields),
+        LineForm::Store => local::access(kept, LocalAccess::Store, fields),
+        LineForm::Poll => local::access(kept, LocalAccess::Poll, fields),
     }
 }

@@ -1,7 +1,7 @@
 //! The words of a line behind its verb, which are walked once.
 ghost use Rattle.std.specs.Prelude.{◌≡◌, ◌<◌, ◌≤◌, ◌^◌, ◌+◌, ◌++◌, ◌∷◌, [], List, ℕ, Some, length, drop, take, option_map, IfOk, MatchOption};
 ghost use Rattle.rma_lex.specs.Field.{fields, texts};
-ghost use Rattle.rma_parse.specs.Lines.{behind_at, begins_with, fields_of, site_text};
+ghost use Rattle.rma_form.specs.Lines.{behind_at, begins_with, fields_of, site_text};
 ghost use Rattle.rma_field.specs.Texts.{texts_at};
 ghost use Rattle.rma_parse.specs.inside.Words.{HasSeen};
 

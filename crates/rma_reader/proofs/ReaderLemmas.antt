@@ -10,9 +10,9 @@ use Rattle.rma_call.specs.Call.{Call as CallOf, CallTable}
 use Rattle.rma_field.specs.declared.parse_error.ParseError.{ParseError}
 use Rattle.rma_field.specs.declared.parse_error.ParseError.TheVariants.{Fault, Memory}
 use Rattle.rma_field.specs.Steps.{Fails, ◌>>=◌}
-use Rattle.rma_parse.specs.declared.event.Event.{Event}
-use Rattle.rma_parse.specs.declared.event.Stated.{Stated}
-use Rattle.rma_parse.specs.Lines.{reading, site_of, states}
+use Rattle.rma_form.specs.declared.event.Event.{Event}
+use Rattle.rma_form.specs.declared.event.Stated.{Stated}
+use Rattle.rma_form.specs.Lines.{reading, site_of, states}
 use Rattle.rma_reader.specs.declared.known_sites.KnownSite.{KnownSite}
 use Rattle.rma_reader.specs.declared.read_line.ReadEvent.{ReadEvent}
 use Rattle.rma_reader.specs.declared.read_line.ReadEvent.TheVariants.{Header, End, Call, Datatype, Rma, Local}

@@ -8,11 +8,11 @@ use Rattle.rma_base.specs.declared.version.Version.{Version}
 use Rattle.rma_base.specs.Site.{is_site}
 use Rattle.rma_field.specs.Steps.{◌>>=◌}
 use Rattle.rma_lex.specs.Field.{fields, is_blank, is_field, texts}
-use Rattle.rma_parse.specs.declared.event.Event.{Event}
-use Rattle.rma_parse.specs.declared.event.Stated.{Stated}
-use Rattle.rma_parse.specs.declared.form.LineForm.{LineForm}
-use Rattle.rma_parse.specs.Forms.{event_of, form_of, kind_words}
-use Rattle.rma_parse.specs.Lines.{begins_with, behind_at, counted, fields_of, last_or, read_words, reading, site_of, site_text, stated_by, stated_in, states}
+use Rattle.rma_form.specs.declared.event.Event.{Event}
+use Rattle.rma_form.specs.declared.event.Stated.{Stated}
+use Rattle.rma_form.specs.declared.form.LineForm.{LineForm}
+use Rattle.rma_form.specs.Forms.{event_of, form_of, kind_words}
+use Rattle.rma_form.specs.Lines.{begins_with, behind_at, counted, fields_of, last_or, read_words, reading, site_of, site_text, stated_by, stated_in, states}
 use Rattle.rma_reader.specs.inside.Split.{stated_at}
 use Rattle.rma_reader.proofs.WordLemmas.{texts_fields_last}
 

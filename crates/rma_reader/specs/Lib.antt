@@ -1,5 +1,5 @@
 pub use Rattle.rma_call.specs.Call
-pub use Rattle.rma_parse.specs.Lines
+pub use Rattle.rma_form.specs.Lines
 pub use Rattle.rma_field.specs.Steps
 pub mod Reading
 pub mod inside

@@ -5,9 +5,9 @@ use Rattle.rma_call.specs.declared.what.SyncCall.{SyncCall}
 use Rattle.rma_call.specs.declared.what.What.{What}
 use Rattle.rma_call.specs.declared.what.What.TheVariants.{Sync}
 use Rattle.rma_call.specs.Call.{CallTable}
-use Rattle.rma_parse.specs.declared.event.Event.{Event}
-use Rattle.rma_parse.specs.declared.event.Event.TheVariants as event
-use Rattle.rma_parse.specs.declared.event.Stated.{Stated}
+use Rattle.rma_form.specs.declared.event.Event.{Event}
+use Rattle.rma_form.specs.declared.event.Event.TheVariants as event
+use Rattle.rma_form.specs.declared.event.Stated.{Stated}
 use Rattle.rma_reader.specs.declared.read_line.ReadEvent.{ReadEvent}
 use Rattle.rma_reader.specs.declared.read_line.ReadEvent.TheVariants.{Header, End, Call, Datatype, Rma, Local}
 use Rattle.rma_reader.specs.declared.read_line.ReadLine.{ReadLine}

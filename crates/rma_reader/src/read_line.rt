@@ -1,6 +1,6 @@
 //! What a line states, by numbers.
 use rma_base::{Name, Rank, Version};
-use rma_parse::{LocalLine, RmaLine, TypeLine};
+use rma_form::{LocalLine, RmaLine, TypeLine};
 
 /// What a line states that is neither blank nor a comment.
 #[derive(Debug, Drop)]

@@ -4,14 +4,14 @@ use Rattle.std.specs.List.{list_any}
 use Rattle.std.specs.Map.{lookup}
 use Rattle.std.specs.Option.{option_or}
 use Rattle.rma_base.specs.declared.form_reason.FormReason.{FormReason}
-use Rattle.rma_parse.specs.declared.event.Event.{Event}
+use Rattle.rma_form.specs.declared.event.Event.{Event}
 use Rattle.rma_book.specs.Naming.{attributes_of, is_end}
 use Rattle.rma_type.specs.Names.{id_of}
 use Rattle.rma_type.specs.declared.fault.TypeFault.{TypeFault}
 use Rattle.rma_type.specs.Table.{Table}
 use Rattle.rma_book.specs.Names.{is_same, of_name, members, window_state, pending, made_by, awaited_by, request_number}
 use Rattle.rma_book.specs.Judging.{datatype_reason, fault_reason, reason_of}
-use Rattle.rma_parse.specs.declared.event.type_line.TypeLine.{TypeLine}
+use Rattle.rma_form.specs.declared.event.type_line.TypeLine.{TypeLine}
 use Rattle.rma_book.specs.Types.{types_after, with_event, with_line}
 use Rattle.rma_book.specs.Calls.{what_in}
 use Rattle.rma_book.specs.declared.names.WindowState.{WindowState}

@@ -5,8 +5,8 @@ use Rattle.rma_base.specs.declared.line.LineNo.{LineNo}
 use Rattle.rma_lex.specs.Checked.{checked_lines}
 use Rattle.rma_lex.specs.Cutting.{Cutting, Represents}
 use Rattle.rma_call.specs.Call.{Call}
-use Rattle.rma_parse.specs.declared.event.Event.{Event}
-use Rattle.rma_parse.specs.declared.event.Stated.{Stated}
+use Rattle.rma_form.specs.declared.event.Event.{Event}
+use Rattle.rma_form.specs.declared.event.Stated.{Stated}
 use Rattle.rma_book.specs.Naming.{is_end, named_version}
 use Rattle.rma_book.specs.inside.BookState as state
 use Rattle.rma_book.specs.Calls.{call_of, calls_of, end_line, events_of, version_of}

@@ -1,8 +1,8 @@
 //! Judging calls that access the part of a target, and local accesses.
 ghost use Rattle.std.specs.Prelude.{◌≡◌, List, IfOk};
 ghost use Rattle.std.specs.Option.{option_copied};
-ghost use Rattle.rma_parse.specs.declared.event.Event.{Event};
-ghost use Rattle.rma_parse.specs.declared.event.Event.TheVariants.{Local, Rma};
+ghost use Rattle.rma_form.specs.declared.event.Event.{Event};
+ghost use Rattle.rma_form.specs.declared.event.Event.TheVariants.{Local, Rma};
 ghost use Rattle.rma_book.specs.inside.BookState.{FitsRequest, IsJudged, IsGoodAccess, Represents, fault_in};
 
 use crate::book::Book;
@@ -10,7 +10,7 @@ use crate::naming::with_access;
 use rma_base::{FormReason, Memory, Name};
 use rma_buffer::{BufferError, Operand, Operands, local_call, one_sided_call};
 use rma_call::What;
-use rma_parse::{LocalLine, RmaLine};
+use rma_form::{LocalLine, RmaLine};
 
 /// What a book says of an access.
 #[derive(Debug, Drop)]

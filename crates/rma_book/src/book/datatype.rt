@@ -1,13 +1,13 @@
 //! Judging the lines that speak of datatypes.
 ghost use Rattle.std.specs.Prelude.{◌≡◌, IfOk};
-ghost use Rattle.rma_parse.specs.declared.event.Event.TheVariants.{Datatype};
+ghost use Rattle.rma_form.specs.declared.event.Event.TheVariants.{Datatype};
 ghost use Rattle.rma_book.specs.Judging.{fault_reason};
 ghost use Rattle.rma_book.specs.inside.BookState.{IsJudged, IsChanged, refused_in};
 
 use crate::book::Book;
 use rma_base::{FormReason, Memory, Name};
 use rma_datatype::Make;
-use rma_parse::TypeLine;
+use rma_form::TypeLine;
 use rma_type::{TypeError, TypeFault, TypeTable};
 
 impl Book {

@@ -9,14 +9,14 @@ use Rattle.rma_field.specs.declared.parse_error.ParseError.{ParseError}
 use Rattle.rma_field.specs.Kinds.{name_of, target_of}
 use Rattle.rma_field.specs.Numbers.{natural}
 use Rattle.rma_field.specs.Steps.{◌>>=◌, Fails}
-use Rattle.rma_parse.specs.Accesses.{buffer_of, rma, transfer_of}
-use Rattle.rma_parse.specs.declared.event.Event.{Event}
-use Rattle.rma_parse.specs.declared.event.Event.TheVariants.{Local}
+use Rattle.rma_form.specs.Accesses.{buffer_of, rma, transfer_of}
+use Rattle.rma_form.specs.declared.event.Event.{Event}
+use Rattle.rma_form.specs.declared.event.Event.TheVariants.{Local}
 use Rattle.rma_call.specs.declared.local.LocalAccess.{LocalAccess}
-use Rattle.rma_parse.specs.declared.event.rma_line.Access.{Access}
-use Rattle.rma_parse.specs.declared.event.rma_line.Access.TheVariants.{Put, Get, Accumulate, GetAccumulate}
-use Rattle.rma_parse.specs.declared.event.rma_line.Buffer.{Buffer}
-use Rattle.rma_parse.specs.declared.event.rma_line.Transfer.{Transfer}
+use Rattle.rma_form.specs.declared.event.rma_line.Access.{Access}
+use Rattle.rma_form.specs.declared.event.rma_line.Access.TheVariants.{Put, Get, Accumulate, GetAccumulate}
+use Rattle.rma_form.specs.declared.event.rma_line.Buffer.{Buffer}
+use Rattle.rma_form.specs.declared.event.rma_line.Transfer.{Transfer}
 use Rattle.rma_parse.specs.declared.form.rma.Aimed.{Aimed}
 use Rattle.rma_parse.specs.declared.form.rma.Movement.{Movement}
 use Rattle.rma_parse.specs.declared.form.rma.Movement.TheVariants as movement

@@ -2,9 +2,9 @@
 use Rattle.std.specs.Prelude.{◌≡◌, ℕ, List, length, take, Option, Some, None, option_map, Result, Ok}
 use Rattle.std.specs.Borrow.{Bor}
 use Rattle.rma_base.specs.declared.form_reason.FormReason.{FormReason}
-use Rattle.rma_parse.specs.declared.event.Stated.{Stated}
+use Rattle.rma_form.specs.declared.event.Stated.{Stated}
 use Rattle.rma_parse.specs.declared.words.Seen.{Seen}
-use Rattle.rma_parse.specs.Lines.{fields_of, last_or, site_text}
+use Rattle.rma_form.specs.Lines.{fields_of, last_or, site_text}
 use Rattle.rma_field.specs.Steps.{◌>>=◌}
 use Rattle.rma_field.specs.Texts.{texts_at}
 

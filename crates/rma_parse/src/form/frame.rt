@@ -1,23 +1,15 @@
-//! Communicators and barriers: reading the fields of their lines, and writing the lines. Headers and ends stand beside them.
-ghost use Rattle.std.specs.Prelude.{◌≡◌, ◌∷◌, [], ℕ, List, Option, IfOk, Ok, codes, string_bytes};
-ghost use Rattle.std.specs.List.{join_with_byte};
+//! The fields of communicators and barriers, and of headers.
+ghost use Rattle.std.specs.Prelude.{◌≡◌, ◌∷◌, [], Ok};
 ghost use Rattle.rma_base.specs.declared.version.Version.{Version};
 ghost use Rattle.rma_call.specs.declared.what.SyncCall.TheVariants as sync;
-ghost use Rattle.rma_field.specs.Ranks.{ranks_text};
 ghost use Rattle.rma_field.specs.Kinds.{version_of};
 ghost use Rattle.rma_field.specs.Steps.{Gives};
-ghost use Rattle.rma_parse.specs.Canonical.{spelled};
-ghost use Rattle.rma_parse.specs.Forms.{event_in, event_of};
+ghost use Rattle.rma_form.specs.Forms.{event_in, event_of};
 
-use crate::event::Event;
-use crate::form::LineForm;
-use crate::line::named_line;
-use rma_base::{Memory, Name, Rank, RankSet, Version};
+use rma_base::{Name, Version};
 use rma_call::{FrameCall, SyncCall};
-use rma_field::{
-    ParseError, Texts, rank_field, ranks_field, ranks_text, size_field, version_field,
-};
-use std::alloc::Global;
+use rma_field::{ParseError, Texts, rank_field, ranks_field, size_field, version_field};
+use rma_form::{Event, LineForm};
 
 pub(crate) fn comm(
     texts: &mut Texts,
@@ -76,43 +68,4 @@ fn header_in(version: Version, word: &[u8], rank: &[u8], size: &[u8]) -> Result<
         rank,
         size,
     })
-}
-
-// The line of a header, without its site.
-#[tactic(auto, unfolding(crate::specs::Canonical::spelled))]
-pub(crate) fn header_line(
-    alloc: Global,
-    version: Version,
-    rank: Rank,
-    size: u32,
-) -> Result<String, Memory>
-    ensures { IfOk result (λ line. string_bytes line ≡ join_with_byte 32 (spelled (Event.Header version rank size))) }
-{
-    Ok(format!(in alloc; "rma {} {} {size}", version.word(), rank.0)?)
-}
-
-// The line of an end, without its site.
-#[tactic(auto, unfolding(crate::specs::Canonical::spelled))]
-pub(crate) fn end_line(alloc: Global) -> Result<String, Memory>
-    ensures { IfOk result (λ line. string_bytes line ≡ join_with_byte 32 (spelled Event.End)) }
-{
-    Ok(format!(in alloc; "end")?)
-}
-
-// The line of a call, without its site.
-#[tactic(auto, unfolding(crate::specs::Canonical::spelled))]
-pub(crate) fn line(alloc: Global, call: &FrameCall) -> Result<String, Memory>
-    ensures { (request : Option (List ℕ)) → IfOk result (λ line. string_bytes line ≡ join_with_byte 32 (spelled (Event.Call (sync.Frame call.now) request))) }
-{
-    match call {
-        FrameCall::Comm { comm, ranks } => comm_line(alloc, comm, ranks),
-        FrameCall::Barrier { comm } => named_line(alloc, "barrier", comm),
-    }
-}
-
-fn comm_line(alloc: Global, comm: &Name, ranks: &RankSet) -> Result<String, Memory>
-    ensures { IfOk result (λ line. string_bytes line ≡ join_with_byte 32 (codes "comm" ∷ comm.now ∷ ranks_text ranks.now ∷ [])) }
-{
-    let ranks = ranks_text(alloc, ranks)?;
-    Ok(format!(in alloc; "comm {} {ranks}", comm.text())?)
 }

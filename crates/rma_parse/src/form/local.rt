@@ -1,17 +1,12 @@
-//! Local accesses: reading the fields of their lines, and writing the lines.
-ghost use Rattle.std.specs.Prelude.{◌≡◌, ◌≤◌, ◌∷◌, [], IfOk, decimal, length, string_bytes};
-ghost use Rattle.std.specs.List.{join_with_byte};
+//! The fields of local accesses.
+ghost use Rattle.std.specs.Prelude.{◌≤◌, length};
 ghost use Rattle.rma_field.specs.Steps.{Gives};
-ghost use Rattle.rma_parse.specs.Canonical.{spelled};
-ghost use Rattle.rma_parse.specs.inside.AccessWords.{access_verb};
 ghost use Rattle.rma_parse.specs.inside.Continued.{local_event, closed_event};
 
-use crate::event::{Event, LocalLine};
 use crate::form::rma::buffer_at;
-use rma_base::Memory;
 use rma_call::LocalAccess;
 use rma_field::{ParseError, Texts};
-use std::alloc::Global;
+use rma_form::{Event, LocalLine};
 
 /// The access of the memory that the fields say.
 pub(crate) fn access(
@@ -24,33 +19,4 @@ pub(crate) fn access(
 {
     let buffer = buffer_at(texts, fields, 0)?;
     Ok(Event::Local(LocalLine { access, buffer }))
-}
-
-/// The line of a local access, without its site.
-pub(crate) fn line(alloc: Global, line: &LocalLine) -> Result<String, Memory>
-    ensures { IfOk result (λ text. string_bytes text ≡ join_with_byte 32 (spelled (Event.Local line.now))) }
-{
-    let verb = verb(line.access);
-    access_line(alloc, verb, line)
-}
-
-// The verb of an access.
-fn verb(access: LocalAccess) -> &'static str
-    ensures { result.now ≡ access_verb access }
-{
-    match access {
-        LocalAccess::Load => "load",
-        LocalAccess::Store => "store",
-        LocalAccess::Poll => "poll",
-    }
-}
-
-// The line with this verb.
-fn access_line(alloc: Global, verb: &str, line: &LocalLine) -> Result<String, Memory>
-    ensures { IfOk result (λ text. string_bytes text ≡ join_with_byte 32 (verb.now ∷ decimal line.now.buffer.address ∷ decimal line.now.buffer.count ∷ line.now.buffer.datatype ∷ [])) }
-{
-    let address = line.buffer.address;
-    let count = line.buffer.count;
-    let datatype = line.buffer.datatype.text();
-    Ok(format!(in alloc; "{verb} {address} {count} {datatype}")?)
 }

@@ -3,8 +3,8 @@ use Rattle.std.specs.Prelude.{ℕ, List, [], Option, None}
 use Rattle.rma_base.specs.declared.version.Version.{Version}
 use Rattle.rma_call.specs.declared.what.What.{What}
 use Rattle.rma_call.specs.Call.{CallTable}
-use Rattle.rma_parse.specs.declared.event.Event.{Event}
-use Rattle.rma_parse.specs.Lines.{states}
+use Rattle.rma_form.specs.declared.event.Event.{Event}
+use Rattle.rma_form.specs.Lines.{states}
 use Rattle.rma_reader.specs.declared.read_line.ReadEvent.{ReadEvent}
 use Rattle.rma_reader.specs.declared.read_line.ReadEvent.TheVariants.{Call}
 use Rattle.rma_reader.specs.Reading.{IsEvent}

@@ -4,9 +4,9 @@ use Rattle.std.specs.List.{list_all}
 use Rattle.rma_base.specs.declared.form_reason.FormReason.{FormReason}
 use Rattle.rma_field.specs.Steps.{◌>>=◌}
 use Rattle.rma_lex.specs.Field.{is_blank, is_field}
-use Rattle.rma_parse.specs.declared.event.Event.{Event}
-use Rattle.rma_parse.specs.declared.event.Stated.{Stated}
-use Rattle.rma_parse.specs.Lines.{site_of}
+use Rattle.rma_form.specs.declared.event.Event.{Event}
+use Rattle.rma_form.specs.declared.event.Stated.{Stated}
+use Rattle.rma_form.specs.Lines.{site_of}
 
 -- The line is the words alone, or the words, a blank, `@`, and this site without a blank.
 abbrev pub IsSplit : List ℕ → List ℕ → Option (List ℕ) → Type 0

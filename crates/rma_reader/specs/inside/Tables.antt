@@ -8,9 +8,9 @@ use Rattle.rma_call.specs.Call.{CallTable}
 use Rattle.rma_field.specs.declared.parse_error.ParseError.{ParseError}
 use Rattle.rma_field.specs.Sites.{site}
 use Rattle.rma_field.specs.Steps.{Fails}
-use Rattle.rma_parse.specs.declared.event.Stated.{Stated}
+use Rattle.rma_form.specs.declared.event.Stated.{Stated}
 use Rattle.rma_reader.specs.declared.read_line.ReadLine.{ReadLine}
-use Rattle.rma_parse.specs.Lines.{site_of}
+use Rattle.rma_form.specs.Lines.{site_of}
 use Rattle.rma_reader.specs.Reading.{IsRead, IsSite}
 
 -- the numbers of the map are in a table of this length

@@ -1,8 +1,8 @@
 use Rattle.std.proofs.Common.{◌+◌, ap, refl, sym, ◌∙◌}
 use Rattle.std.proofs.lemmas.Result.{err_from_is_err_and}
-use Rattle.rma_parse.specs.Forms.{form_at}
-use Rattle.rma_parse.specs.Tails.{tail_counted}
-use Rattle.rma_parse.proofs.LineLemmas.{counted_fields}
+use Rattle.rma_form.specs.Forms.{form_at}
+use Rattle.rma_form.specs.Tails.{tail_counted}
+use Rattle.rma_parse.proofs.FieldLemmas.{counted_fields}
 use Rattle.rma_parse.proofs.parse.counted.Goals as goal
 
 pub returns-in_err-tail_counted-clause-gives : goal.returns-in_err-tail_counted-clause-gives

@@ -4,7 +4,7 @@ use Rattle.std.specs.Prelude.{option_map}
 use Rattle.rma_base.specs.declared.form_reason.FormReason.TheVariants.{UnknownType}
 use Rattle.rma_call.specs.declared.rma.RmaCall.{RmaCall}
 use Rattle.rma_call.specs.declared.what.What.TheVariants as what
-use Rattle.rma_parse.specs.declared.event.Event.TheVariants.{Rma}
+use Rattle.rma_form.specs.declared.event.Event.TheVariants.{Rma}
 use Rattle.rma_buffer.specs.Calls.{rma_call_of}
 use Rattle.rma_buffer.specs.declared.operand.Operands.{Operands}
 use Rattle.rma_buffer.specs.Operands.{kind_of, operands_of}

@@ -1,5 +1,5 @@
 use Rattle.std.proofs.Common.{sym, ◌∙◌, refl}
-use Rattle.rma_parse.specs.declared.event.Event.TheVariants.{Header}
+use Rattle.rma_form.specs.declared.event.Event.TheVariants.{Header}
 use Rattle.rma_book.proofs.StateLemmas.{or_false}
 use Rattle.rma_book.proofs.JudgingLemmas.{IsJudged_good, IsTaken_plain, of_header}
 use Rattle.rma_book.proofs.book.Book.begin.Goals as goal

@@ -1,8 +1,8 @@
 use Rattle.std.proofs.Common.{◌≡◌, Option, None, Result, Ok, Err, IfOk, ap, sym, ◌∙◌}
 use Rattle.rma_base.specs.declared.form_reason.FormReason.{FormReason}
 use Rattle.rma_base.specs.declared.memory.Memory.{Memory}
-use Rattle.rma_parse.specs.declared.event.Event.TheVariants.{Datatype}
-use Rattle.rma_parse.specs.declared.event.type_line.TypeLine.{TypeLine}
+use Rattle.rma_form.specs.declared.event.Event.TheVariants.{Datatype}
+use Rattle.rma_form.specs.declared.event.type_line.TypeLine.{TypeLine}
 use Rattle.rma_type.specs.Table.{Table}
 use Rattle.rma_book.specs.inside.BookState.{BookState, IsChanged, IsJudged}
 use Rattle.rma_book.proofs.AccessLemmas.{datatype_judged}

@@ -1,5 +1,5 @@
 use Rattle.std.proofs.Common.{sym, ◌∙◌, refl}
-use Rattle.rma_parse.specs.declared.event.Event.TheVariants.{End}
+use Rattle.rma_form.specs.declared.event.Event.TheVariants.{End}
 use Rattle.rma_book.proofs.StateLemmas.{or_true}
 use Rattle.rma_book.proofs.JudgingLemmas.{IsJudged_bad, IsJudged_good, IsTaken_plain, of_end}
 use Rattle.rma_book.proofs.book.Book.end.Goals as goal

@@ -1,5 +1,5 @@
 use Rattle.std.proofs.Common.{sym, ◌∙◌, refl}
-use Rattle.rma_parse.specs.declared.event.Event.TheVariants.{Call}
+use Rattle.rma_form.specs.declared.event.Event.TheVariants.{Call}
 use Rattle.rma_book.specs.inside.Naming.{value_of}
 use Rattle.rma_book.proofs.JudgingLemmas.{IsJudged_bad, IsJudged_good, of_call}
 use Rattle.rma_book.proofs.book.Book.judge.Goals as goal

@@ -2,8 +2,8 @@ use Rattle.std.proofs.Common.{◌≡◌, ℕ, ◌++◌, ◌∷◌, [], List, Opt
 use Rattle.std.specs.Option.{option_and_then}
 use Rattle.rma_call.specs.declared.what.What.TheVariants.{Sync}
 use Rattle.rma_call.specs.Call.{CallTable, what_of}
-use Rattle.rma_parse.specs.declared.event.Event.{Event}
-use Rattle.rma_parse.specs.declared.event.Event.TheVariants.{Call}
+use Rattle.rma_form.specs.declared.event.Event.{Event}
+use Rattle.rma_form.specs.declared.event.Event.TheVariants.{Call}
 use Rattle.rma_reader.specs.Reading.{IsSite, Reading}
 use Rattle.rma_book.specs.Calls.{call_with}
 use Rattle.rma_book.specs.declared.reader.Reader.{Reader}

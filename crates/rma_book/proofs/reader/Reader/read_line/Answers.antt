@@ -1,4 +1,4 @@
-use Rattle.rma_parse.specs.declared.event.Event.TheVariants.{Header, End, Datatype}
+use Rattle.rma_form.specs.declared.event.Event.TheVariants.{Header, End, Datatype}
 use Rattle.rma_book.proofs.ReadingLemmas.{OnOk_then, Reads_stated}
 use Rattle.rma_book.proofs.reader.Reader.read_line.Goals as goal
 

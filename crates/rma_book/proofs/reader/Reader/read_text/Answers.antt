@@ -1,6 +1,6 @@
 use Rattle.std.proofs.Common.{List, ℕ, Ok, ap, sym, subst, ◌∙◌}
 use Rattle.std.specs.Result.{OnOk}
-use Rattle.rma_parse.specs.Lines.{reading}
+use Rattle.rma_form.specs.Lines.{reading}
 use Rattle.rma_reader.specs.Reading.{Reading}
 use Rattle.rma_book.specs.inside.Reading.{ReadsNext}
 use Rattle.rma_book.proofs.ReadingLemmas.{OnOk_then, ReadsNext_refused, ReadsNext_stated}

@@ -1,4 +1,4 @@
-use Rattle.rma_parse.proofs.HeadLemmas.{named_is}
+use Rattle.rma_form.proofs.HeadLemmas.{named_is}
 use Rattle.rma_parse.proofs.form.frame.header.Goals as goal
 
 pub returns-in-Ok : goal.returns-in-Ok

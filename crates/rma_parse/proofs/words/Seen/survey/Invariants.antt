@@ -1,7 +1,7 @@
 use Rattle.std.proofs.Common.{◌≡◌, ◌+◌, ◌++◌, length, take, None}
 use Rattle.std.specs.Prelude.{option_map}
 use Rattle.rma_lex.specs.Field.{texts}
-use Rattle.rma_parse.specs.Lines.{last_or}
+use Rattle.rma_form.specs.Lines.{last_or}
 use Rattle.rma_field.specs.Texts.{texts_at}
 use Rattle.rma_parse.proofs.words.Seen.survey.Given as goal
 

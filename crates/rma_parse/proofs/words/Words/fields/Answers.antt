@@ -1,5 +1,5 @@
 use Rattle.std.proofs.Common.{sym, ◌∙◌, subst, ◌≤◌, length}
-use Rattle.rma_parse.specs.Lines.{fields_of}
+use Rattle.rma_form.specs.Lines.{fields_of}
 use Rattle.rma_parse.proofs.SeenLemmas.{first_enough, first_fields}
 use Rattle.rma_parse.proofs.words.Words.fields.Goals as goal
 

@@ -1,5 +1,5 @@
 use Rattle.std.proofs.Common.{List, Option, ℕ, Ok, Some, ap, sym, ◌∙◌}
-use Rattle.rma_parse.specs.Lines.{reading}
+use Rattle.rma_form.specs.Lines.{reading}
 use Rattle.rma_reader.specs.Reading.{Reading}
 use Rattle.rma_reader.proofs.ReaderLemmas.{at_site, reads_split}
 use Rattle.rma_reader.proofs.line_reader.LineReader.read_words.Goals as goal

@@ -1,0 +1,10 @@
+pub mod LineLemmas
+pub mod WordLemmas
+pub mod PlainLemmas
+pub mod KindLemmas
+pub mod GroupLemmas
+pub mod TailLemmas
+pub mod HeadLemmas
+pub mod CanonicalLemmas
+pub mod LineTextLemmas
+pub mod WrittenLemmas

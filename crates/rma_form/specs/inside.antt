@@ -1,0 +1,5 @@
+pub mod TailKinds
+pub mod Suffix
+pub mod Creations
+pub mod Kind
+pub mod AccessWords
