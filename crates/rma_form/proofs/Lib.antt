@@ -6,5 +6,7 @@ pub mod GroupLemmas
 pub mod TailLemmas
 pub mod HeadLemmas
 pub mod CanonicalLemmas
+pub mod TextLemmas
+pub mod ItemLemmas
 pub mod LineTextLemmas
 pub mod WrittenLemmas

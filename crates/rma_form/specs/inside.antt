@@ -1,4 +1,5 @@
 pub mod TailKinds
+pub mod Places
 pub mod Suffix
 pub mod Creations
 pub mod Kind

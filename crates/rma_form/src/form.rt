@@ -210,7 +210,7 @@ struct Row {
 }
 
 // What may stand behind the fields of a line.
-#[derive(Clone, Copy, Debug, PartialEq, Eq)]
+#[derive(Clone, Copy)]
 enum TailKind {
     // Nothing.
     Closed,

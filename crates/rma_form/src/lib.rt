@@ -9,9 +9,13 @@
 mod canonical;
 mod event;
 mod form;
+mod group;
 pub mod laws;
 mod line;
+mod texts;
 
 pub use canonical::line_of;
 pub use event::{Access, Buffer, Event, LocalLine, RmaLine, Stated, Transfer, TypeLine};
 pub use form::{LineForm, form_of, tail_counted};
+pub use group::{DISTANCE, Group, groups};
+pub use texts::{behind, first_of};

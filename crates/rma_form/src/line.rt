@@ -7,7 +7,6 @@ ghost use Rattle.rma_form.specs.inside.Suffix.{asserted_suffix};
 pub(crate) mod datatype;
 pub(crate) mod epoch;
 pub(crate) mod frame;
-pub(crate) mod group;
 pub(crate) mod local;
 pub(crate) mod message;
 pub(crate) mod moving;

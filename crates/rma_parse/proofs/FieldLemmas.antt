@@ -12,9 +12,9 @@ use Rattle.rma_form.specs.Lines.{counted}
 use Rattle.rma_form.specs.Tails.{received, tail_counted, tail_of}
 use Rattle.rma_form.specs.declared.event.Event.{Event}
 use Rattle.rma_form.specs.declared.form.LineForm.{LineForm}
-use Rattle.rma_parse.specs.inside.Places.{from_place}
+use Rattle.rma_form.specs.inside.Places.{from_place}
 use Rattle.rma_form.proofs.LineLemmas.{counted_enough}
-use Rattle.rma_parse.proofs.SeenLemmas.{texts_each}
+use Rattle.rma_form.proofs.TextLemmas.{texts_each}
 
 -- enough fields are counted by what stands behind them
 pub counted_fields : (v : Version) (form : LineForm) (fields : List (Bor (List ℕ))) (least : ℕ) → least ≡ kind_words form + length (form_at form).kinds → least ≤ length fields

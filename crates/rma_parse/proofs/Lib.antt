@@ -1,3 +1,2 @@
 pub mod SeenLemmas
-pub mod ItemLemmas
 pub mod FieldLemmas

@@ -1,16 +1,14 @@
 -- The words of a line behind its verb, as they are seen one after another.
-use Rattle.std.proofs.Common.{◌≡◌, ℕ, ◌-◌, ◌≤◌, ◌<◌, true, false, List, [], ◌∷◌, ◌++◌, length, take, drop, Some, refl, sym, ap, subst, ◌∙◌, arith, zero, suc, min, ⊎_elim, length-take-le}
+use Rattle.std.proofs.Common.{◌≡◌, ℕ, ◌-◌, ◌≤◌, ◌<◌, true, false, List, [], ◌∷◌, ◌++◌, length, take, Some, refl, sym, ap, subst, ◌∙◌, arith, zero, suc, min, ⊎_elim, length-take-le}
 use Rattle.std.specs.Prelude.{is_some, slice_get, unwrap_or}
 use Rattle.std.specs.Borrow.{Bor}
-use Rattle.std.proofs.Math.ListN.{get_or}
 use Rattle.std.proofs.lemmas.Bool.{cases_Bool}
-use Rattle.std.proofs.lemmas.List.{append-nil, drop-map, length-drop, length-map, length-take, take-append-le, take-map}
+use Rattle.std.proofs.lemmas.List.{append-nil, length-map, length-take, take-append-le}
 use Rattle.std.proofs.Math.Seq.{take-append_seam, take-length}
 use Rattle.std.proofs.Math.Nat.{min-le_right}
 use Rattle.std.proofs.lemmas.Option.{none-some}
 use Rattle.rma_form.specs.Lines.{fields_of, site_text}
 use Rattle.rma_field.specs.Texts.{texts_at}
-use Rattle.rma_parse.specs.inside.Places.{from_place}
 
 -- the words without the site are the first
 pub fields_front : (words : List (List ℕ)) (n : ℕ) → length (fields_of words) ≡ n → fields_of words ≡ take n words
@@ -88,28 +86,6 @@ first_kind (item ∷ items) (word ∷ words) kind same is some =
     let here : kind ≡ item = option_same kind item is in
     let text : item.now ≡ word = head_is item.now word _ _ same in
     (head.0, front ∙ head.1 ∙ ap (λ first. first ∷ head.0) (sym text ∙ sym (ap (λ (it : Bor (List ℕ)). it.now) here)))
-
-take_all : {A : Type 0} (from : ℕ) (xs : List A) → take (length xs - from) (drop from xs) ≡ drop from xs
-take_all from xs = ap (λ n. take n (drop from xs)) (sym (length-drop from xs)) ∙ take-length (drop from xs)
-
--- the texts from an index on, and up to one
-pub texts_behind : (from : ℕ) (items : List (Bor (List ℕ))) → texts_at (take (length items - from) (drop from items)) ≡ drop from (texts_at items)
-texts_behind from items = ap texts_at (take_all from items) ∙ sym (drop-map (λ text. text.now) from items)
-
-pub texts_front : (to : ℕ) (items : List (Bor (List ℕ))) → texts_at (take to items) ≡ take to (texts_at items)
-texts_front to items = sym (take-map (λ text. text.now) to items)
-
-from_place_behind : (item : Bor (List ℕ)) (items : List (Bor (List ℕ))) (other : Bor (List ℕ)) (place n : ℕ) → from_place (item ∷ items) other (suc place) n ≡ from_place items other place n
-from_place_behind item items other place zero = refl
-from_place_behind item items other place (suc n) = ap (λ them. (get_or items place other).now ∷ them) (from_place_behind item items other (suc place) n)
-
--- texts are those at their first places, and the rest
-pub texts_each : (n : ℕ) (items : List (Bor (List ℕ))) (other : Bor (List ℕ)) → n ≤ length items → texts_at items ≡ from_place items other 0 n ++ drop n (texts_at items)
-texts_each zero items other enough = refl
-texts_each (suc n) [] other enough = absurd (omega arith)
-texts_each (suc n) (item ∷ items) other enough =
-    ap (λ them. item.now ∷ them)
-    (texts_each n items other (omega arith) ∙ ap (λ them. them ++ drop n (texts_at items)) (sym (from_place_behind item items other 0 n)))
 
 -- as many words as there are without the site are these
 pub all_fields : (all rest words : List (List ℕ)) (count : ℕ) → count ≡ length (fields_of words) → all ++ rest ≡ words → length all ≡ count → all ≡ fields_of words

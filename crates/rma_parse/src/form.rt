@@ -7,19 +7,17 @@ ghost use Rattle.rma_form.specs.Forms.{event_of, form_at};
 mod datatype;
 mod epoch;
 mod frame;
-mod group;
 mod local;
 mod message;
 mod moving;
 mod rma;
 mod window;
 
-use crate::words::behind;
 use rma::Movement;
 use rma_base::Version;
 use rma_call::LocalAccess;
 use rma_field::{ParseError, Texts};
-use rma_form::{Event, LineForm};
+use rma_form::{Event, LineForm, behind};
 
 /// What the further fields of a line of the form state.
 pub(crate) fn read_fields(

@@ -8,10 +8,10 @@ ghost use Rattle.rma_form.specs.Lines.{counted, reading, site_of, stated_by, sta
 ghost use Rattle.rma_parse.specs.inside.Words.{as_found};
 
 use crate::form::read_fields;
-use crate::words::{Seen, Words, begins_with, behind};
+use crate::words::{Seen, Words, begins_with};
 use rma_base::{FormReason, Site, Version};
 use rma_field::{ParseError, Texts, refused};
-use rma_form::{LineForm, Stated, form_of, tail_counted};
+use rma_form::{LineForm, Stated, behind, form_of, tail_counted};
 use rma_lex::{TokenIter, tokens};
 
 /// What a line of a log of this version states; a header is read in the version that it names. A blank line and a comment

@@ -7,6 +7,7 @@ ghost use Rattle.rma_parse.specs.inside.Words.{HasSeen};
 
 use arrayvec::ArrayVec;
 use rma_base::Memory;
+use rma_form::first_of;
 use rma_lex::{TokenIter, tokens};
 use std::alloc::Global;
 use std::marker::Model;
@@ -102,24 +103,6 @@ impl<'w, 'a> Words<'w, 'a> {
         }
         Ok(all)
     }
-}
-
-// The first texts.
-pub(crate) fn first_of<'w, 'a>(texts: &'w [&'a [u8]], count: usize) -> &'w [&'a [u8]]
-    requires { count ≤ length texts.now }
-    ensures texts { texts_at result.now ≡ take count (texts_at texts.now) }
-    ensures number { length result.now ≡ count }
-{
-    &texts[..count]
-}
-
-// The texts from an index on.
-pub(crate) fn behind<'w, 'a>(texts: &'w [&'a [u8]], from: usize) -> &'w [&'a [u8]]
-    requires { from ≤ length texts.now }
-    ensures texts { texts_at result.now ≡ drop from (texts_at texts.now) }
-    ensures number { length result.now + from ≡ length texts.now }
-{
-    &texts[from..]
 }
 
 // What was seen of some words: the first of them, how many they are, and the last.

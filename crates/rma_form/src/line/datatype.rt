@@ -7,7 +7,7 @@ ghost use Rattle.rma_form.specs.Canonical.{spelled};
 ghost use Rattle.rma_form.specs.declared.event.type_line.TypeLine.TheVariants as typed;
 
 use crate::event::{Event, TypeLine};
-use crate::line::group::grouped_line;
+use crate::group::grouped_line;
 use crate::line::named_line;
 use rma_base::{Memory, Name};
 use rma_datatype::{Make, Order};

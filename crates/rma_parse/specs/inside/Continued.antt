@@ -20,7 +20,7 @@ use Rattle.rma_form.specs.declared.event.rma_line.Transfer.{Transfer}
 use Rattle.rma_parse.specs.declared.form.rma.Aimed.{Aimed}
 use Rattle.rma_parse.specs.declared.form.rma.Movement.{Movement}
 use Rattle.rma_parse.specs.declared.form.rma.Movement.TheVariants as movement
-use Rattle.rma_parse.specs.inside.Places.{text_at}
+use Rattle.rma_form.specs.inside.Places.{text_at}
 
 -- what is read goes on with the value that was answered, or fails as the answer says
 abbrev pub GoesOn : {A B : Type 0} → Result A ParseError → Result B FormReason → (A → Result B FormReason) → Type 0

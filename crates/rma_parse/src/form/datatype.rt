@@ -5,13 +5,12 @@ ghost use Rattle.rma_field.specs.Steps.{Gives};
 ghost use Rattle.rma_field.specs.Texts.{texts_at};
 ghost use Rattle.rma_form.specs.Forms.{event_of};
 ghost use Rattle.rma_form.specs.declared.event.type_line.TypeLine.TheVariants as typed;
-ghost use Rattle.rma_parse.specs.inside.Places.{first_texts};
+ghost use Rattle.rma_form.specs.inside.Places.{first_texts};
 
-use crate::form::group::{DISTANCE, groups};
 use rma_base::Name;
 use rma_datatype::Make;
 use rma_field::{ParseError, Texts, int, integer, order_field};
-use rma_form::{Event, LineForm, TypeLine};
+use rma_form::{DISTANCE, Event, LineForm, TypeLine, groups};
 
 pub(crate) fn contiguous(texts: &mut Texts, fields: &[&[u8]]) -> Result<Event, ParseError>
     requires { 3 ≤ length fields.now }

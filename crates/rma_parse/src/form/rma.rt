@@ -4,7 +4,7 @@ ghost use Rattle.rma_field.specs.Steps.{Gives};
 ghost use Rattle.rma_form.specs.Accesses.{rma};
 ghost use Rattle.rma_form.specs.Forms.{event_of};
 ghost use Rattle.rma_parse.specs.inside.Continued.{IsBufferAt, IsTransferAt, access_of, closed_event, transfer_event, fetching_event, requested_event};
-ghost use Rattle.rma_parse.specs.inside.Places.{first_texts};
+ghost use Rattle.rma_form.specs.inside.Places.{first_texts};
 
 use rma_base::limits::SPACE;
 use rma_base::{Name, Rank, Version};

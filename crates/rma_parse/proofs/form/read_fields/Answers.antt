@@ -1,4 +1,4 @@
-use Rattle.rma_parse.specs.inside.Places.{nowhere}
+use Rattle.rma_form.specs.inside.Places.{nowhere}
 use Rattle.rma_form.specs.declared.form.LineForm.TheVariants as form
 use Rattle.rma_parse.proofs.FieldLemmas.{read_as, read_rest}
 use Rattle.rma_parse.proofs.form.read_fields.Goals as goal

@@ -9,8 +9,8 @@ use Rattle.rma_field.specs.declared.parse_error.ParseError.TheVariants.{Fault, M
 use Rattle.rma_field.specs.Steps.{◌>>=◌, Fails}
 use Rattle.rma_field.specs.Texts.{texts_at}
 use Rattle.rma_form.specs.Groups.{items_read}
-use Rattle.rma_parse.specs.inside.Places.{first_texts, nowhere}
-use Rattle.rma_parse.proofs.SeenLemmas.{texts_each}
+use Rattle.rma_form.specs.inside.Places.{first_texts, nowhere}
+use Rattle.rma_form.proofs.TextLemmas.{texts_each}
 
 -- a read that fails makes what follows fail
 pub Fails_bind : {A B : Type 0} (error : ParseError) (read : Result A FormReason) (f : A → Result B FormReason) → Fails error read → Fails error (read >>= f)

@@ -4,8 +4,8 @@ use Rattle.std.proofs.lemmas.Result.{err_from_is_err_and}
 use Rattle.rma_field.specs.Steps.{◌>>=◌, Fails}
 use Rattle.rma_field.specs.Texts.{texts_at}
 use Rattle.rma_form.specs.Groups.{items_read}
-use Rattle.rma_parse.proofs.ItemLemmas.{first_all, items_fail, items_last, items_step}
-use Rattle.rma_parse.proofs.form.group.groups.Goals as goal
+use Rattle.rma_form.proofs.ItemLemmas.{first_all, items_fail, items_last, items_step}
+use Rattle.rma_form.proofs.group.groups.Goals as goal
 
 pub returns-in_err-item : goal.returns-in_err-item
 returns-in_err-item g c version =
@@ -13,10 +13,10 @@ returns-in_err-item g c version =
     let size = c.size-size.result in
     let is = c.size-size.ensures.is in
     let some : 0 < size = subst (λ n. 0 < n) (sym is) c.size-size.ensures.some in
-    let read = g.G.ReadGroup.reading version in
+    let read = g.G.Group.reading version in
     let rest = texts_at c.groups.rest.now in
     let enough : size ≤ length rest = subst (λ n. size ≤ n) (sym (length-map c.groups.rest.now (λ text. text.now))) c.groups-test.true in
-    let front = first_all g.G.ReadGroup.width c.first_of.result.now (c.first_of.ensures.number ∙ is) ∙ c.first_of.ensures.texts in
+    let front = first_all g.G.Group.width c.first_of.result.now (c.first_of.ensures.number ∙ is) ∙ c.first_of.ensures.texts in
     rw (returned.1, returned.2)
     (subst (λ n. Fails c.in_err-item.field-0.0 (items_read n read (length (texts_at c.args.words.now) / n) (texts_at c.args.words.now))) is
     (subst (λ read. Fails c.in_err-item.field-0.0 read) (sym (c.groups.invariant version))
@@ -27,10 +27,10 @@ groups-preserved g c version =
     let size = c.size-size.result in
     let is = c.size-size.ensures.is in
     let some : 0 < size = subst (λ n. 0 < n) (sym is) c.size-size.ensures.some in
-    let read = g.G.ReadGroup.reading version in
+    let read = g.G.Group.reading version in
     let rest = texts_at c.groups.rest.now in
     let enough : size ≤ length rest = subst (λ n. size ≤ n) (sym (length-map c.groups.rest.now (λ text. text.now))) c.groups-test.true in
-    let front = first_all g.G.ReadGroup.width c.first_of.result.now (c.first_of.ensures.number ∙ is) ∙ c.first_of.ensures.texts in
+    let front = first_all g.G.Group.width c.first_of.result.now (c.first_of.ensures.number ∙ is) ∙ c.first_of.ensures.texts in
     c.groups.invariant version
     ∙ items_step size some read rest c.groups.items c.in_ok-item.item enough (ap read (sym front) ∙ c.in_ok-item.ensures version)
     ∙ ap (λ them. items_read size read (length them / size) them >>= λ more. Ok ((c.groups.items ++ c.in_ok-item.item ∷ []) ++ more)) (sym c.behind-rest.ensures.texts)
@@ -39,7 +39,7 @@ groups-preserved g c version =
 pub returns : goal.returns
 returns g c version =
     let size = c.size-size.result in
-    let read = g.G.ReadGroup.reading version in
+    let read = g.G.Group.reading version in
     let rest = texts_at c.groups.rest.now in
     let few : length rest < size = subst (λ n. n < size) (sym (length-map c.groups.rest.now (λ text. text.now))) c.groups-test.false in
     subst (λ n. items_read n read (length (texts_at c.args.words.now) / n) (texts_at c.args.words.now) ≡ Ok c.groups.items) c.size-size.ensures.is
