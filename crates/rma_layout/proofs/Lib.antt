@@ -14,3 +14,5 @@ pub mod SignatureLemmas
 pub mod CommonLemmas
 pub mod TouchedLemmas
 pub mod PlaceLemmas
+pub mod MovedLemmas
+pub mod KnownLemmas

@@ -36,13 +36,13 @@ module _ (space : Space) (es : List (Basic × ℤ)) (entries : ℕ) where
       ap (λ t. first_fault t (nat_lt block_limit (block_count es)) (not (is_all_in space es))) (not_above element_limit entries few)
       ∙ ap (λ t. first_fault false t (not (is_all_in space es))) (above block_limit (block_count es) h)
 
-  out_of_space : entries ≤ element_limit → block_count es ≤ block_limit → is_all_in space es ≡ false → refusal space es entries ≡ Some OutOfSpace
+  pub out_of_space : entries ≤ element_limit → block_count es ≤ block_limit → is_all_in space es ≡ false → refusal space es entries ≡ Some OutOfSpace
   unfolding refusal
   out_of_space few blocks h =
       ap (λ t. first_fault t (nat_lt block_limit (block_count es)) (not (is_all_in space es))) (not_above element_limit entries few)
       ∙ ap (λ t. first_fault false t (not (is_all_in space es))) (not_above block_limit (block_count es) blocks) ∙ ap (λ t. first_fault false false (not t)) h
 
-  not_refused : entries ≤ element_limit → block_count es ≤ block_limit → is_all_in space es ≡ true → refusal space es entries ≡ None
+  pub not_refused : entries ≤ element_limit → block_count es ≤ block_limit → is_all_in space es ≡ true → refusal space es entries ≡ None
   unfolding refusal
   not_refused few blocks h =
       ap (λ t. first_fault t (nat_lt block_limit (block_count es)) (not (is_all_in space es))) (not_above element_limit entries few)

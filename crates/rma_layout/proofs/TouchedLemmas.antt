@@ -88,7 +88,7 @@ shares_are (e ∷ es) =
 abbrev pub AreIn : Space → List ℤ → Type 0
 AreIn space bytes = (b : ℤ) → IsAmong bytes b → (lowest space ≤ℤ b) × (b <ℤ pos address_limit)
 
-between_is : (space : Space) (at end : ℤ) → (is_between space at end ≡ true) ↔ ((lowest space ≤ℤ at) × (end ≤ℤ pos address_limit))
+pub between_is : (space : Space) (at end : ℤ) → (is_between space at end ≡ true) ↔ ((lowest space ≤ℤ at) × (end ≤ℤ pos address_limit))
 between_is space at end =
     let low = Decides_int_le (lowest space) at in
     let high = Decides_int_le end (pos address_limit) in (

@@ -2,3 +2,4 @@ pub mod Bytes
 pub mod Output
 pub mod Steps
 pub mod Frames
+pub mod Known

@@ -12,6 +12,8 @@ mod distance;
 mod expand;
 mod fault;
 mod frame;
+mod known_layout;
+mod layout_table;
 mod output;
 mod overlap;
 mod placement;
@@ -21,5 +23,6 @@ mod step;
 mod subarray;
 
 pub use fault::{LayoutError, LayoutFault};
+pub use layout_table::LayoutTable;
 pub use placement::place;
 pub use space::Space;

@@ -36,7 +36,7 @@ impl Space {
     }
 
     /// Whether what lies between two addresses lies in the space.
-    fn has(self, start: i128, end: i128) -> bool
+    pub(crate) fn has(self, start: i128, end: i128) -> bool
         ensures { result ≡ is_between self start end }
     {
         self.lowest() <= start && end <= END

@@ -1,0 +1,223 @@
+//! Datatypes with the layouts that came last.
+ghost use Rattle.std.specs.Prelude.{◌≡◌, ◌*◌, ◌+◌, ◌<◌, ◌≤◌, ◌^◌, ◌↔◌, List, pos, ◌≤ℤ◌, length, IfOk, OnOk, OnErr, IfErr, IfSome, IsErrOf, None, false};
+ghost use Rattle.rma_base.specs.Limits.{address_limit};
+ghost use Rattle.rma_typemap.specs.Bounds.{entry_count};
+ghost use Rattle.rma_type.specs.declared.origin.Origin.{Origin};
+ghost use Rattle.rma_type.specs.Names.{id_of};
+ghost use Rattle.rma_type.specs.Table.{names_derived, typemaps, typemap_in};
+ghost use Rattle.rma_type.specs.Change.{IsCommitted, IsFreed, IsMade};
+ghost use Rattle.rma_type.specs.FirstTable.{basics, table_of_basics};
+ghost use Rattle.rma_type.specs.Refusal as rule;
+ghost use Rattle.rma_layout.specs.Touched.{touched};
+ghost use Rattle.rma_layout.specs.Layout.{IsLayoutOf};
+ghost use Rattle.rma_layout.specs.Refusal.{refusal, IsErrorOf};
+ghost use Rattle.rma_layout.specs.inside.Known.{AreKnown, IsKnown};
+
+use crate::fault::LayoutError;
+use crate::known_layout::KnownLayout;
+use crate::placement::place;
+use crate::space::Space;
+use rma_base::{Memory, Name};
+use rma_bytes::Layout;
+use rma_datatype::Make;
+use rma_type::{TypeError, TypeFault, TypeId, TypeTable};
+use std::alloc::Global;
+use std::marker::Model;
+
+/// How many layouts are known at most.
+const SLOTS: usize = 64;
+
+/// The datatypes of one rank, and the layouts that were placed last. A program uses the same buffers over and over, or moves
+/// along them: what several runs cover is had once, and then shared by all buffers that differ by their address alone. Contracts
+/// see the datatypes.
+#[derive(Drop)]
+pub struct LayoutTable {
+    /// The datatypes.
+    types: TypeTable,
+    /// Layouts of several runs, each in a slot of its own: `SLOTS` of them.
+    known: Vec<Option<KnownLayout>>,
+}
+
+impl Model for LayoutTable {
+    ghost use Rattle.rma_type.specs.Table.{Table};
+    ghost use Rattle.rma_layout.specs.inside.Known.{AreKnown};
+
+    ghost Value = { Table };
+
+    ghost view = { λ table. table.types };
+
+    ghost invariant = { λ table. AreKnown table.types.origins table.known.items };
+}
+
+impl LayoutTable {
+    /// The table of a rank that made no datatype yet.
+    pub fn new(alloc: Global) -> Result<LayoutTable, Memory>
+        ensures { IfOk result (λ table. table ≡ table_of_basics basics) }
+    {
+        let types = TypeTable::new(alloc)?;
+        let known = no_layouts(alloc)?;
+        Ok(LayoutTable { types, known })
+    }
+
+    /// The datatypes.
+    pub fn types(&self) -> &TypeTable
+        ensures { result.now ≡ self.now }
+    {
+        &self.types
+    }
+
+    /// Makes a datatype under a name, as [`TypeTable::make`] does.
+    ///
+    /// # Errors
+    ///
+    /// Those of [`TypeTable::make`].
+    pub fn make(&mut self, name: &Name, constructor: &Make) -> Result<TypeId, TypeError>
+        requires room { length self.old.origins + 1 < 2 ^ 32 }
+        ensures ok { IfOk result (IsMade self.old self.new name.now constructor.now) }
+        ensures taken { OnOk result (rule.refusal self.old name.now constructor.now ≡ None) }
+        ensures fault { IfErr result (rule.IsErrorOf (rule.refusal self.old name.now constructor.now)) }
+        ensures err { OnErr result (self.new ≡ self.old) }
+    {
+        match self.types.make(name, constructor) {
+            Ok(id) => Ok(id),
+            Err(error) => Err(error),
+        }
+    }
+
+    /// Commits the datatype of a live name, as [`TypeTable::commit`] does.
+    ///
+    /// # Errors
+    ///
+    /// That of [`TypeTable::commit`].
+    pub fn commit(&mut self, name: &Name) -> Result<(), TypeFault>
+        ensures fault { IfErr result (λ e. e ≡ TypeFault.UnknownType) }
+        ensures unknown { IsErrOf result TypeFault.UnknownType ↔ (id_of self.old.live name.now ≡ None) }
+        ensures ok { OnOk result (IsCommitted self.old self.new name.now) }
+        ensures err { OnErr result (self.new ≡ self.old) }
+    {
+        self.types.commit(name)
+    }
+
+    /// Takes the name of a derived datatype away, as [`TypeTable::free`] does.
+    ///
+    /// # Errors
+    ///
+    /// That of [`TypeTable::free`].
+    pub fn free(&mut self, name: &Name) -> Result<(), TypeFault>
+        ensures fault { IfErr result (λ e. e ≡ TypeFault.UnknownType) }
+        ensures unknown { IsErrOf result TypeFault.UnknownType ↔ (names_derived self.old name.now ≡ false) }
+        ensures ok { OnOk result (IsFreed self.old self.new name.now) }
+        ensures err { OnErr result (self.new ≡ self.old) }
+    {
+        self.types.free(name)
+    }
+
+    /// The layout of the first `entries` elements of `count` copies of a datatype at an address, as [`place`] gives it.
+    ///
+    /// # Errors
+    ///
+    /// Those of [`place`].
+    pub fn place(
+        &mut self,
+        datatype: TypeId,
+        count: u32,
+        address: i64,
+        entries: u64,
+        space: Space,
+    ) -> Result<Layout, LayoutError>
+        requires within { datatype.0 < length self.old.origins }
+        requires low { pos 0 ≤ℤ address }
+        requires high { address ≤ℤ pos address_limit }
+        requires there { entries ≤ count * entry_count (typemap_in (typemaps self.old.origins) datatype) }
+        ensures ok { IfOk result (IsLayoutOf (touched (typemap_in (typemaps self.old.origins) datatype) count address entries)) }
+        ensures taken { OnOk result (refusal space (touched (typemap_in (typemaps self.old.origins) datatype) count address entries) entries ≡ None) }
+        ensures fault { IfErr result (IsErrorOf (refusal space (touched (typemap_in (typemaps self.old.origins) datatype) count address entries) entries)) }
+        ensures same { self.new ≡ self.old }
+    {
+        let alloc = self.types.allocator();
+        match self.known(datatype, count, entries) {
+            Some(known) => known.placed_at(alloc, address, space),
+            None => self.place_anew(datatype, count, address, entries, space),
+        }
+    }
+
+    /// The layout of so many elements that came before, if it is known.
+    fn known(&self, datatype: TypeId, count: u32, entries: u64) -> Option<&KnownLayout>
+        ensures known { IfSome result (λ known. IsKnown self.now.origins known.now) }
+        ensures datatype { IfSome result (λ known. known.now.datatype ≡ datatype) }
+        ensures count { IfSome result (λ known. known.now.count ≡ count) }
+        ensures entries { IfSome result (λ known. known.now.entries ≡ entries) }
+    {
+        match self.known.get(slot_of(datatype, entries)) {
+            Some(Some(known))
+                if known.datatype == datatype && known.count == count && known.entries == entries =>
+                { Some(known) }
+            _ => None,
+        }
+    }
+
+    /// The layout of elements that is not known; it is from now on, where it has several runs.
+    #[inline(never)]
+    fn place_anew(
+        &mut self,
+        datatype: TypeId,
+        count: u32,
+        address: i64,
+        entries: u64,
+        space: Space,
+    ) -> Result<Layout, LayoutError>
+        requires within { datatype.0 < length self.old.origins }
+        requires low { pos 0 ≤ℤ address }
+        requires high { address ≤ℤ pos address_limit }
+        requires there { entries ≤ count * entry_count (typemap_in (typemaps self.old.origins) datatype) }
+        ensures ok { IfOk result (IsLayoutOf (touched (typemap_in (typemaps self.old.origins) datatype) count address entries)) }
+        ensures taken { OnOk result (refusal space (touched (typemap_in (typemaps self.old.origins) datatype) count address entries) entries ≡ None) }
+        ensures fault { IfErr result (IsErrorOf (refusal space (touched (typemap_in (typemaps self.old.origins) datatype) count address entries) entries)) }
+        ensures same { self.new ≡ self.old }
+    {
+        let layout = match place(&self.types, datatype, count, address, entries, space) {
+            Ok(layout) => layout,
+            Err(error) => return Err(error),
+        };
+        if layout.len() < 2 {
+            return Ok(layout);
+        }
+        let Ok(same) = layout.moved(self.types.allocator(), 0) else {
+            return Err(LayoutError::Memory);
+        };
+        let known = KnownLayout {
+            datatype,
+            count,
+            entries,
+            address,
+            layout: same,
+        };
+        keep(&mut self.known, known);
+        Ok(layout)
+    }
+}
+
+/// Keeps a layout in place of the one in its slot.
+fn keep(slots: &mut Vec<Option<KnownLayout>>, known: KnownLayout)
+    ensures { (origins : List Origin) → AreKnown origins slots.old.items → IsKnown origins known → AreKnown origins slots.new.items }
+{
+    if let Some(slot) = slots.get_mut(slot_of(known.datatype, known.entries)) {
+        *slot = Some(known);
+    }
+}
+
+/// Slots without layouts.
+fn no_layouts(alloc: Global) -> Result<Vec<Option<KnownLayout>>, Memory>
+    ensures { IfOk result (λ known. (origins : List Origin) → AreKnown origins known.items) }
+{
+    let mut known = Vec::with_capacity(alloc, SLOTS)?;
+    for _ in 0..SLOTS {
+        known.push(None)?;
+    }
+    Ok(known)
+}
+
+/// The slot of a layout of so many elements of a datatype.
+fn slot_of(datatype: TypeId, entries: u64) -> usize {
+    (u64::from(datatype.0) ^ entries) as usize % SLOTS
+}
