@@ -1,1 +1,2 @@
 pub mod WindowsLemmas
+pub mod WholeLemmas

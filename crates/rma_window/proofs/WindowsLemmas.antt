@@ -1,6 +1,6 @@
 -- What is kept of windows, with one more name or one more part.
-use Rattle.std.proofs.Common.{◌≡◌, ℕ, zero, suc, ◌+◌, ◌<◌, ◌≤◌, Bool, true, false, cond, not, ◌&&◌, List, [], ◌∷◌, ◌++◌, length, Option, Some, None, IfSome, is_some, eqb, nat_eq, slice_get, position, refl, sym, ap, subst, ◌∙◌, arith}
-use Rattle.std.specs.Prelude.{All, option_map, find}
+use Rattle.std.proofs.Common.{◌≡◌, ℕ, zero, suc, ◌+◌, ◌<◌, ◌≤◌, Bool, true, false, cond, not, ◌&&◌, List, [], ◌∷◌, ◌++◌, length, Some, None, IfSome, is_some, eqb, nat_eq, slice_get, position, refl, sym, ap, ◌∙◌, arith}
+use Rattle.std.specs.Prelude.{All, option_map}
 use Rattle.std.specs.List.{position_or_len}
 use Rattle.std.specs.Option.{option_and_then}
 use Rattle.std.specs.Map.{lookup, keys_of, values_of}
@@ -15,7 +15,7 @@ use Rattle.rma_base.specs.declared.rank.Rank.{Rank}
 use Rattle.rma_window.specs.declared.part.Part.{Part}
 use Rattle.rma_window.specs.declared.windows.Attributes.{Attributes}
 use Rattle.rma_window.specs.declared.windows.PartKey.{PartKey}
-use Rattle.rma_window.specs.Windows.{Window, is_named, is_rank, part_in, part_named, part_of, with_creation, number_of}
+use Rattle.rma_window.specs.Windows.{Window, is_named, is_rank, part_in, part_named, part_of, with_creation}
 use Rattle.rma_window.specs.inside.Windows.{AreParts, creation_with, index_of, parts_in, window_at, windows_from, with_name}
 
 -- a key of a map of parts

@@ -1,7 +1,8 @@
 -- The calls that create windows (MPI 4.0, "One-Sided Communications").
-use Rattle.std.specs.Prelude.{ℕ, ◌+◌, List, [], ◌∷◌, Bool, true, false, Option, Some, None}
-use Rattle.std.specs.List.{cons_option, flat_map}
-use Rattle.rma_base.specs.Limits.{address_limit}
+use Rattle.std.specs.Prelude.{◌≡◌, ℕ, ◌+◌, ◌≤◌, List, [], ◌∷◌, length, Bool, true, false, ◌&&◌, ◌||◌, ◌==◌, Option, Some, None, option_map, find, sum_by, All, nat_eq}
+use Rattle.std.specs.List.{cons_option, flat_map, list_any}
+use Rattle.std.specs.Cmp.Lexicographic.{pointwise}
+use Rattle.rma_base.specs.Limits.{address_limit, fed_limit}
 use Rattle.rma_base.specs.declared.rank.Rank.{Rank}
 use Rattle.rma_base.specs.declared.window.WinModel.{WinModel}
 use Rattle.rma_base.specs.declared.window.AccOps.{AccOps}
@@ -40,3 +41,23 @@ creations_from rank number (call ∷ calls) = cons_option (creation_of rank numb
 -- the creations among the calls of all ranks, rank by rank in the order of the logs
 abbrev pub creations : List RankCalls → List Creation
 creations ranks = flat_map (λ r. creations_from r.rank 0 r.calls) ranks
+
+-- whether a creation is that of this window by this rank
+abbrev pub is_by : List ℕ → Rank → Creation → Bool
+is_by name rank c = pointwise nat_eq name c.name && rank.0 == c.rank.0
+
+-- the part of a rank in the window of a name, as its first creation by the rank states it
+abbrev pub part_by : List Creation → List ℕ → Rank → Option Part
+part_by list name rank = option_map (λ c. c.part) (find (is_by name rank) list)
+
+-- whether some rank creates a window twice
+abbrev pub creates_again : List Creation → Bool
+creates_again [] = false
+creates_again (c ∷ cs) = list_any (is_by c.name c.rank) cs || creates_again cs
+
+-- calls whose windows can be told: no rank creates a window twice, each part lies in the space of addresses, and there are
+-- no more calls than there may be
+pub record HaveWindows (ranks : List RankCalls) : Type 0 where
+  pub once : creates_again (creations ranks) ≡ false
+  pub in_space : All (λ c. c.part.base + c.part.size ≤ address_limit) (creations ranks)
+  pub few : sum_by (λ r. length r.calls) ranks ≤ fed_limit

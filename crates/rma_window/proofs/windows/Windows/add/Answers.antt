@@ -2,7 +2,7 @@ use Rattle.std.proofs.Common.{◌≡◌, ◌<◌, ◌++◌, ◌∷◌, [], lengt
 use Rattle.std.specs.Map.{lookup}
 use Rattle.indexmap.proofs.CallerLemmas.{insert_entry-new}
 use Rattle.rma_base.specs.Limits.{fed_limit}
-use Rattle.rma_window.specs.inside.Windows.{AreParts, index_of, windows_from}
+use Rattle.rma_window.specs.inside.Windows.{index_of}
 use Rattle.rma_window.proofs.WindowsLemmas.{created, is_key, key, length_windows, part_named_is, parts_with_one}
 use Rattle.rma_window.proofs.windows.Windows.add.Goals as goal
 

@@ -1,4 +1,4 @@
-use Rattle.std.proofs.Common.{sym, ap, ◌∙◌}
+use Rattle.std.proofs.Common.{ap, ◌∙◌}
 use Rattle.std.specs.Prelude.{option_map}
 use Rattle.rma_window.specs.declared.window_id.WindowId.{WindowId}
 use Rattle.rma_window.proofs.WindowsLemmas.{number_of_is}

@@ -1,4 +1,4 @@
-use Rattle.std.proofs.Common.{refl, sym, ap, ◌∙◌, arith}
+use Rattle.std.proofs.Common.{refl, ap, ◌∙◌, arith}
 use Rattle.std.specs.Prelude.{option_map}
 use Rattle.rma_window.specs.Windows.{Window}
 use Rattle.rma_window.proofs.WindowsLemmas.{kept_of_attributes, length_windows}

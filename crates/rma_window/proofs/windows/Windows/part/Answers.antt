@@ -1,4 +1,4 @@
-use Rattle.std.proofs.Common.{◌+◌, ◌≤◌, IfSome, sym, ap, subst, ◌∙◌}
+use Rattle.std.proofs.Common.{◌+◌, ◌≤◌, IfSome, sym, subst, ◌∙◌}
 use Rattle.rma_base.specs.Limits.{address_limit}
 use Rattle.rma_window.specs.declared.part.Part.{Part}
 use Rattle.rma_window.proofs.WindowsLemmas.{is_key, key, looked_up, part_of_is}

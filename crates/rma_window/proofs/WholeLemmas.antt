@@ -1,0 +1,237 @@
+-- The windows of creations that come one after the other.
+use Rattle.std.proofs.Common.{◌≡◌, ℕ, zero, suc, ◌+◌, ◌<◌, ◌≤◌, Bool, true, false, cond, ◌&&◌, ◌||◌, List, [], ◌∷◌, ◌++◌, length, take, get_or, Option, Some, None, IfSome, eqb, nat_eq, slice_get, refl, sym, ap, subst, ◌∙◌, append_assoc, arith}
+use Rattle.std.specs.Prelude.{All, fold}
+use Rattle.std.specs.List.{cons_option, list_any, sum_by}
+use Rattle.std.specs.Option.{option_map_or, option_or}
+use Rattle.std.specs.Map.{lookup}
+use Rattle.std.specs.Cmp.Lexicographic.{pointwise, nat_list_eq_equiv, same_text}
+use Rattle.std.proofs.lemmas.Bool.Decides.{nat_tests}
+use Rattle.std.proofs.lemmas.Bool.{false≢true}
+use Rattle.std.proofs.lemmas.List.{length-append}
+use Rattle.std.proofs.lemmas.List.Folds.{list_any-append}
+use Rattle.std.proofs.lemmas.List.Sums.{fold-append, sum_by-cons}
+use Rattle.rma_base.specs.Limits.{address_limit, fed_limit}
+use Rattle.rma_base.specs.declared.rank.Rank.{Rank}
+use Rattle.rma_call.specs.Call.{Call, RankCalls}
+use Rattle.rma_window.specs.declared.part.Part.{Part}
+use Rattle.rma_window.specs.Creation.{Creation, HaveWindows, creation_of, creations, creations_from, creates_again, is_by, part_by}
+use Rattle.rma_window.specs.Windows.{MayCome, Window, is_named, is_rank, part_named, windows_by, with_call, with_creation}
+use Rattle.rma_window.specs.inside.Order.{AllMayCome}
+
+-- ---- what one creation adds
+
+no_more : {X : Type 0} (o : Option X) → option_or o None ≡ o
+no_more None = refl
+no_more (Some x) = refl
+
+lookup_push : (rank own : Rank) (part : Part) (parts : List (Rank × Part)) →
+    lookup (is_rank rank) (parts ++ (own, part) ∷ []) ≡ option_or (lookup (is_rank rank) parts) (cond (is_rank rank own) (Some part) None)
+lookup_push rank own part [] = refl
+lookup_push rank own part (p ∷ ps) = by (is_rank rank p.0) refl (lookup_push rank own part ps)
+  where
+    by : (b : Bool) → is_rank rank p.0 ≡ b → lookup (is_rank rank) (ps ++ (own, part) ∷ []) ≡ option_or (lookup (is_rank rank) ps) (cond (is_rank rank own) (Some part) None)
+        → lookup (is_rank rank) ((p ∷ ps) ++ (own, part) ∷ []) ≡ option_or (lookup (is_rank rank) (p ∷ ps)) (cond (is_rank rank own) (Some part) None)
+    by true h rest = rw h refl
+    by false h rest = rw h rest
+
+-- the part that a creation states, where it is that of the window by the rank
+abbrev part_if : List ℕ → Rank → Creation → Option Part
+part_if name rank c = cond (is_by name rank c) (Some c.part) None
+
+other_names : (a b c : List ℕ) → pointwise nat_eq a b ≡ true → pointwise nat_eq c b ≡ false → pointwise nat_eq a c ≡ false
+other_names a b c same other = nat_list_eq_equiv.congr a b c same ∙ nat_list_eq_equiv.symm b c ∙ other
+
+same_names : (a b c : List ℕ) → pointwise nat_eq c b ≡ true → pointwise nat_eq a c ≡ pointwise nat_eq a b
+same_names a b c same = ap (pointwise nat_eq a) (same_text c b (sym same))
+
+module _ (name : List ℕ) (rank : Rank) (c : Creation) where
+  part_with : (windows : List Window) → part_named (with_creation windows c) name rank ≡ option_or (part_named windows name rank) (part_if name rank c)
+  part_with [] = by (pointwise nat_eq name c.name) refl
+    where
+      by : (b : Bool) → pointwise nat_eq name c.name ≡ b → part_named (with_creation [] c) name rank ≡ option_or (part_named [] name rank) (part_if name rank c)
+      by true h = rw h refl
+      by false h = rw h refl
+  part_with (w ∷ ws) = by (is_named c.name w) (is_named name w) refl refl (part_with ws)
+    where
+      by : (a b : Bool) → is_named c.name w ≡ a → is_named name w ≡ b → part_named (with_creation ws c) name rank ≡ option_or (part_named ws name rank) (part_if name rank c)
+          → part_named (with_creation (w ∷ ws) c) name rank ≡ option_or (part_named (w ∷ ws) name rank) (part_if name rank c)
+      by true true h g rest = rw (h, g, same_names name w.name c.name h, g) (lookup_push rank c.rank c.part w.parts)
+      by true false h g rest = rw (h, g, same_names name w.name c.name h, g) (sym (no_more (part_named ws name rank)))
+      by false true h g rest = rw (h, g, other_names name w.name c.name g h) (sym (no_more (lookup (is_rank rank) w.parts)))
+      by false false h g rest = rw (h, g) rest
+
+length_with : (windows : List Window) (c : Creation) → length (with_creation windows c) ≤ length windows + 1
+length_with [] c = omega arith
+length_with (w ∷ ws) c = by (is_named c.name w) refl (length_with ws c)
+  where
+    by : (b : Bool) → is_named c.name w ≡ b → length (with_creation ws c) ≤ length ws + 1 → length (with_creation (w ∷ ws) c) ≤ length (w ∷ ws) + 1
+    by true h rest = rw h (omega arith)
+    by false h rest = rw h (omega arith)
+
+-- ---- what all of them add
+
+or_assoc : {X : Type 0} (a b c : Option X) → option_or (option_or a b) c ≡ option_or a (option_or b c)
+or_assoc None b c = refl
+or_assoc (Some x) b c = refl
+
+part_by_cons : (name : List ℕ) (rank : Rank) (c : Creation) (cs : List Creation) → option_or (part_if name rank c) (part_by cs name rank) ≡ part_by (c ∷ cs) name rank
+part_by_cons name rank c cs = by (is_by name rank c) refl
+  where
+    by : (b : Bool) → is_by name rank c ≡ b → option_or (part_if name rank c) (part_by cs name rank) ≡ part_by (c ∷ cs) name rank
+    by true h = rw h refl
+    by false h = rw h refl
+
+part_of_all : (name : List ℕ) (rank : Rank) (cs : List Creation) (windows : List Window) →
+    part_named (fold with_creation windows cs) name rank ≡ option_or (part_named windows name rank) (part_by cs name rank)
+part_of_all name rank [] windows = sym (no_more (part_named windows name rank))
+part_of_all name rank (c ∷ cs) windows =
+    part_of_all name rank cs (with_creation windows c)
+    ∙ ap (λ own. option_or own (part_by cs name rank)) (part_with name rank c windows)
+    ∙ or_assoc (part_named windows name rank) (part_if name rank c) (part_by cs name rank)
+    ∙ ap (option_or (part_named windows name rank)) (part_by_cons name rank c cs)
+
+-- the part of a rank in the window of a name is that of its first creation by the rank
+pub parts_are : (name : List ℕ) (rank : Rank) (cs : List Creation) → part_named (windows_by cs) name rank ≡ part_by cs name rank
+parts_are name rank cs = part_of_all name rank cs []
+
+length_of_all : (cs : List Creation) (windows : List Window) → length (fold with_creation windows cs) ≤ length windows + length cs
+length_of_all [] windows = omega arith
+length_of_all (c ∷ cs) windows = omega (arith, length_of_all cs (with_creation windows c), length_with windows c)
+
+-- ---- what may come
+
+or_false : (a b : Bool) → (a || b) ≡ false → (a ≡ false) × (b ≡ false)
+or_false true b h = absurd (false≢true (sym h))
+or_false false b h = (refl, h)
+
+is_by_flips : (c d : Creation) → is_by c.name c.rank d ≡ is_by d.name d.rank c
+is_by_flips c d = rw (nat_list_eq_equiv.symm c.name d.name) (ap (λ b. pointwise nat_eq d.name c.name && b) (flips c.rank.0 d.rank.0))
+  where
+    flips : (a b : ℕ) → eqb a b ≡ eqb b a
+    flips a b = grind (arith, nat_tests)
+
+-- no creation before is of the same window by the same rank
+none_before : (done rest : List Creation) (c : Creation) → creates_again (done ++ c ∷ rest) ≡ false → part_by done c.name c.rank ≡ None
+none_before [] rest c once = refl
+none_before (d ∷ done) rest c once =
+    let both = or_false (list_any (is_by d.name d.rank) (done ++ c ∷ rest)) (creates_again (done ++ c ∷ rest)) once in
+    let later = or_false (list_any (is_by d.name d.rank) done) (list_any (is_by d.name d.rank) (c ∷ rest)) (sym (list_any-append (is_by d.name d.rank) done (c ∷ rest)) ∙ both.0) in
+    let here = or_false (is_by d.name d.rank c) (list_any (is_by d.name d.rank) rest) later.1 in
+    let own : is_by c.name c.rank d ≡ false = is_by_flips c d ∙ here.0 in
+    rw own (none_before done rest c both.1)
+
+all_come : (done rest : List Creation) → creates_again (done ++ rest) ≡ false → All (λ (c : Creation). c.part.base + c.part.size ≤ address_limit) rest
+    → length done + length rest ≤ fed_limit → AllMayCome (windows_by done) rest
+all_come done [] once in_space few = tt
+all_come done (c ∷ cs) once in_space few =
+    let grown : windows_by (done ++ c ∷ []) ≡ with_creation (windows_by done) c = fold-append with_creation [] done (c ∷ []) in
+    let long : length (done ++ c ∷ []) ≡ length done + 1 = length-append done (c ∷ []) in (
+      record {
+        has_none = parts_are c.name c.rank done ∙ none_before done cs c once;
+        in_space = in_space 0 c (omega arith);
+        has_room = omega (arith, length_of_all done []);
+      },
+      subst (λ windows. AllMayCome windows cs) grown
+          (all_come (done ++ c ∷ []) cs (ap creates_again (append_assoc done (c ∷ []) cs) ∙ once) (λ k d lt. in_space (suc k) d (omega arith)) (omega arith)),
+    )
+
+-- ---- the creations among calls
+
+length_from : (rank : Rank) (number : ℕ) (calls : List Call) → length (creations_from rank number calls) ≤ length calls
+length_from rank number [] = omega arith
+length_from rank number (call ∷ calls) = by (creation_of rank number call.what) (length_from rank (number + 1) calls)
+  where
+    by : (o : Option Creation) → length (creations_from rank (number + 1) calls) ≤ length calls → length (cons_option o (creations_from rank (number + 1) calls)) ≤ length (call ∷ calls)
+    by None rest = omega arith
+    by (Some c) rest = omega arith
+
+length_creations : (ranks : List RankCalls) → length (creations ranks) ≤ sum_by (λ (r : RankCalls). length r.calls) ranks
+length_creations [] = omega arith
+length_creations (r ∷ ranks) =
+    omega (arith, length-append (creations_from r.rank 0 r.calls) (creations ranks), length_from r.rank 0 r.calls, length_creations ranks, sum_by-cons (λ (r : RankCalls). length r.calls) r ranks)
+
+-- the creations of calls whose windows can be told may come one after the other
+pub have_windows : (ranks : List RankCalls) → HaveWindows ranks → AllMayCome [] (creations ranks)
+have_windows ranks have = all_come [] (creations ranks) have.once have.in_space (omega (arith, length_creations ranks, have.few))
+
+-- those of a part of them
+pub first_come : (xs ys : List Creation) (windows : List Window) → AllMayCome windows (xs ++ ys) → AllMayCome windows xs × AllMayCome (fold with_creation windows xs) ys
+first_come [] ys windows come = (tt, come)
+first_come (x ∷ xs) ys windows come = let rest = first_come xs ys (with_creation windows x) come.1 in ((come.0, rest.0), rest.1)
+
+first_comes : (windows : List Window) (o : Option Creation) (rest : List Creation) → AllMayCome windows (cons_option o rest) → IfSome o (MayCome windows)
+first_comes windows None rest come = tt
+first_comes windows (Some c) rest come = come.0
+
+later_come : (P : List Window → Type 0) (windows : List Window) (o : Option Creation) (rest before : List Creation) → AllMayCome windows (cons_option o rest)
+    → ((ws : List Window) → AllMayCome ws rest → P (fold with_creation ws before)) → P (fold with_creation windows (cons_option o before))
+later_come P windows None rest before come each = each windows come
+later_come P windows (Some c) rest before come each = each (with_creation windows c) come.1
+
+next_from : (rank : Rank) (number : ℕ) (calls : List Call) (i : ℕ) (call : Call) (windows : List Window) → AllMayCome windows (creations_from rank number calls) → slice_get calls i ≡ Some call
+    → IfSome (creation_of rank (number + i) call.what) (MayCome (fold with_creation windows (creations_from rank number (take i calls))))
+next_from rank number [] i call windows come at = absurd (let no : ⊥ = cc in no)
+next_from rank number (first ∷ calls) zero call windows come at =
+    let is : first ≡ call = cc in
+    let here : number ≡ number + 0 = omega arith in
+    subst (λ n. IfSome (creation_of rank n call.what) (MayCome windows)) here
+    (subst (λ (own : Call). IfSome (creation_of rank number own.what) (MayCome windows)) is
+    (first_comes windows (creation_of rank number first.what) (creations_from rank (number + 1) calls) come))
+next_from rank number (first ∷ calls) (suc i) call windows come at =
+    let later : number + 1 + i ≡ number + suc i = omega arith in
+    subst (λ n. IfSome (creation_of rank n call.what) (MayCome (fold with_creation windows (creations_from rank number (take (suc i) (first ∷ calls)))))) later
+    (later_come (λ ws. IfSome (creation_of rank (number + 1 + i) call.what) (MayCome ws)) windows (creation_of rank number first.what) (creations_from rank (number + 1) calls)
+    (creations_from rank (number + 1) (take i calls)) come (λ ws rest. next_from rank (number + 1) calls i call ws rest at))
+
+-- the creation that a call is may come after those before it
+pub next_comes : (rank : Rank) (calls : List Call) (i : ℕ) (call : Call) (windows : List Window) → AllMayCome windows (creations_from rank 0 calls) → slice_get calls i ≡ Some call
+    → IfSome (creation_of rank i call.what) (MayCome (fold with_creation windows (creations_from rank 0 (take i calls))))
+next_comes rank calls i call windows come at =
+    let here : 0 + i ≡ i = omega arith in
+    subst (λ n. IfSome (creation_of rank n call.what) (MayCome (fold with_creation windows (creations_from rank 0 (take i calls))))) here (next_from rank 0 calls i call windows come at)
+
+cons_before : (o : Option Creation) (xs ys : List Creation) → cons_option o (xs ++ ys) ≡ cons_option o xs ++ ys
+cons_before None xs ys = refl
+cons_before (Some c) xs ys = refl
+
+creations_more : (rank : Rank) (number : ℕ) (calls : List Call) (i : ℕ) (call : Call) → slice_get calls i ≡ Some call
+    → creations_from rank number (take (i + 1) calls) ≡ creations_from rank number (take i calls) ++ cons_option (creation_of rank (number + i) call.what) []
+creations_more rank number [] i call at = absurd (let no : ⊥ = cc in no)
+creations_more rank number (first ∷ calls) zero call at =
+    let is : first ≡ call = cc in
+    let here : number ≡ number + 0 = omega arith in
+    ap (λ (own : Call). cons_option (creation_of rank number own.what) []) is ∙ ap (λ n. cons_option (creation_of rank n call.what) []) here
+creations_more rank number (first ∷ calls) (suc i) call at =
+    let more : suc i + 1 ≡ suc (i + 1) = omega arith in
+    let later : number + 1 + i ≡ number + suc i = omega arith in
+    let own = creation_of rank number first.what in
+    ap (λ n. creations_from rank number (take n (first ∷ calls))) more
+    ∙ ap (cons_option own) (creations_more rank (number + 1) calls i call at)
+    ∙ cons_before own (creations_from rank (number + 1) (take i calls)) (cons_option (creation_of rank (number + 1 + i) call.what) [])
+    ∙ ap (λ n. cons_option own (creations_from rank (number + 1) (take i calls)) ++ cons_option (creation_of rank n call.what) []) later
+
+taken_one : (windows : List Window) (o : Option Creation) → option_map_or (with_creation windows) o windows ≡ fold with_creation windows (cons_option o [])
+taken_one windows None = refl
+taken_one windows (Some c) = refl
+
+-- what one call more takes
+pub call_taken : (windows : List Window) (rank : Rank) (calls : List Call) (i : ℕ) (call : Call) → slice_get calls i ≡ Some call
+    → with_call (fold with_creation windows (creations_from rank 0 (take i calls))) rank i call.what ≡ fold with_creation windows (creations_from rank 0 (take (i + 1) calls))
+call_taken windows rank calls i call at =
+    let here : i ≡ 0 + i = omega arith in
+    let before = creations_from rank 0 (take i calls) in
+    ap (λ n. with_call (fold with_creation windows before) rank n call.what) here
+    ∙ taken_one (fold with_creation windows before) (creation_of rank (0 + i) call.what)
+    ∙ sym (fold-append with_creation windows before (cons_option (creation_of rank (0 + i) call.what) []))
+    ∙ ap (fold with_creation windows) (sym (creations_more rank 0 calls i call at))
+
+-- the creations of a rank may come after those of the ranks before it
+pub rank_comes : (ranks : List RankCalls) (i : ℕ) (own : RankCalls) (windows : List Window) → i < length ranks → own ≡ get_or ranks i own → AllMayCome windows (creations ranks)
+    → AllMayCome (fold with_creation windows (creations (take i ranks))) (creations_from own.rank 0 own.calls)
+rank_comes [] i own windows lt at come = absurd (omega arith)
+rank_comes (first ∷ ranks) zero own windows lt at come =
+    subst (λ (r : RankCalls). AllMayCome windows (creations_from r.rank 0 r.calls)) (sym at) (first_come (creations_from first.rank 0 first.calls) (creations ranks) windows come).0
+rank_comes (first ∷ ranks) (suc i) own windows lt at come =
+    let before = creations_from first.rank 0 first.calls in
+    subst (λ ws. AllMayCome ws (creations_from own.rank 0 own.calls)) (sym (fold-append with_creation windows before (creations (take i ranks))))
+    (rank_comes ranks i own (fold with_creation windows before) (omega arith) at (first_come before (creations ranks) windows come).1)
