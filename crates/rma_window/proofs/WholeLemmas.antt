@@ -1,21 +1,23 @@
 -- The windows of creations that come one after the other.
-use Rattle.std.proofs.Common.{◌≡◌, ℕ, zero, suc, ◌+◌, ◌<◌, ◌≤◌, Bool, true, false, cond, ◌&&◌, ◌||◌, List, [], ◌∷◌, ◌++◌, length, take, get_or, Option, Some, None, IfSome, eqb, nat_eq, slice_get, refl, sym, ap, subst, ◌∙◌, append_assoc, arith}
-use Rattle.std.specs.Prelude.{All, fold}
+use Rattle.std.proofs.Common.{◌≡◌, ℕ, zero, suc, ◌+◌, ◌<◌, ◌≤◌, Bool, true, false, cond, ◌&&◌, ◌||◌, List, [], ◌∷◌, ◌++◌, length, take, get_or, Option, Some, None, IfSome, eqb, nat_eq, slice_get, refl, sym, ap, subst, ◌∙◌, append_assoc, arith, option_map, not, map, filter}
+use Rattle.std.specs.Prelude.{All, find, fold}
 use Rattle.std.specs.List.{cons_option, list_any, sum_by}
-use Rattle.std.specs.Option.{option_map_or, option_or}
+use Rattle.std.specs.Option.{option_and_then, option_map_or, option_or}
 use Rattle.std.specs.Map.{lookup}
 use Rattle.std.specs.Cmp.Lexicographic.{pointwise, nat_list_eq_equiv, same_text}
 use Rattle.std.proofs.lemmas.Bool.Decides.{nat_tests}
 use Rattle.std.proofs.lemmas.Bool.{false≢true}
-use Rattle.std.proofs.lemmas.List.{length-append}
+use Rattle.std.proofs.lemmas.List.{append-nil, length-append}
 use Rattle.std.proofs.lemmas.List.Folds.{list_any-append}
 use Rattle.std.proofs.lemmas.List.Sums.{fold-append, sum_by-cons}
 use Rattle.rma_base.specs.Limits.{address_limit, fed_limit}
 use Rattle.rma_base.specs.declared.rank.Rank.{Rank}
+use Rattle.rma_base.specs.declared.window.WinModel.{WinModel}
+use Rattle.rma_base.specs.declared.window.AccOps.{AccOps}
 use Rattle.rma_call.specs.Call.{Call, RankCalls}
 use Rattle.rma_window.specs.declared.part.Part.{Part}
-use Rattle.rma_window.specs.Creation.{Creation, HaveWindows, creation_of, creations, creations_from, creates_again, is_by, part_by}
-use Rattle.rma_window.specs.Windows.{MayCome, Window, is_named, is_rank, part_named, windows_by, with_call, with_creation}
+use Rattle.rma_window.specs.Creation.{Creation, HaveWindows, attributes_by, creation_of, creations, creations_from, creates_again, is_by, names_by, part_by}
+use Rattle.rma_window.specs.Windows.{MayCome, Window, attributes_of, name_of, is_named, is_rank, part_in, part_named, windows_by, with_call, with_creation}
 use Rattle.rma_window.specs.inside.Order.{AllMayCome}
 
 -- ---- what one creation adds
@@ -68,6 +70,27 @@ length_with (w ∷ ws) c = by (is_named c.name w) refl (length_with ws c)
     by true h rest = rw h (omega arith)
     by false h rest = rw h (omega arith)
 
+-- what the creation creates the window of the name with
+abbrev attributes_if : List ℕ → Creation → Option (List ℕ × WinModel × AccOps × Bool)
+attributes_if name c = cond (pointwise nat_eq name c.name) (Some (c.name, c.model, c.ops, c.dynamic)) None
+
+module _ (name : List ℕ) (c : Creation) where
+  attributes_with : (windows : List Window) → option_map attributes_of (find (is_named name) (with_creation windows c)) ≡ option_or (option_map attributes_of (find (is_named name) windows)) (attributes_if name c)
+  attributes_with [] = by (pointwise nat_eq name c.name) refl
+    where
+      by : (b : Bool) → pointwise nat_eq name c.name ≡ b → option_map attributes_of (find (is_named name) (with_creation [] c)) ≡ option_or None (attributes_if name c)
+      by true h = rw h refl
+      by false h = rw h refl
+  attributes_with (w ∷ ws) = by (is_named c.name w) (is_named name w) refl refl (attributes_with ws)
+    where
+      by : (a b : Bool) → is_named c.name w ≡ a → is_named name w ≡ b
+          → option_map attributes_of (find (is_named name) (with_creation ws c)) ≡ option_or (option_map attributes_of (find (is_named name) ws)) (attributes_if name c)
+          → option_map attributes_of (find (is_named name) (with_creation (w ∷ ws) c)) ≡ option_or (option_map attributes_of (find (is_named name) (w ∷ ws))) (attributes_if name c)
+      by true true h g rest = rw (h, g) refl
+      by true false h g rest = rw (h, g, same_names name w.name c.name h, g) (sym (no_more (option_map attributes_of (find (is_named name) ws))))
+      by false true h g rest = rw (h, g) refl
+      by false false h g rest = rw (h, g) rest
+
 -- ---- what all of them add
 
 or_assoc : {X : Type 0} (a b c : Option X) → option_or (option_or a b) c ≡ option_or a (option_or b c)
@@ -94,9 +117,116 @@ part_of_all name rank (c ∷ cs) windows =
 pub parts_are : (name : List ℕ) (rank : Rank) (cs : List Creation) → part_named (windows_by cs) name rank ≡ part_by cs name rank
 parts_are name rank cs = part_of_all name rank cs []
 
+attributes_by_cons : (name : List ℕ) (c : Creation) (cs : List Creation) → option_or (attributes_if name c) (attributes_by cs name) ≡ attributes_by (c ∷ cs) name
+attributes_by_cons name c cs = by (pointwise nat_eq name c.name) refl
+  where
+    by : (b : Bool) → pointwise nat_eq name c.name ≡ b → option_or (attributes_if name c) (attributes_by cs name) ≡ attributes_by (c ∷ cs) name
+    by true h = rw h refl
+    by false h = rw h refl
+
+attributes_of_all : (name : List ℕ) (cs : List Creation) (windows : List Window) →
+    option_map attributes_of (find (is_named name) (fold with_creation windows cs)) ≡ option_or (option_map attributes_of (find (is_named name) windows)) (attributes_by cs name)
+attributes_of_all name [] windows = sym (no_more (option_map attributes_of (find (is_named name) windows)))
+attributes_of_all name (c ∷ cs) windows =
+    let own = option_map attributes_of (find (is_named name) windows) in
+    attributes_of_all name cs (with_creation windows c)
+    ∙ ap (λ found. option_or found (attributes_by cs name)) (attributes_with name c windows)
+    ∙ or_assoc own (attributes_if name c) (attributes_by cs name)
+    ∙ ap (option_or own) (attributes_by_cons name c cs)
+
+-- the window of a name was created with what its first creation says
+pub attributes_are : (name : List ℕ) (cs : List Creation) → option_map attributes_of (find (is_named name) (windows_by cs)) ≡ attributes_by cs name
+attributes_are name cs = attributes_of_all name cs []
+
 length_of_all : (cs : List Creation) (windows : List Window) → length (fold with_creation windows cs) ≤ length windows + length cs
 length_of_all [] windows = omega arith
 length_of_all (c ∷ cs) windows = omega (arith, length_of_all cs (with_creation windows c), length_with windows c)
+
+-- ---- the names
+
+-- a name of no window
+abbrev is_new_to : List Window → List ℕ → Bool
+is_new_to windows name = not (list_any (is_named name) windows)
+
+any_with : (name : List ℕ) (c : Creation) (windows : List Window) → list_any (is_named name) (with_creation windows c) ≡ (list_any (is_named name) windows || pointwise nat_eq name c.name)
+any_with name c [] = or_left (pointwise nat_eq name c.name)
+  where
+    or_left : (a : Bool) → (a || false) ≡ a
+    or_left true = refl
+    or_left false = refl
+any_with name c (w ∷ ws) = by (is_named c.name w) (is_named name w) refl refl (any_with name c ws)
+  where
+    or_right : (a : Bool) → a ≡ (a || false)
+    or_right true = refl
+    or_right false = refl
+
+    by : (a b : Bool) → is_named c.name w ≡ a → is_named name w ≡ b → list_any (is_named name) (with_creation ws c) ≡ (list_any (is_named name) ws || pointwise nat_eq name c.name)
+        → list_any (is_named name) (with_creation (w ∷ ws) c) ≡ (list_any (is_named name) (w ∷ ws) || pointwise nat_eq name c.name)
+    by true true h g rest = rw (h, g) refl
+    by true false h g rest = rw (h, g, same_names name w.name c.name h, g) (or_right (list_any (is_named name) ws))
+    by false true h g rest = rw (h, g) refl
+    by false false h g rest = rw (h, g) rest
+
+names_with : (c : Creation) (windows : List Window) → map name_of (with_creation windows c) ≡ map name_of windows ++ cond (is_new_to windows c.name) (c.name ∷ []) []
+names_with c [] = refl
+names_with c (w ∷ ws) = by (is_named c.name w) refl (names_with c ws)
+  where
+    by : (b : Bool) → is_named c.name w ≡ b → map name_of (with_creation ws c) ≡ map name_of ws ++ cond (is_new_to ws c.name) (c.name ∷ []) []
+        → map name_of (with_creation (w ∷ ws) c) ≡ map name_of (w ∷ ws) ++ cond (is_new_to (w ∷ ws) c.name) (c.name ∷ []) []
+    by true h rest = rw h (sym (append-nil (w.name ∷ map name_of ws)))
+    by false h rest = rw h (ap (λ names. w.name ∷ names) rest)
+
+filter_both : {X : Type 0} (p q : X → Bool) (xs : List X) → filter p (filter q xs) ≡ filter (λ x. q x && p x) xs
+filter_both p q [] = refl
+filter_both p q (x ∷ xs) = by (q x) refl (filter_both p q xs)
+  where
+    by : (b : Bool) → q x ≡ b → filter p (filter q xs) ≡ filter (λ y. q y && p y) xs → filter p (filter q (x ∷ xs)) ≡ filter (λ y. q y && p y) (x ∷ xs)
+    by true h rest = rw h (ap (λ ys. cond (p x) (x ∷ ys) ys) rest)
+    by false h rest = rw h rest
+
+filter_same : {X : Type 0} (p q : X → Bool) → ((x : X) → p x ≡ q x) → (xs : List X) → filter p xs ≡ filter q xs
+filter_same p q is [] = refl
+filter_same p q is (x ∷ xs) = ap (λ b. cond b (x ∷ filter p xs) (filter p xs)) (is x) ∙ ap (λ ys. cond (q x) (x ∷ ys) ys) (filter_same p q is xs)
+
+-- the names that are new after a creation
+left_over : (c : Creation) (windows : List Window) (names : List (List ℕ)) →
+    filter (is_new_to (with_creation windows c)) names ≡ filter (is_new_to windows) (filter (λ name. not (pointwise nat_eq c.name name)) names)
+left_over c windows names =
+    filter_same (is_new_to (with_creation windows c)) (λ name. not (pointwise nat_eq c.name name) && is_new_to windows name) each names
+    ∙ sym (filter_both (is_new_to windows) (λ name. not (pointwise nat_eq c.name name)) names)
+  where
+    neither : (a b : Bool) → not (a || b) ≡ (not b && not a)
+    neither true true = refl
+    neither true false = refl
+    neither false true = refl
+    neither false false = refl
+
+    each : (name : List ℕ) → is_new_to (with_creation windows c) name ≡ (not (pointwise nat_eq c.name name) && is_new_to windows name)
+    each name =
+        ap not (any_with name c windows ∙ ap (λ b. list_any (is_named name) windows || b) (nat_list_eq_equiv.symm name c.name))
+        ∙ neither (list_any (is_named name) windows) (pointwise nat_eq c.name name)
+
+joined : {X : Type 0} (b : Bool) (x : X) (before after : List X) → (before ++ cond b (x ∷ []) []) ++ after ≡ before ++ cond b (x ∷ after) after
+joined true x before after = append_assoc before (x ∷ []) after
+joined false x before after = ap (λ xs. xs ++ after) (append-nil before)
+
+names_of_all : (cs : List Creation) (windows : List Window) → map name_of (fold with_creation windows cs) ≡ map name_of windows ++ filter (is_new_to windows) (names_by cs)
+names_of_all [] windows = sym (append-nil (map name_of windows))
+names_of_all (c ∷ cs) windows =
+    let names = names_by cs in
+    let later = filter (λ name. not (pointwise nat_eq c.name name)) names in
+    names_of_all cs (with_creation windows c)
+    ∙ ap (λ before. before ++ filter (is_new_to (with_creation windows c)) names) (names_with c windows)
+    ∙ ap (λ after. (map name_of windows ++ cond (is_new_to windows c.name) (c.name ∷ []) []) ++ after) (left_over c windows names)
+    ∙ joined (is_new_to windows c.name) c.name (map name_of windows) (filter (is_new_to windows) later)
+
+-- the windows stand in the order of their first creations, each once
+pub names_are : (cs : List Creation) → map name_of (windows_by cs) ≡ names_by cs
+names_are cs = names_of_all cs [] ∙ all_new (names_by cs)
+  where
+    all_new : (names : List (List ℕ)) → filter (is_new_to []) names ≡ names
+    all_new [] = refl
+    all_new (name ∷ names) = ap (λ ns. name ∷ ns) (all_new names)
 
 -- ---- what may come
 
@@ -235,3 +365,31 @@ rank_comes (first ∷ ranks) (suc i) own windows lt at come =
     let before = creations_from first.rank 0 first.calls in
     subst (λ ws. AllMayCome ws (creations_from own.rank 0 own.calls)) (sym (fold-append with_creation windows before (creations (take i ranks))))
     (rank_comes ranks i own (fold with_creation windows before) (omega arith) at (first_come before (creations ranks) windows come).1)
+
+-- ---- what stays
+
+-- a window keeps its number, and what it was first created with
+pub window_stays : (windows : List Window) (c : Creation) (i : ℕ) → i < length windows → option_map attributes_of (slice_get (with_creation windows c) i) ≡ option_map attributes_of (slice_get windows i)
+window_stays [] c i lt = absurd (omega arith)
+window_stays (w ∷ ws) c i lt = by (is_named c.name w) refl i lt (λ k below. window_stays ws c k below)
+  where
+    by : (b : Bool) → is_named c.name w ≡ b → (i : ℕ) → i < length (w ∷ ws) → ((k : ℕ) → k < length ws → option_map attributes_of (slice_get (with_creation ws c) k) ≡ option_map attributes_of (slice_get ws k))
+        → option_map attributes_of (slice_get (with_creation (w ∷ ws) c) i) ≡ option_map attributes_of (slice_get (w ∷ ws) i)
+    by true h zero lt rest = rw h refl
+    by true h (suc k) lt rest = rw h refl
+    by false h zero lt rest = rw h refl
+    by false h (suc k) lt rest = rw h (rest k (omega arith))
+
+-- a rank keeps its part
+pub part_stays : (windows : List Window) (c : Creation) (i : ℕ) (rank : Rank) (part : Part) → option_and_then (part_in rank) (slice_get windows i) ≡ Some part
+    → option_and_then (part_in rank) (slice_get (with_creation windows c) i) ≡ Some part
+part_stays [] c i rank part has = absurd (let no : ⊥ = cc in no)
+part_stays (w ∷ ws) c i rank part has = by (is_named c.name w) refl i has (λ k own. part_stays ws c k rank part own)
+  where
+    by : (b : Bool) → is_named c.name w ≡ b → (i : ℕ) → option_and_then (part_in rank) (slice_get (w ∷ ws) i) ≡ Some part
+        → ((k : ℕ) → option_and_then (part_in rank) (slice_get ws k) ≡ Some part → option_and_then (part_in rank) (slice_get (with_creation ws c) k) ≡ Some part)
+        → option_and_then (part_in rank) (slice_get (with_creation (w ∷ ws) c) i) ≡ Some part
+    by true h zero has rest = rw h (lookup_push rank c.rank c.part w.parts ∙ ap (λ found. option_or found (cond (is_rank rank c.rank) (Some c.part) None)) has)
+    by true h (suc k) has rest = rw h has
+    by false h zero has rest = rw h has
+    by false h (suc k) has rest = rw h (rest k has)

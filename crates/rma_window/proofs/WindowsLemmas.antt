@@ -1,12 +1,13 @@
 -- What is kept of windows, with one more name or one more part.
-use Rattle.std.proofs.Common.{◌≡◌, ℕ, zero, suc, ◌+◌, ◌<◌, ◌≤◌, Bool, true, false, cond, not, ◌&&◌, List, [], ◌∷◌, ◌++◌, length, Some, None, IfSome, is_some, eqb, nat_eq, slice_get, position, refl, sym, ap, ◌∙◌, arith}
+use Rattle.std.proofs.Common.{◌≡◌, ℕ, zero, suc, ◌+◌, ◌<◌, ◌≤◌, Bool, true, false, cond, not, ◌&&◌, List, [], ◌∷◌, ◌++◌, length, Some, None, IfSome, is_some, eqb, nat_eq, slice_get, position, refl, sym, ap, ◌∙◌, arith, get_or}
 use Rattle.std.specs.Prelude.{All, option_map}
-use Rattle.std.specs.List.{position_or_len}
+use Rattle.std.specs.List.{position_or_len, IsDistinct}
 use Rattle.std.specs.Option.{option_and_then}
 use Rattle.std.specs.Map.{lookup, keys_of, values_of}
-use Rattle.std.specs.Cmp.Lexicographic.{pointwise}
+use Rattle.std.specs.Cmp.Lexicographic.{pointwise, nat_list_eq_equiv}
 use Rattle.std.proofs.lemmas.Bool.Decides.{nat_tests}
-use Rattle.std.proofs.lemmas.Bool.{false≢true}
+use Rattle.std.proofs.lemmas.Bool.{false≢true, lt-ltb}
+use Rattle.std.proofs.lemmas.Map.Keys.{apart_from_distinct, IsDistinct-tail}
 use Rattle.std.proofs.lemmas.List.{length-map}
 use Rattle.std.proofs.lemmas.List.Elements.{All-push}
 use Rattle.indexmap.specs.IndexMap.{insert_entry}
@@ -89,6 +90,20 @@ pub number_of_is : (name : List ℕ) (names : List (List ℕ × Attributes)) (pa
     position (pointwise nat_eq name) (keys_of names) ≡ position (is_named name) (windows_from 0 names parts)
 number_of_is name names parts =
     rw (index_of_window name 0 names parts, length_windows 0 names parts, length-map names (λ e. e.0)) refl
+
+-- a name that stands once has its own index
+own_index : (names : List (List ℕ)) (i : ℕ) (name : List ℕ) → IsDistinct (pointwise nat_eq) names → i < length names → name ≡ get_or names i name → position_or_len (pointwise nat_eq name) names ≡ i
+own_index [] i name once lt at = absurd (omega arith)
+own_index (first ∷ names) zero name once lt at =
+    let own : pointwise nat_eq name first ≡ true = ap (pointwise nat_eq name) (sym at) ∙ nat_list_eq_equiv.refl name in
+    rw own refl
+own_index (first ∷ names) (suc i) name once lt at =
+    let other : pointwise nat_eq name first ≡ false =
+    nat_list_eq_equiv.symm name first ∙ ap (pointwise nat_eq first) at ∙ apart_from_distinct (pointwise nat_eq) (first ∷ names) 0 (suc i) name once (omega arith) lt in
+    rw other (let later = own_index names i name (IsDistinct-tail (pointwise nat_eq) first names once) (omega arith) at in omega (arith, later))
+
+pub own_position : (names : List (List ℕ)) (i : ℕ) (name : List ℕ) → IsDistinct (pointwise nat_eq) names → i < length names → name ≡ get_or names i name → position (pointwise nat_eq name) names ≡ Some i
+own_position names i name once lt at = rw (own_index names i name once lt at, lt-ltb i (length names) lt) refl
 
 -- what is kept of the window of an index
 module _ {X : Type 0} (f : Window → X) where

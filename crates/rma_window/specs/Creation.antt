@@ -1,5 +1,5 @@
 -- The calls that create windows (MPI 4.0, "One-Sided Communications").
-use Rattle.std.specs.Prelude.{◌≡◌, ℕ, ◌+◌, ◌≤◌, List, [], ◌∷◌, length, Bool, true, false, ◌&&◌, ◌||◌, ◌==◌, Option, Some, None, option_map, find, sum_by, All, nat_eq}
+use Rattle.std.specs.Prelude.{◌≡◌, ℕ, ◌+◌, ◌≤◌, List, [], ◌∷◌, length, Bool, true, false, ◌&&◌, ◌||◌, ◌==◌, Option, Some, None, option_map, find, filter, not, sum_by, All, nat_eq}
 use Rattle.std.specs.List.{cons_option, flat_map, list_any}
 use Rattle.std.specs.Cmp.Lexicographic.{pointwise}
 use Rattle.rma_base.specs.Limits.{address_limit, fed_limit}
@@ -49,6 +49,15 @@ is_by name rank c = pointwise nat_eq name c.name && rank.0 == c.rank.0
 -- the part of a rank in the window of a name, as its first creation by the rank states it
 abbrev pub part_by : List Creation → List ℕ → Rank → Option Part
 part_by list name rank = option_map (λ c. c.part) (find (is_by name rank) list)
+
+-- what the first creation of the window of a name creates it with
+abbrev pub attributes_by : List Creation → List ℕ → Option (List ℕ × WinModel × AccOps × Bool)
+attributes_by list name = option_map (λ c. (c.name, c.model, c.ops, c.dynamic)) (find (λ c. pointwise nat_eq name c.name) list)
+
+-- the names of the windows that are created, each once, in the order of their first creations
+abbrev pub names_by : List Creation → List (List ℕ)
+names_by [] = []
+names_by (c ∷ cs) = c.name ∷ filter (λ name. not (pointwise nat_eq c.name name)) (names_by cs)
 
 -- whether some rank creates a window twice
 abbrev pub creates_again : List Creation → Bool

@@ -21,6 +21,9 @@ pub record Window : Type 0 where
   pub dynamic : Bool
   pub parts : List (Rank × Part)
 
+abbrev pub name_of : Window → List ℕ
+name_of window = window.name
+
 -- whether a window has this name
 abbrev pub is_named : List ℕ → Window → Bool
 is_named name window = pointwise nat_eq name window.name
@@ -77,3 +80,7 @@ pub record MayCome (windows : List Window) (c : Creation) : Type 0 where
 -- the windows of these creations, one after the other
 abbrev pub windows_by : List Creation → List Window
 windows_by list = fold with_creation [] list
+
+-- what a window was first created with
+abbrev pub attributes_of : Window → List ℕ × WinModel × AccOps × Bool
+attributes_of window = (window.name, window.model, window.ops, window.dynamic)

@@ -8,6 +8,7 @@
 //! All names stand in one map and all parts in another, so a part takes the same memory however few ranks have one.
 #![tactic(auto)]
 
+pub mod laws;
 mod part;
 mod whole;
 mod window_id;

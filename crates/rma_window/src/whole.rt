@@ -1,9 +1,9 @@
 //! The windows of whole logs.
-ghost use Rattle.std.specs.Prelude.{◌≡◌, ◌≤◌, ℕ, List, length, fold, IfOk, OnOk};
+ghost use Rattle.std.specs.Prelude.{◌≡◌, ◌≤◌, ℕ, List, length, map, find, fold, option_map, IfOk, OnOk};
 ghost use Rattle.rma_base.specs.Limits.{fed_limit};
 ghost use Rattle.rma_base.specs.declared.rank.Rank.{Rank};
-ghost use Rattle.rma_window.specs.Creation.{HaveWindows, creations, creations_from, part_by};
-ghost use Rattle.rma_window.specs.Windows.{part_named, windows_by, with_creation};
+ghost use Rattle.rma_window.specs.Creation.{HaveWindows, attributes_by, creations, creations_from, names_by, part_by};
+ghost use Rattle.rma_window.specs.Windows.{attributes_of, is_named, name_of, part_named, windows_by, with_creation};
 ghost use Rattle.rma_window.specs.inside.Order.{AllMayCome};
 
 use crate::windows::Windows;
@@ -20,6 +20,8 @@ impl Windows {
     pub fn of_calls(alloc: Global, ranks: &[RankCalls]) -> Result<Windows, Memory>
         requires { HaveWindows ranks.now }
         ensures windows { IfOk result (λ windows. windows ≡ windows_by (creations ranks.now)) }
+        ensures names { IfOk result (λ windows. map name_of windows ≡ names_by (creations ranks.now)) }
+        ensures attributes { IfOk result (λ windows. (name : List ℕ) → option_map attributes_of (find (is_named name) windows) ≡ attributes_by (creations ranks.now) name) }
         ensures parts { IfOk result (λ windows. (name : List ℕ) (rank : Rank) → part_named windows name rank ≡ part_by (creations ranks.now) name rank) }
     {
         let mut windows = Windows::new(alloc);

@@ -3,7 +3,7 @@ ghost use Rattle.std.specs.Prelude.{◌≡◌, ◌+◌, ◌<◌, ◌≤◌, [], 
 ghost use Rattle.rma_base.specs.Limits.{address_limit, fed_limit};
 ghost use Rattle.rma_call.specs.Call.{call_of};
 ghost use Rattle.rma_window.specs.Creation.{creation_of};
-ghost use Rattle.rma_window.specs.Windows.{MayCome, number_of, window_of, part_of, with_call, with_creation};
+ghost use Rattle.rma_window.specs.Windows.{MayCome, name_of, number_of, window_of, part_of, with_call, with_creation};
 ghost use Rattle.rma_window.specs.inside.Windows.{creation_with, index_of, with_name};
 
 use crate::part::Part;
@@ -131,7 +131,8 @@ impl Windows {
     /// The name of the window.
     pub fn name(&self, window: WindowId) -> &Name
         requires { window.0 < length self.now }
-        ensures { option_map (λ w. w.name) (window_of self.now window) ≡ Some result.now }
+        ensures name { option_map name_of (window_of self.now window) ≡ Some result.now }
+        ensures found { number_of self.now result.now ≡ Some window }
     {
         &self.names.keys().as_slice()[window.0 as usize]
     }
