@@ -1,6 +1,8 @@
 -- The windows of creations that come one after the other.
 use Rattle.std.proofs.Common.{◌≡◌, ℕ, zero, suc, ◌+◌, ◌<◌, ◌≤◌, Bool, true, false, cond, ◌&&◌, ◌||◌, List, [], ◌∷◌, ◌++◌, length, take, get_or, Option, Some, None, IfSome, eqb, nat_eq, slice_get, refl, sym, ap, subst, ◌∙◌, append_assoc, arith, option_map, not, map, filter}
-use Rattle.std.specs.Prelude.{All, find, fold}
+use Rattle.std.specs.Prelude.{All, find, fold, position}
+use Rattle.std.specs.List.{position_or_len}
+use Rattle.std.proofs.lemmas.Option.{slice_get_past}
 use Rattle.std.specs.List.{cons_option, list_any, sum_by}
 use Rattle.std.specs.Option.{option_and_then, option_map_or, option_or}
 use Rattle.std.specs.Map.{lookup}
@@ -8,7 +10,7 @@ use Rattle.std.specs.Cmp.Lexicographic.{pointwise, nat_list_eq_equiv, same_text}
 use Rattle.std.proofs.lemmas.Bool.Decides.{nat_tests}
 use Rattle.std.proofs.lemmas.Bool.{false≢true}
 use Rattle.std.proofs.lemmas.List.{append-nil, length-append}
-use Rattle.std.proofs.lemmas.List.Folds.{list_any-append}
+use Rattle.std.proofs.lemmas.List.Folds.{find_at, list_any-append}
 use Rattle.std.proofs.lemmas.List.Sums.{fold-append, sum_by-cons}
 use Rattle.rma_base.specs.Limits.{address_limit, fed_limit}
 use Rattle.rma_base.specs.declared.rank.Rank.{Rank}
@@ -16,8 +18,9 @@ use Rattle.rma_base.specs.declared.window.WinModel.{WinModel}
 use Rattle.rma_base.specs.declared.window.AccOps.{AccOps}
 use Rattle.rma_call.specs.Call.{Call, RankCalls}
 use Rattle.rma_window.specs.declared.part.Part.{Part}
-use Rattle.rma_window.specs.Creation.{Creation, HaveWindows, attributes_by, creation_of, creations, creations_from, creates_again, is_by, names_by, part_by}
-use Rattle.rma_window.specs.Windows.{MayCome, Window, attributes_of, name_of, is_named, is_rank, part_in, part_named, windows_by, with_call, with_creation}
+use Rattle.rma_window.specs.declared.window_id.WindowId.{WindowId}
+use Rattle.rma_window.specs.Creation.{Creation, CreateWindowsOnce, attributes_by, creation_of, creations, creations_from, creates_again, is_by, names_by, part_by}
+use Rattle.rma_window.specs.Windows.{MayCome, Window, attributes_of, name_of, is_named, is_rank, number_of, window_of, part_in, part_named, windows_by, with_call, with_creation}
 use Rattle.rma_window.specs.inside.Order.{AllMayCome}
 
 -- ---- what one creation adds
@@ -280,9 +283,9 @@ length_creations [] = omega arith
 length_creations (r ∷ ranks) =
     omega (arith, length-append (creations_from r.rank 0 r.calls) (creations ranks), length_from r.rank 0 r.calls, length_creations ranks, sum_by-cons (λ (r : RankCalls). length r.calls) r ranks)
 
--- the creations of calls whose windows can be told may come one after the other
-pub have_windows : (ranks : List RankCalls) → HaveWindows ranks → AllMayCome [] (creations ranks)
-have_windows ranks have = all_come [] (creations ranks) have.once have.in_space (omega (arith, length_creations ranks, have.few))
+-- where no rank creates a window twice, the creations may come one after the other
+pub all_may_come : (ranks : List RankCalls) → CreateWindowsOnce ranks → AllMayCome [] (creations ranks)
+all_may_come ranks have = all_come [] (creations ranks) have.once have.in_space (omega (arith, length_creations ranks, have.few))
 
 -- those of a part of them
 pub first_come : (xs ys : List Creation) (windows : List Window) → AllMayCome windows (xs ++ ys) → AllMayCome windows xs × AllMayCome (fold with_creation windows xs) ys
@@ -393,3 +396,14 @@ part_stays (w ∷ ws) c i rank part has = by (is_named c.name w) refl i has (λ 
     by true h (suc k) has rest = rw h has
     by false h zero has rest = rw h has
     by false h (suc k) has rest = rw h (rest k has)
+
+-- the window of a name is that of its number
+pub found_at_number : (windows : List Window) (name : List ℕ) → option_and_then (window_of windows) (number_of windows name) ≡ find (is_named name) windows
+found_at_number windows name = by (position (is_named name) windows) ∙ at_position (is_named name) windows
+  where
+    by : (o : Option ℕ) → option_and_then (window_of windows) (option_map (λ n. let id : WindowId = record { 0 = n } in id) o) ≡ option_and_then (slice_get windows) o
+    by None = refl
+    by (Some n) = refl
+
+    at_position : {X : Type 0} (p : X → Bool) (xs : List X) → option_and_then (slice_get xs) (position p xs) ≡ find p xs
+    at_position p xs = grind (arith, nat_tests, find_at p xs, slice_get_past xs (position_or_len p xs))

@@ -64,9 +64,8 @@ abbrev pub creates_again : List Creation → Bool
 creates_again [] = false
 creates_again (c ∷ cs) = list_any (is_by c.name c.rank) cs || creates_again cs
 
--- calls whose windows can be told: no rank creates a window twice, each part lies in the space of addresses, and there are
--- no more calls than there may be
-pub record HaveWindows (ranks : List RankCalls) : Type 0 where
+-- no rank creates a window twice, each part lies in the space of addresses, and there are no more calls than there may be
+pub record CreateWindowsOnce (ranks : List RankCalls) : Type 0 where
   pub once : creates_again (creations ranks) ≡ false
   pub in_space : All (λ c. c.part.base + c.part.size ≤ address_limit) (creations ranks)
   pub few : sum_by (λ r. length r.calls) ranks ≤ fed_limit

@@ -21,6 +21,7 @@ pub record Window : Type 0 where
   pub dynamic : Bool
   pub parts : List (Rank × Part)
 
+-- the name of a window
 abbrev pub name_of : Window → List ℕ
 name_of window = window.name
 

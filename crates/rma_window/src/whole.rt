@@ -2,7 +2,7 @@
 ghost use Rattle.std.specs.Prelude.{◌≡◌, ◌≤◌, ℕ, List, length, map, find, fold, option_map, IfOk, OnOk};
 ghost use Rattle.rma_base.specs.Limits.{fed_limit};
 ghost use Rattle.rma_base.specs.declared.rank.Rank.{Rank};
-ghost use Rattle.rma_window.specs.Creation.{HaveWindows, attributes_by, creations, creations_from, names_by, part_by};
+ghost use Rattle.rma_window.specs.Creation.{CreateWindowsOnce, attributes_by, creations, creations_from, names_by, part_by};
 ghost use Rattle.rma_window.specs.Windows.{attributes_of, is_named, name_of, part_named, windows_by, with_creation};
 ghost use Rattle.rma_window.specs.inside.Order.{AllMayCome};
 
@@ -16,9 +16,9 @@ impl Windows {
     ///
     /// # Errors
     ///
-    /// `Memory`, and nothing else.
+    /// `Memory` where there is none left.
     pub fn of_calls(alloc: Global, ranks: &[RankCalls]) -> Result<Windows, Memory>
-        requires { HaveWindows ranks.now }
+        requires { CreateWindowsOnce ranks.now }
         ensures windows { IfOk result (λ windows. windows ≡ windows_by (creations ranks.now)) }
         ensures names { IfOk result (λ windows. map name_of windows ≡ names_by (creations ranks.now)) }
         ensures attributes { IfOk result (λ windows. (name : List ℕ) → option_map attributes_of (find (is_named name) windows) ≡ attributes_by (creations ranks.now) name) }

@@ -37,7 +37,9 @@ struct Attributes {
 /// Whose part of which window.
 #[derive(Clone, Copy, Debug, PartialEq, Eq, Hash)]
 struct PartKey {
+    /// The window.
     window: WindowId,
+    /// The rank that brings the part.
     rank: Rank,
 }
 
@@ -116,6 +118,13 @@ impl Windows {
         let window = numbered(&mut self.names, name, attributes)?;
         self.parts.insert(PartKey { window, rank }, part)?;
         Ok(())
+    }
+
+    /// The number of windows.
+    pub fn len(&self) -> usize
+        ensures { result ≡ length self.now }
+    {
+        self.names.len()
     }
 
     /// The window of the name, where one was created.
