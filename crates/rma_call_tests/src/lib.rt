@@ -1,6 +1,6 @@
 //! Tests of the libraries that speak of the calls of a log, through their public calls: the log of one rank and its list of
-//! calls, how calls match, and the report. They are tables of expected values, and each call that may want memory is made
-//! once with ample memory.
+//! calls, the windows that they create, how calls match, and the report. They are tables of expected values, and each call
+//! that may want memory is made once with ample memory.
 #![tactic(auto)]
 
 #[cfg(test)]
@@ -17,3 +17,5 @@ mod report;
 mod shapes;
 #[cfg(test)]
 mod sync;
+#[cfg(test)]
+mod window;
