@@ -1,0 +1,4 @@
+pub mod Point
+pub mod Link
+pub mod Order
+pub mod Within
