@@ -1,0 +1,9 @@
+pub mod ListLemmas
+pub mod InboxLemmas
+pub mod PendingLemmas
+pub mod FrontLemmas
+pub mod BlockerLemmas
+pub mod StackLemmas
+pub mod WorkLemmas
+pub mod SearchLemmas
+pub mod OutcomeLemmas

@@ -1,0 +1,112 @@
+-- A walk on its way.
+use Rattle.std.proofs.Common.{◌≡◌, ℕ, ◌*◌, ◌<◌, ◌⊎◌, Bool, true, false, List, [], ◌∷◌, ◌++◌, length, set, sym, ap, subst, arith, ⊎_elim}
+use Rattle.std.specs.Prelude.{slice_index, slice_index_or}
+use Rattle.std.proofs.lemmas.List.{length-set}
+use Rattle.rma_base.specs.declared.point.Point.{Point}
+use Rattle.rma_link.specs.declared.links.Links.{Links}
+use Rattle.rma_walk.specs.inside.Run.{IsReady, IsBlocked, next_point}
+use Rattle.rma_walk.specs.inside.Front.{IsFront}
+use Rattle.rma_walk.specs.inside.Pending.{IsPending}
+use Rattle.rma_walk.specs.inside.Search.{IsStack, IsSearch, work}
+use Rattle.rma_walk.specs.declared.front.Front.{Front}
+use Rattle.rma_walk.specs.declared.pending.Pending.{Pending}
+use Rattle.rma_walk.specs.declared.search.Search.{Search}
+use Rattle.rma_walk.proofs.ListLemmas.{bool_cases}
+use Rattle.rma_walk.proofs.FrontLemmas.{passed_on, passed_kept, front_more}
+use Rattle.rma_walk.proofs.BlockerLemmas.{pending_later}
+use Rattle.rma_walk.proofs.StackLemmas.{followed_other, stopped_all, passed_alone, passed_for}
+use Rattle.rma_walk.proofs.WorkLemmas.{less_by_passing, less_by_returning}
+
+module _ (lens : List ℕ) (links : Links) (old new : Search) (pending : Pending) (rank current : ℕ) (is : IsSearch lens links old rank current)
+    (is_free : slice_index_or old.free.items current true ≡ true) (pends : IsPending lens links old.front.next.items pending) (pending_is : new.pending ≡ pending) where
+  -- the rank that is followed waits
+  module _ (other to : ℕ) (blocked : IsBlocked lens links old.front.next.items current other) (front : new.front ≡ old.front) (taken : new.free.items ≡ set old.free.items current false)
+      (follows : slice_index_or (set old.free.items current false) other true ≡ true → (new.waiting.items ≡ old.waiting.items ++ current ∷ []) × (to ≡ other))
+      (stops : slice_index_or (set old.free.items current false) other true ≡ false → (new.waiting.items ≡ []) × (to ≡ rank)) where
+    stack_of : (waiting : List ℕ) (next : ℕ) → IsStack lens links old.front.next.items (set old.free.items current false) waiting rank next → new.waiting.items ≡ waiting → to ≡ next
+        → IsStack lens links new.front.next.items new.free.items new.waiting.items rank to
+    stack_of waiting next stack same_waiting same_to =
+        let P : Front → Type 0 = λ f. IsStack lens links f.next.items (set old.free.items current false) waiting rank next in
+        let Q : List Bool → Type 0 = λ free. IsStack lens links new.front.next.items free waiting rank next in
+        let R : List ℕ → Type 0 = λ ws. IsStack lens links new.front.next.items new.free.items ws rank next in
+        let S : ℕ → Type 0 = λ t. IsStack lens links new.front.next.items new.free.items new.waiting.items rank t in
+        subst S (sym same_to) (subst R (sym same_waiting) (subst Q (sym taken) (subst P (sym front) stack)))
+
+    pub search_waits : IsSearch lens links new rank to
+    search_waits =
+        let P : Front → Type 0 = λ f. IsFront lens links f.next.items f.order in
+        let Q : Front → Type 0 = λ f. IsPending lens links f.next.items new.pending in
+        record {
+          run = is.run;
+          front = subst P (sym front) is.front;
+          pending = subst Q (sym front) (subst (IsPending lens links old.front.next.items) (sym pending_is) pends);
+          stack = ⊎_elim
+              (λ (free : slice_index_or (set old.free.items current false) other true ≡ true).
+              stack_of (old.waiting.items ++ current ∷ []) other
+              (followed_other lens links old.front.next.items old.free.items old.waiting.items rank current is.stack is_free is.run.within other blocked free)
+              (follows free).0 (follows free).1)
+              (λ (stop : slice_index_or (set old.free.items current false) other true ≡ false).
+              stack_of [] rank
+              (stopped_all lens links old.front.next.items old.free.items old.waiting.items rank current is.stack is_free is.run.within other blocked stop)
+              (stops stop).0 (stops stop).1)
+              (bool_cases (slice_index_or (set old.free.items current false) other true));
+        }
+
+  -- the rank that is followed passes its next point
+  module _ (to : ℕ) (more : slice_index old.front.next.items current < 2 * slice_index lens current) (ready : IsReady links old.front.next.items current)
+      (next_is : new.front.next.items ≡ passed_on old.front.next.items current) (order_is : new.front.order ≡ old.front.order ++ next_point old.front.next.items current ∷ [])
+      (follows : ((old.waiting.items ≡ []) × (new.waiting.items ≡ []) × (to ≡ current) × (new.free.items ≡ old.free.items))
+      ⊎ ((old.waiting.items ≡ new.waiting.items ++ to ∷ []) × (new.free.items ≡ set old.free.items to true))) where
+    there : current < length old.front.next.items
+    there = let lt = is.stack.within in let size = is.front.ranks in omega arith
+
+    passed_front : IsFront lens links (passed_on old.front.next.items current) (old.front.order ++ next_point old.front.next.items current ∷ [])
+    passed_front = front_more lens links old.front.next.items old.front.order current is.front there more ready
+
+    passed_stack : IsStack lens links (passed_on old.front.next.items current) new.free.items new.waiting.items rank to
+    passed_stack =
+        ⊎_elim
+        (λ (alone : (old.waiting.items ≡ []) × (new.waiting.items ≡ []) × (to ≡ current) × (new.free.items ≡ old.free.items)).
+        let P : List Bool → Type 0 = λ free. IsStack lens links (passed_on old.front.next.items current) free [] rank current in
+        let Q : List ℕ → Type 0 = λ ws. IsStack lens links (passed_on old.front.next.items current) new.free.items ws rank current in
+        let R : ℕ → Type 0 = λ t. IsStack lens links (passed_on old.front.next.items current) new.free.items new.waiting.items rank t in
+        subst R (sym alone.2) (subst Q (sym alone.1) (subst P (sym alone.3)
+        (passed_alone lens links old.front.next.items old.free.items old.waiting.items rank current is.stack is_free more alone.0))))
+        (λ (below : (old.waiting.items ≡ new.waiting.items ++ to ∷ []) × (new.free.items ≡ set old.free.items to true)).
+        let P : List Bool → Type 0 = λ free. IsStack lens links (passed_on old.front.next.items current) free new.waiting.items rank to in
+        subst P (sym below.1)
+        (passed_for lens links old.front.next.items old.free.items old.waiting.items rank current is.stack is_free more new.waiting.items to below.0))
+        follows
+
+    pub search_passes : IsSearch lens links new rank to
+    search_passes =
+        let P : List ℕ → Type 0 = λ next. IsFront lens links next (old.front.order ++ next_point old.front.next.items current ∷ []) in
+        let Q : List Point → Type 0 = λ order. IsFront lens links new.front.next.items order in
+        let R : List ℕ → Type 0 = λ next. IsPending lens links next new.pending in
+        let S : List ℕ → Type 0 = λ next. IsStack lens links next new.free.items new.waiting.items rank to in
+        let later : IsPending lens links (passed_on old.front.next.items current) pending =
+        pending_later links old.front.next.items (passed_on old.front.next.items current) (passed_kept old.front.next.items current there) lens pending pends in
+        record {
+          run = is.run;
+          front = subst Q (sym order_is) (subst P (sym next_is) passed_front);
+          pending = subst R (sym next_is) (subst (IsPending lens links (passed_on old.front.next.items current)) (sym pending_is) later);
+          stack = subst S (sym next_is) passed_stack;
+        }
+
+    pub passing_is_less : work lens new.front.next.items new.free.items < work lens old.front.next.items old.free.items
+    passing_is_less =
+        let W : List ℕ → Type 0 = λ next. work lens next new.free.items < work lens old.front.next.items old.free.items in
+        let same_size : length (passed_on old.front.next.items current) ≡ length lens = passed_front.ranks in
+        subst W (sym next_is)
+        (⊎_elim
+        (λ (alone : (old.waiting.items ≡ []) × (new.waiting.items ≡ []) × (to ≡ current) × (new.free.items ≡ old.free.items)).
+        let P : List Bool → Type 0 = λ free. work lens (passed_on old.front.next.items current) free < work lens old.front.next.items old.free.items in
+        subst P (sym alone.3) (less_by_passing lens old.front.next.items old.free.items current there is.front.ranks passed_front.within same_size))
+        (λ (below : (old.waiting.items ≡ new.waiting.items ++ to ∷ []) × (new.free.items ≡ set old.free.items to true)).
+        let P : List Bool → Type 0 = λ free. work lens (passed_on old.front.next.items current) free < work lens old.front.next.items old.free.items in
+        let size = passed_stack.size in
+        let in_ranks = passed_stack.within in
+        let same : length (set old.free.items to true) ≡ length old.free.items = length-set old.free.items to true in
+        let len : length new.free.items ≡ length (set old.free.items to true) = ap length below.1 in
+        subst P (sym below.1) (less_by_returning lens old.front.next.items old.free.items current there is.front.ranks passed_front.within same_size to (omega arith)))
+        follows)

@@ -1,0 +1,90 @@
+use Rattle.std.proofs.Common.{◌≡◌, ◌<◌, ◌⊎◌, ◌++◌, ℕ, Bool, true, false, List, [], ◌∷◌, set, subst, arith}
+use Rattle.std.specs.Prelude.{slice_index_or}
+use Rattle.std.proofs.lemmas.List.{get_or_default}
+use Rattle.rma_walk.specs.inside.Run.{IsReady, IsBlocked, next_point}
+use Rattle.rma_walk.specs.inside.Pending.{IsPending}
+use Rattle.rma_walk.specs.inside.Search.{IsSearch, work}
+use Rattle.rma_walk.proofs.ListLemmas.{ok_later, ok_both, on_ok_later}
+use Rattle.rma_walk.proofs.FrontLemmas.{passed_on}
+use Rattle.rma_walk.proofs.StackLemmas.{other_within}
+use Rattle.rma_walk.proofs.SearchLemmas.{search_waits, search_passes, passing_is_less}
+use Rattle.rma_walk.proofs.search.Search.step.Goals as goal
+
+pub wait-requires-clause-other : goal.wait-requires-clause-other
+wait-requires-clause-other c =
+    let lens = c.args.lens.now in
+    let links = c.args.links.now in
+    let old = c.args.self.now in
+    let is = c.requires.search in
+    let P : List ℕ → Type 0 = λ next. IsBlocked lens links next c.args.current c.in-Some.other in
+    let blocked = subst P c.deref.ensures.value c.in-Some.ensures.some in
+    let lt = other_within lens links old.front.next.items old.free.items old.waiting.items c.args.rank c.args.current is.stack c.requires.free is.run.within c.in-Some.other blocked in
+    let size = is.stack.size in
+    omega arith
+
+pub pass-requires-clause-waiting : goal.pass-requires-clause-waiting
+pass-requires-clause-waiting c k d lt =
+    let waiting = c.args.self.now.waiting.items in
+    let size = c.requires.search.stack.size in
+    let within = (c.requires.search.stack.waits k lt).1 in
+    let same = get_or_default waiting k d 0 lt in
+    omega arith
+
+pub returns-in-Some-clause-search : goal.returns-in-Some-clause-search
+returns-in-Some-clause-search c =
+    let lens = c.args.lens.now in
+    let links = c.args.links.now in
+    let old = c.args.self.now in
+    let new = c.wait.new.self in
+    let current = c.args.current in
+    let other = c.in-Some.other in
+    let taken : List Bool = set old.free.items current false in
+    let P : List ℕ → Type 0 = λ next. IsBlocked lens links next current other in
+    let Q : List ℕ → Type 0 = λ next. IsPending lens links next c.blocker.new.self in
+    let Free : Type 0 = new.free.items ≡ taken in
+    let Follows : ℕ → Type 0 = λ to. slice_index_or taken other true ≡ true → (new.waiting.items ≡ old.waiting.items ++ current ∷ []) × (to ≡ other) in
+    let Stops : ℕ → Type 0 = λ to. slice_index_or taken other true ≡ false → (new.waiting.items ≡ []) × (to ≡ c.args.rank) in
+    ok_later c.wait.result (λ to. Free × Follows to) Stops (λ to. IsSearch lens links new c.args.rank to)
+    (ok_both c.wait.result Free Follows c.wait.ensures.free c.wait.ensures.follows) c.wait.ensures.stops
+    (λ to facts stops. search_waits lens links old new c.blocker.new.self c.args.rank current c.requires.search c.requires.free
+    (subst Q c.deref.ensures.value c.blocker.ensures.pending) c.wait.ensures.pending other to (subst P c.deref.ensures.value c.in-Some.ensures.some)
+    c.wait.ensures.front facts.0 facts.1 stops)
+
+pub returns-in-None-clause-search : goal.returns-in-None-clause-search
+returns-in-None-clause-search c =
+    let lens = c.args.lens.now in
+    let links = c.args.links.now in
+    let old = c.args.self.now in
+    let new = c.pass.new.self in
+    let current = c.args.current in
+    let P : List ℕ → Type 0 = λ next. IsReady links next current in
+    let Q : List ℕ → Type 0 = λ next. IsPending lens links next c.blocker.new.self in
+    let Next : Type 0 = new.front.next.items ≡ passed_on old.front.next.items current in
+    let Order : Type 0 = new.front.order ≡ old.front.order ++ next_point old.front.next.items current ∷ [] in
+    let Follows : ℕ → Type 0 = λ to. ((old.waiting.items ≡ []) × (new.waiting.items ≡ []) × (to ≡ current) × (new.free.items ≡ old.free.items))
+    ⊎ ((old.waiting.items ≡ new.waiting.items ++ to ∷ []) × (new.free.items ≡ set old.free.items to true)) in
+    ok_later c.pass.result (λ to. Next × Follows to) (λ to. Order × Follows to) (λ to. IsSearch lens links new c.args.rank to)
+    (ok_both c.pass.result Next Follows c.pass.ensures.next c.pass.ensures.follows) (ok_both c.pass.result Order Follows c.pass.ensures.order c.pass.ensures.follows)
+    (λ to one two. search_passes lens links old new c.blocker.new.self c.args.rank current c.requires.search c.requires.free
+    (subst Q c.deref.ensures.value c.blocker.ensures.pending) c.pass.ensures.pending to c.requires.next (subst P c.deref.ensures.value c.in-None.ensures.none)
+    one.0 two.0 one.1)
+
+pub returns-in-None-clause-less : goal.returns-in-None-clause-less
+returns-in-None-clause-less c =
+    let lens = c.args.lens.now in
+    let links = c.args.links.now in
+    let old = c.args.self.now in
+    let new = c.pass.new.self in
+    let current = c.args.current in
+    let P : List ℕ → Type 0 = λ next. IsReady links next current in
+    let Q : List ℕ → Type 0 = λ next. IsPending lens links next c.blocker.new.self in
+    let Next : Type 0 = new.front.next.items ≡ passed_on old.front.next.items current in
+    let Order : Type 0 = new.front.order ≡ old.front.order ++ next_point old.front.next.items current ∷ [] in
+    let Less : Type 0 = work lens new.front.next.items new.free.items < work lens old.front.next.items old.free.items in
+    let Follows : ℕ → Type 0 = λ to. ((old.waiting.items ≡ []) × (new.waiting.items ≡ []) × (to ≡ current) × (new.free.items ≡ old.free.items))
+    ⊎ ((old.waiting.items ≡ new.waiting.items ++ to ∷ []) × (new.free.items ≡ set old.free.items to true)) in
+    on_ok_later c.pass.result (λ to. Order × (Next × Follows to)) Less
+    (ok_both c.pass.result Order (λ to. Next × Follows to) c.pass.ensures.order (ok_both c.pass.result Next Follows c.pass.ensures.next c.pass.ensures.follows))
+    (λ to facts. passing_is_less lens links old new c.blocker.new.self c.args.rank current c.requires.search c.requires.free
+    (subst Q c.deref.ensures.value c.blocker.ensures.pending) c.pass.ensures.pending to c.requires.next (subst P c.deref.ensures.value c.in-None.ensures.none)
+    facts.1.0 facts.0 facts.1.1)

@@ -1,0 +1,16 @@
+-- The points that a walk is past, in the order in which it passed them.
+use Rattle.std.specs.Prelude.{ℕ, ◌≡◌, ◌<◌, ◌≤◌, ◌*◌, List, length, slice_index}
+use Rattle.rma_base.specs.declared.point.Point.{Point}
+use Rattle.rma_link.specs.declared.links.Links.{Links}
+use Rattle.rma_link.specs.Order.{IsDirectlyBefore}
+use Rattle.rma_walk.specs.Outcome.{IsAt}
+use Rattle.rma_walk.specs.inside.Run.{IsPassed}
+
+-- each stands there once, after the points directly before it
+pub record IsFront (lens : List ℕ) (links : Links) (next : List ℕ) (order : List Point) : Type 0 where
+  pub ranks : length next ≡ length lens
+  pub within : (rank : ℕ) → slice_index next rank ≤ 2 * slice_index lens rank
+  pub listed : (p : Point) → IsPassed next p → (k : ℕ) × IsAt order k p
+  pub only : (k : ℕ) (p : Point) → IsAt order k p → IsPassed next p
+  pub once : (j k : ℕ) (p : Point) → IsAt order j p → IsAt order k p → j ≡ k
+  pub ordered : (k : ℕ) (p q : Point) → IsAt order k q → IsDirectlyBefore links p q → (j : ℕ) × (j < k) × IsAt order j p

@@ -1,0 +1,21 @@
+//! A walk over the points of a run in the order that its links give.
+//!
+//! [`walk`] passes each point after all points that come before it. Where it can pass all, it answers their order; where it
+//! cannot, two points wait for each other, and it answers the first call of each rank that is never left. [`Walked`] is one
+//! or the other.
+//!
+//! It passes the points of one rank until a return has to wait for an entry of another rank, and then follows that rank up
+//! to a point that it can pass. The ranks that are followed stand in a line, so a cycle is found where the line comes back to
+//! itself. A meet remembers how many of its first members are entered, so that each member is looked at once.
+#![tactic(auto)]
+
+mod front;
+mod inbox;
+mod pending;
+mod search;
+mod source;
+mod walked;
+mod walking;
+
+pub use walked::Walked;
+pub use walking::walk;

@@ -1,0 +1,194 @@
+//! What the returns of all ranks still wait for.
+ghost use Rattle.std.specs.Prelude.{◌≡◌, ◌<◌, ◌*◌, ◌≤◌, ◌^◌, ℕ, [], length, slice_index, slice_index_or, replicate, map, All, Contains, IfOk, OnOk, IfSome, IfNone};
+ghost use Rattle.std.specs.List.{AllWithin};
+ghost use Rattle.rma_link.specs.declared.meet.Member.{Member};
+ghost use Rattle.rma_link.specs.Point.{entry, calls_of, IsReturn};
+ghost use Rattle.rma_link.specs.Within.{IsMemberWithin};
+ghost use Rattle.rma_walk.specs.declared.source.Source.{Source};
+ghost use Rattle.rma_walk.specs.inside.Run.{IsRun, AreReadable, IsPassed, IsReady, IsBlocked};
+ghost use Rattle.rma_walk.specs.inside.Pending.{IsSource, IsSourcePassed, IsMissing, IsKnown, IsReduced, AreAdded, IsEdgeSource, IsMemberSource, IsMeetSource, IsPending, sources_of};
+
+use crate::front::is_passed;
+use crate::inbox::Inbox;
+use crate::source::Source;
+use rma_base::Memory;
+use rma_link::{Edge, Links, Meet, Member};
+use std::alloc::Global;
+
+/// What returns still wait for.
+#[derive(Drop)]
+pub(crate) struct Pending {
+    /// By rank, the sources of its calls that are not known to be passed.
+    pub(crate) inboxes: Vec<Inbox>,
+    /// By meet, how many of its first members are known to be entered.
+    pub(crate) known: Vec<usize>,
+}
+
+impl Pending {
+    /// All links of a run, where no point is passed.
+    pub(crate) fn new(alloc: Global, lens: &[u32], links: &Links) -> Result<Pending, Memory>
+        requires { IsRun lens.now links.now }
+        ensures { IfOk result (λ pending. IsPending lens.now links.now (replicate (length lens.now) 0) pending) }
+    {
+        let mut inboxes = empty_inboxes(alloc, lens)?;
+        add_edges(&mut inboxes, lens, links.edges.as_slice())?;
+        add_meets(&mut inboxes, lens, links.meets.as_slice())?;
+        let known = vec![in alloc; 0; links.meets.len()]?;
+        Ok(Pending { inboxes, known })
+    }
+
+    /// A rank that has to pass a point before this rank can pass its next one, if there is one.
+    pub(crate) fn blocker(
+        &mut self,
+        lens: &[u32],
+        links: &Links,
+        next: &[u32],
+        rank: u32,
+    ) -> Option<u32>
+        requires run { IsRun lens.now links.now }
+        requires pending { IsPending lens.now links.now next.now self.old }
+        requires size { length next.now ≡ length lens.now }
+        requires rank { slice_index next.now rank < 2 * slice_index lens.now rank }
+        ensures pending { IsPending lens.now links.now next.now self.new }
+        ensures none { IfNone result (IsReady links.now next.now rank) }
+        ensures some { IfSome result (IsBlocked lens.now links.now next.now rank) }
+    {
+        let pos = next[rank as usize];
+        if pos % 2 == 0 {
+            return None;
+        }
+        let inbox = &mut self.inboxes[rank as usize];
+        blocker(inbox, &mut self.known, links, next, pos / 2)
+    }
+}
+
+/// A rank that has to pass a point before the owner of the inbox can return from the call. Sources that are passed go.
+fn blocker(
+    inbox: &mut Inbox,
+    known: &mut Vec<usize>,
+    links: &Links,
+    next: &[u32],
+    call: u32,
+) -> Option<u32>
+    requires readable { AreReadable (length next.now) links.now }
+    requires known { IsKnown links.now next.now known.old.items }
+    requires call { call < length inbox.old }
+    requires sources { All (IsSource (length next.now) links.now) (sources_of inbox.old call) }
+    ensures known { IsKnown links.now next.now known.new.items }
+    ensures reduced { IsReduced links.now next.now inbox.old inbox.new }
+    ensures none { IfNone result (sources_of inbox.new call ≡ []) }
+    ensures some { IfSome result (λ other. (source : Source) × Contains (sources_of inbox.new call) source × IsMissing links.now next.now source other) }
+{
+    while let Some(source) = inbox.first(call) {
+        let missing = missing(known, links, next, source);
+        if missing.is_some() {
+            return missing;
+        }
+        inbox.drop_first(call);
+    }
+    None
+}
+
+/// The rank of an entry of the source that is not passed, if there is one.
+fn missing(known: &mut Vec<usize>, links: &Links, next: &[u32], source: Source) -> Option<u32>
+    requires readable { AreReadable (length next.now) links.now }
+    requires known { IsKnown links.now next.now known.old.items }
+    requires source { IsSource (length next.now) links.now source }
+    ensures known { IsKnown links.now next.now known.new.items }
+    ensures none { IfNone result (IsSourcePassed links.now next.now source) }
+    ensures some { IfSome result (IsMissing links.now next.now source) }
+{
+    match source {
+        Source::Entry(point) => {
+            if is_passed(next, point) {
+                None
+            } else {
+                Some(point.rank.0)
+            }
+        }
+        Source::Meet(index) => {
+            let members = links.meets.get(index).calls.as_slice();
+            let first = first_missing(members, known[index], next);
+            known[index] = first;
+            if first == members.len() {
+                None
+            } else {
+                Some(members[first].rank.0)
+            }
+        }
+    }
+}
+
+/// The index of the first member from this one on that is not entered, or the number of members.
+fn first_missing(members: &[Member], from: usize, next: &[u32]) -> usize
+    requires from { from ≤ length members.now }
+    requires members { All (λ m. (m.rank.0 < length next.now) × (m.call < 2 ^ 31)) members.now }
+    requires entered { AllWithin (λ m. IsPassed next.now (entry m.rank m.call)) members.now 0 from }
+    ensures within { result ≤ length members.now }
+    ensures entered { AllWithin (λ m. IsPassed next.now (entry m.rank m.call)) members.now 0 result }
+    ensures missing { result < length members.now → (d : Member) → IsPassed next.now (entry (slice_index_or members.now result d).rank (slice_index_or members.now result d).call) → ⊥ }
+{
+    for index in from..members.len() {
+        if !is_passed(next, members[index].entry()) {
+            return index;
+        }
+    }
+    members.len()
+}
+
+/// An inbox for each rank, without a source.
+fn empty_inboxes(alloc: Global, lens: &[u32]) -> Result<Vec<Inbox>, Memory>
+    ensures { IfOk result (λ inboxes. inboxes.items ≡ map (λ len. replicate len []) lens.now) }
+{
+    let mut inboxes = Vec::new(alloc);
+    for len in lens {
+        inboxes.push(Inbox::new(alloc, *len)?)?;
+    }
+    Ok(inboxes)
+}
+
+/// Adds the sources that edges are.
+fn add_edges(inboxes: &mut Vec<Inbox>, lens: &[u32], edges: &[Edge]) -> Result<(), Memory>
+    requires size { length inboxes.old.items ≡ length lens.now }
+    requires sizes { (rank : ℕ) → length (slice_index_or inboxes.old.items rank []) ≡ slice_index lens.now rank }
+    requires edges { All (λ e. IsReturn lens.now e.to) edges.now }
+    ensures { OnOk result (AreAdded (IsEdgeSource edges.now) inboxes.old.items inboxes.new.items) }
+{
+    for edge in edges {
+        let inbox = &mut inboxes[edge.to.rank.0 as usize];
+        inbox.push(edge.to.pos / 2, Source::Entry(edge.from))?;
+    }
+    Ok(())
+}
+
+/// Adds the sources that meets are.
+fn add_meets(inboxes: &mut Vec<Inbox>, lens: &[u32], meets: &[Meet]) -> Result<(), Memory>
+    requires size { length inboxes.old.items ≡ length lens.now }
+    requires sizes { (rank : ℕ) → length (slice_index_or inboxes.old.items rank []) ≡ slice_index lens.now rank }
+    requires meets { All (λ m. All (IsMemberWithin lens.now) m.calls) meets.now }
+    ensures { OnOk result (AreAdded (IsMeetSource meets.now) inboxes.old.items inboxes.new.items) }
+{
+    for (index, meet) in meets.iter().enumerate() {
+        add_members(inboxes, lens, index, meet.calls.as_slice())?;
+    }
+    Ok(())
+}
+
+/// Adds the meet as a source of each of its members.
+fn add_members(
+    inboxes: &mut Vec<Inbox>,
+    lens: &[u32],
+    index: usize,
+    members: &[Member],
+) -> Result<(), Memory>
+    requires size { length inboxes.old.items ≡ length lens.now }
+    requires sizes { (rank : ℕ) → length (slice_index_or inboxes.old.items rank []) ≡ slice_index lens.now rank }
+    requires members { All (IsMemberWithin lens.now) members.now }
+    ensures { OnOk result (AreAdded (IsMemberSource index members.now) inboxes.old.items inboxes.new.items) }
+{
+    for member in members {
+        let inbox = &mut inboxes[member.rank.0 as usize];
+        inbox.push(member.call, Source::Meet(index))?;
+    }
+    Ok(())
+}

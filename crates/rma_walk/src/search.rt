@@ -1,0 +1,136 @@
+//! A walk on its way.
+ghost use Rattle.std.specs.Prelude.{◌≡◌, ◌<◌, ◌≤◌, ◌+◌, ◌*◌, ◌^◌, ◌++◌, ◌⊎◌, [], ◌∷◌, true, false, length, slice_index, slice_index_or, slice_set, All, IfOk, OnOk};
+ghost use Rattle.rma_walk.specs.inside.Run.{IsRun, next_point};
+ghost use Rattle.rma_walk.specs.inside.Search.{IsSearch, IsIdle, work};
+
+use crate::front::Front;
+use crate::pending::Pending;
+use rma_base::{Memory, Sequence};
+use rma_link::Links;
+use std::alloc::Global;
+
+/// A walk on its way.
+#[derive(Drop)]
+pub(crate) struct Search {
+    /// The points that it is past.
+    pub(crate) front: Front,
+    /// What returns still wait for.
+    pub(crate) pending: Pending,
+    /// The ranks that wait for the one that is followed, each for the next one.
+    pub(crate) waiting: Vec<u32>,
+    /// By rank, whether it may be followed: it does not wait, and is not stopped.
+    pub(crate) free: Vec<bool>,
+}
+
+impl Search {
+    /// A walk that is past no point.
+    pub(crate) fn new(alloc: Global, lens: &[u32], links: &Links) -> Result<Search, Memory>
+        requires { IsRun lens.now links.now }
+        ensures { IfOk result (λ search. IsIdle lens.now links.now search 0) }
+    {
+        let next = vec![in alloc; 0; lens.len()]?;
+        let free = vec![in alloc; true; lens.len()]?;
+        let pending = Pending::new(alloc, lens, links)?;
+        Ok(Search {
+            front: Front {
+                next,
+                order: Sequence::new(alloc),
+            },
+            pending,
+            waiting: Vec::new(alloc),
+            free,
+        })
+    }
+
+    /// Passes all points that can be passed.
+    pub(crate) fn settle_all(&mut self, lens: &[u32], links: &Links) -> Result<(), Memory>
+        requires { IsIdle lens.now links.now self.old 0 }
+        ensures { OnOk result (IsIdle lens.now links.now self.new (length lens.now)) }
+    {
+        for rank in 0..lens.len() as u32 {
+            self.settle(lens, links, rank)?;
+        }
+        Ok(())
+    }
+
+    /// Passes points of this rank, and of those that it waits for, until it is past its last call or stopped.
+    fn settle(&mut self, lens: &[u32], links: &Links, rank: u32) -> Result<(), Memory>
+        requires idle { IsIdle lens.now links.now self.old rank }
+        requires rank { rank < length lens.now }
+        ensures { OnOk result (IsIdle lens.now links.now self.new (rank + 1)) }
+    {
+        let mut current = rank;
+        while self.has_next(lens, current) {
+            current = self.step(lens, links, rank, current)?;
+        }
+        Ok(())
+    }
+
+    /// Whether the rank has a point to pass, and may be followed.
+    fn has_next(&self, lens: &[u32], rank: u32) -> bool
+        requires next { rank < length self.now.front.next.items }
+        requires free { rank < length self.now.free.items }
+        requires calls { slice_index lens.now rank < 2 ^ 31 }
+        requires rank { rank < length lens.now }
+        ensures yes { result ≡ true → (slice_index self.now.front.next.items rank < 2 * slice_index lens.now rank) × (slice_index_or self.now.free.items rank true ≡ true) }
+        ensures no { result ≡ false → (2 * slice_index lens.now rank ≤ slice_index self.now.front.next.items rank) ⊎ (slice_index_or self.now.free.items rank true ≡ false) }
+    {
+        self.front.next[rank as usize] < 2 * lens[rank as usize] && self.free[rank as usize]
+    }
+
+    /// Passes the next point of the rank that is followed for another one, or waits. Answers which rank is followed then.
+    fn step(&mut self, lens: &[u32], links: &Links, rank: u32, current: u32) -> Result<u32, Memory>
+        requires search { IsSearch lens.now links.now self.old rank current }
+        requires next { slice_index self.old.front.next.items current < 2 * slice_index lens.now current }
+        requires free { slice_index_or self.old.free.items current true ≡ true }
+        ensures search { IfOk result (λ to. IsSearch lens.now links.now self.new rank to) }
+        ensures less { OnOk result (work lens.now self.new.front.next.items self.new.free.items < work lens.now self.old.front.next.items self.old.free.items) }
+    {
+        match self.pending.blocker(lens, links, &self.front.next, current) {
+            Some(other) => self.wait(rank, current, other),
+            None => self.pass(current),
+        }
+    }
+
+    /// The rank that is followed waits for another one. That one is followed next, if it may be; else all that wait are
+    /// stopped.
+    fn wait(&mut self, rank: u32, current: u32, other: u32) -> Result<u32, Memory>
+        requires current { current < length self.old.free.items }
+        requires other { other < length self.old.free.items }
+        ensures front { self.new.front ≡ self.old.front }
+        ensures pending { self.new.pending ≡ self.old.pending }
+        ensures free { OnOk result (self.new.free.items ≡ slice_set self.old.free.items current false) }
+        ensures follows { IfOk result (λ to. slice_index_or (slice_set self.old.free.items current false) other true ≡ true → (self.new.waiting.items ≡ self.old.waiting.items ++ current ∷ []) × (to ≡ other)) }
+        ensures stops { IfOk result (λ to. slice_index_or (slice_set self.old.free.items current false) other true ≡ false → (self.new.waiting.items ≡ []) × (to ≡ rank)) }
+    {
+        self.waiting.push(current)?;
+        self.free[current as usize] = false;
+        if self.free[other as usize] {
+            Ok(other)
+        } else {
+            self.waiting.clear();
+            Ok(rank)
+        }
+    }
+
+    /// The rank that is followed passes its next point, and the one that waited for it last is followed again.
+    fn pass(&mut self, current: u32) -> Result<u32, Memory>
+        requires rank { current < length self.old.front.next.items }
+        requires position { slice_index self.old.front.next.items current + 1 < 2 ^ 32 }
+        requires waiting { All (λ w. w < length self.old.free.items) self.old.waiting.items }
+        ensures next { OnOk result (self.new.front.next.items ≡ slice_set self.old.front.next.items current (slice_index self.old.front.next.items current + 1)) }
+        ensures order { OnOk result (self.new.front.order ≡ self.old.front.order ++ next_point self.old.front.next.items current ∷ []) }
+        ensures pending { self.new.pending ≡ self.old.pending }
+        ensures follows { IfOk result (λ to. ((self.old.waiting.items ≡ []) × (self.new.waiting.items ≡ []) × (to ≡ current) × (self.new.free.items ≡ self.old.free.items))
+            ⊎ ((self.old.waiting.items ≡ self.new.waiting.items ++ to ∷ []) × (self.new.free.items ≡ slice_set self.old.free.items to true))) }
+    {
+        self.front.pass(current)?;
+        match self.waiting.pop() {
+            Some(below) => {
+                self.free[below as usize] = true;
+                Ok(below)
+            }
+            None => Ok(current),
+        }
+    }
+}
