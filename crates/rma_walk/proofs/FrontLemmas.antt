@@ -1,5 +1,5 @@
 -- The points that a walk is past.
-use Rattle.std.proofs.Common.{◌≡◌, ℕ, zero, suc, ◌+◌, ◌*◌, ◌<◌, ◌≤◌, ◌⊎◌, inl, inr, List, [], ◌∷◌, ◌++◌, length, get_or, set, replicate, Some, refl, sym, ap, subst, ◌∙◌, arith, ⊎_elim}
+use Rattle.std.proofs.Common.{◌≡◌, ℕ, ◌+◌, ◌*◌, ◌<◌, ◌≤◌, ◌⊎◌, inl, inr, List, [], ◌∷◌, ◌++◌, length, set, replicate, Some, sym, ap, subst, ◌∙◌, arith, ⊎_elim}
 use Rattle.std.specs.Prelude.{slice_index}
 use Rattle.std.proofs.lemmas.Bool.{cases_eq, cases_lt}
 use Rattle.std.proofs.lemmas.List.{get_or-set_same, get_or-set_other, length-set, length-replicate, get_or_past}
@@ -15,15 +15,10 @@ use Rattle.rma_link.proofs.OrderLemmas.{same_point, on_cycle_within}
 use Rattle.rma_walk.specs.Outcome.{IsAt, IsOrder}
 use Rattle.rma_walk.specs.inside.Run.{IsPassed, IsReady, next_point}
 use Rattle.rma_walk.specs.inside.Front.{IsFront}
-use Rattle.rma_walk.proofs.ListLemmas.{slice_get_front, slice_get_last, slice_get_push}
+use Rattle.rma_walk.proofs.ListLemmas.{zero_at, slice_get_front, slice_get_last, slice_get_push}
 
 abbrev pub passed_on : List ℕ → ℕ → List ℕ
 passed_on next rank = set next rank (slice_index next rank + 1)
-
-pub zero_at : (n i : ℕ) → get_or (replicate {A = ℕ} n 0) i 0 ≡ 0
-zero_at zero i = refl
-zero_at (suc n) zero = refl
-zero_at (suc n) (suc i) = zero_at n i
 
 pub passed_on_other : (next : List ℕ) (rank r : ℕ) → (r ≡ rank → ⊥) → slice_index (passed_on next rank) r ≡ slice_index next r
 passed_on_other next rank r differs = get_or-set_other next rank r (slice_index next rank + 1) 0 differs

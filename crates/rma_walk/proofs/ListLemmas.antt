@@ -1,5 +1,5 @@
 -- Elements of lists that grow at their end.
-use Rattle.std.proofs.Common.{◌≡◌, ℕ, zero, suc, ◌<◌, ◌⊎◌, inl, inr, List, [], ◌∷◌, ◌++◌, length, get_or, Some, None, Option, Ok, Err, Result, Bool, true, false, refl, sym, ap, arith, ⊎_elim}
+use Rattle.std.proofs.Common.{◌≡◌, ℕ, zero, suc, ◌<◌, ◌⊎◌, inl, inr, List, [], ◌∷◌, ◌++◌, length, get_or, replicate, Some, None, Option, Ok, Err, Result, Bool, true, false, refl, sym, ap, arith, ⊎_elim}
 use Rattle.std.specs.Prelude.{Contains, slice_get, IfNone, IfOk, OnOk}
 use Rattle.std.proofs.lemmas.Option.{none-some, same_Some, get_or_from_slice_get, slice_get_within}
 
@@ -70,3 +70,8 @@ bool_cases false = inr refl
 pub on_ok_later : {A E : Type 0} (r : Result A E) (P : A → Type 0) (Q : Type 0) → IfOk r P → ((x : A) → P x → Q) → OnOk r Q
 on_ok_later (Ok x) P Q one so = so x one
 on_ok_later (Err e) P Q one so = one
+
+pub zero_at : (n i : ℕ) → get_or (replicate {A = ℕ} n 0) i 0 ≡ 0
+zero_at zero i = refl
+zero_at (suc n) zero = refl
+zero_at (suc n) (suc i) = zero_at n i

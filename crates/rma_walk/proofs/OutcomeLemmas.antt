@@ -1,15 +1,17 @@
 -- What a walk comes to.
-use Rattle.std.proofs.Common.{◌≡◌, ℕ, zero, suc, ◌+◌, ◌*◌, ◌/◌, ◌<◌, ◌≤◌, ◌⊎◌, inl, inr, true, false, cond, List, [], length, replicate, Option, Some, None, refl, sym, ap, subst, ◌∙◌, arith, ⊎_elim}
+use Rattle.std.proofs.Common.{◌≡◌, ℕ, ◌+◌, ◌*◌, ◌/◌, ◌<◌, ◌≤◌, ◌⊎◌, inl, inr, true, false, cond, List, [], length, get_or, Option, Some, None, refl, sym, ap, subst, ◌∙◌, arith, ⊎_elim}
 use Rattle.std.specs.Prelude.{Contains, slice_get, slice_index, slice_index_or, nat_lt}
 use Rattle.std.proofs.lemmas.Bool.{cases_lt, false≢true, lt-ltb, le-ltb}
-use Rattle.std.proofs.lemmas.List.{nil_from_length}
-use Rattle.std.proofs.lemmas.Option.{same_Some, slice_get_within}
+use Rattle.std.proofs.lemmas.List.{nil_from_length, same_lists}
+use Rattle.std.proofs.lemmas.Option.{same_Some, slice_get_within, slice_get-get_or}
+use Rattle.rma_base.specs.declared.rank.Rank.{Rank}
 use Rattle.rma_base.specs.declared.point.Point.{Point}
 use Rattle.rma_link.specs.declared.links.Links.{Links}
 use Rattle.rma_link.specs.Point.{entry, return_of}
-use Rattle.rma_link.specs.Order.{IsOnCycle, IsAfterCycle}
-use Rattle.rma_link.proofs.OrderLemmas.{same_point}
-use Rattle.rma_walk.specs.Outcome.{IsImpossible, IsFirstImpossible, AreFirstImpossible}
+use Rattle.rma_link.specs.Order.{IsOnCycle, IsAfterCycle, IsPossible}
+use Rattle.rma_link.specs.Within.{AreWithin}
+use Rattle.rma_link.proofs.OrderLemmas.{same_point, on_cycle_within}
+use Rattle.rma_walk.specs.Outcome.{IsOrder, IsImpossible, IsFirstImpossible, AreFirstImpossible}
 use Rattle.rma_walk.specs.inside.Run.{next_point}
 use Rattle.rma_walk.specs.inside.Front.{IsFront}
 use Rattle.rma_walk.specs.inside.Search.{IsStopped, IsSettled, IsStack, IsIdle, IsSearch, line}
@@ -18,11 +20,6 @@ use Rattle.rma_walk.specs.declared.search.Search.{Search}
 use Rattle.rma_walk.proofs.ListLemmas.{contains_none}
 use Rattle.rma_walk.proofs.FrontLemmas.{passed_clear}
 use Rattle.rma_walk.proofs.StackLemmas.{line_of_one}
-
-pub true_at : (n i : ℕ) → slice_index_or (replicate n true) i true ≡ true
-true_at zero i = refl
-true_at (suc n) zero = refl
-true_at (suc n) (suc i) = true_at n i
 
 -- a rank is followed for itself
 pub search_from_idle : (lens : List ℕ) (links : Links) (search : Search) (rank : ℕ) → rank < length lens → IsIdle lens links search rank → IsSearch lens links search rank rank
@@ -149,3 +146,36 @@ cycle_of lens links next r settled differs =
     (λ end. absurd (differs end))
     (λ (stopped : IsStopped lens links next r). (stopped.1.0, stopped.1.1))
     settled
+
+first_once : (links : Links) (rank : Rank) (len : ℕ) (one other : Option ℕ) → IsFirstImpossible links rank len one → IsFirstImpossible links rank len other → one ≡ other
+first_once links rank len None None a b = refl
+first_once links rank len None (Some k) a b = absurd (a k b.0 b.1)
+first_once links rank len (Some j) None a b = absurd (b j a.0 a.1)
+first_once links rank len (Some j) (Some k) a b =
+    ⊎_elim
+    (λ (less : j < k). absurd (b.2 j less a.1))
+    (λ (upto : k ≤ j). ⊎_elim
+    (λ (more : k < j). absurd (a.2 k more b.1))
+    (λ (both : j ≤ k). let same : j ≡ k = omega arith in ap Some same)
+    (cases_lt k j))
+    (cases_lt j k)
+
+pub firsts_once : (lens : List ℕ) (links : Links) (firsts others : List (Option ℕ)) → AreFirstImpossible lens links firsts → AreFirstImpossible lens links others → firsts ≡ others
+firsts_once lens links firsts others one other =
+    same_lists firsts others (one.each ∙ sym other.each)
+    (λ k d lt.
+    let size : length firsts ≡ length others = one.each ∙ sym other.each in
+    first_once links (record { 0 = k }) (slice_index lens k) (get_or firsts k d) (get_or others k d)
+    (one.first k (get_or firsts k d) (slice_get-get_or firsts k d lt))
+    (other.first k (get_or others k d) (slice_get-get_or others k d (omega arith))))
+
+-- two points that are each before the other have no places in an order
+pub order_possible : (lens : List ℕ) (links : Links) (list : List Point) → AreWithin lens links → IsOrder lens links list → IsPossible links
+order_possible lens links list within order p (q, differ, there, back) =
+    let here = order.listed p (on_cycle_within lens links p within (q, differ, there, back)) in
+    let too = order.listed q (on_cycle_within lens links q within (p, (λ same. differ (sym same)), back, there)) in
+    let le : here.0 ≤ too.0 = order.ordered here.0 too.0 p q here.1 too.1 there in
+    let ge : too.0 ≤ here.0 = order.ordered too.0 here.0 q p too.1 here.1 back in
+    let same : here.0 ≡ too.0 = omega arith in
+    let at : slice_get list too.0 ≡ Some p = subst (λ k. slice_get list k ≡ Some p) same here.1 in
+    differ (same_Some p q (sym at ∙ too.1))

@@ -14,7 +14,7 @@ use Rattle.rma_walk.specs.declared.source.Source.{Source}
 use Rattle.rma_walk.specs.declared.source.Source.TheVariants.{Entry, Meet}
 use Rattle.rma_walk.specs.declared.pending.Pending.{Pending}
 use Rattle.rma_walk.specs.inside.Pending.{IsSourcePassed, IsEdgeSource, IsMemberSource, IsMeetSource, AreAdded, IsReduced, IsInbox, IsKnown, IsPending, sources_of}
-use Rattle.rma_walk.proofs.ListLemmas.{contains_cons, contains_cons_cases, contains_none, slice_get_front, slice_get_last, slice_get_push, first_is}
+use Rattle.rma_walk.proofs.ListLemmas.{zero_at, contains_cons, contains_cons_cases, contains_none, slice_get_front, slice_get_last, slice_get_push, first_is}
 
 -- one more source of one call
 abbrev pub added_source : List (List (List Source)) → ℕ → ℕ → Source → List (List (List Source))
@@ -307,11 +307,6 @@ module _ (lens : List ℕ) (links : Links) (next : List ℕ) (empty mid : List (
         (met.1, subst (λ k. slice_get links.meets k ≡ Some met.1) (sym same) met.2, met.3.1))
         (whence r call (Meet index) has);
   }
-
-  zero_at : (n i : ℕ) → get_or (replicate {A = ℕ} n 0) i 0 ≡ 0
-  zero_at zero i = refl
-  zero_at (suc n) zero = refl
-  zero_at (suc n) (suc i) = zero_at n i
 
   known_of : IsKnown links next pending.known.items
   known_of = record {

@@ -11,6 +11,7 @@
 
 mod front;
 mod inbox;
+pub mod laws;
 mod pending;
 mod search;
 mod source;

@@ -1,0 +1,17 @@
+//! What the definitions of this crate come to.
+ghost use Rattle.std.specs.Prelude.{◌≡◌, ℕ, List, Option};
+ghost use Rattle.rma_base.specs.declared.point.Point.{Point};
+ghost use Rattle.rma_link.specs.declared.links.Links.{Links};
+ghost use Rattle.rma_link.specs.Order.{IsPossible};
+ghost use Rattle.rma_link.specs.Within.{AreWithin};
+ghost use Rattle.rma_walk.specs.Outcome.{AreFirstImpossible, IsOrder};
+
+/// The first impossible calls of a run are one list.
+pub fn first_impossible_calls_are_one_list()
+    ensures { (lens : List ℕ) (links : Links) (firsts others : List (Option ℕ)) → AreFirstImpossible lens links firsts → AreFirstImpossible lens links others → firsts ≡ others }
+{}
+
+/// A run that has an order of its points is possible.
+pub fn a_run_with_an_order_is_possible()
+    ensures { (lens : List ℕ) (links : Links) (list : List Point) → AreWithin lens links → IsOrder lens links list → IsPossible links }
+{}
