@@ -1,6 +1,6 @@
-//! Tests of the libraries below the lines of a log, through their public calls: plain data, sources and sinks, sets of
-//! bytes, datatypes, and the cutting of a text. They are tables of expected values, and each call that may want memory is
-//! made once with ample memory.
+//! Tests of the libraries below the lines of a log, through their public calls: plain data, the order of points, sources and
+//! sinks, sets of bytes, datatypes, and the cutting of a text. They are tables of expected values, and each call that may want
+//! memory is made once with ample memory.
 #![tactic(auto)]
 
 #[cfg(test)]
@@ -21,3 +21,5 @@ mod plan;
 mod typemap;
 #[cfg(test)]
 mod types;
+#[cfg(test)]
+mod walk;
