@@ -13,6 +13,7 @@ mod front;
 mod inbox;
 pub mod laws;
 mod pending;
+mod run;
 mod search;
 mod source;
 mod walked;

@@ -3,16 +3,17 @@ ghost use Rattle.std.specs.Prelude.{◌≡◌, ◌<◌, ◌*◌, ◌≤◌, ◌^
 ghost use Rattle.std.specs.List.{AllWithin};
 ghost use Rattle.rma_link.specs.declared.meet.Member.{Member};
 ghost use Rattle.rma_link.specs.Point.{entry, calls_of, IsReturn};
-ghost use Rattle.rma_link.specs.Within.{IsMemberWithin};
+ghost use Rattle.rma_link.specs.Within.{AreWithin};
 ghost use Rattle.rma_walk.specs.declared.source.Source.{Source};
 ghost use Rattle.rma_walk.specs.inside.Run.{IsRun, AreReadable, IsPassed, IsReady, IsBlocked};
-ghost use Rattle.rma_walk.specs.inside.Pending.{IsSource, IsSourcePassed, IsMissing, IsKnown, IsReduced, AreAdded, IsEdgeSource, IsMemberSource, IsMeetSource, IsPending, sources_of};
+ghost use Rattle.rma_walk.specs.inside.Pending.{IsSource, IsSourcePassed, IsMissing, IsKnown, IsReduced, AreAdded, IsEdgeSource, IsMemberSource, IsMeetSource, IsPending, no_meet, sources_of};
 
 use crate::front::is_passed;
 use crate::inbox::Inbox;
+use crate::run::Run;
 use crate::source::Source;
 use rma_base::Memory;
-use rma_link::{Edge, Links, Meet, Member};
+use rma_link::{Links, Member};
 use std::alloc::Global;
 
 /// What returns still wait for.
@@ -26,39 +27,33 @@ pub(crate) struct Pending {
 
 impl Pending {
     /// All links of a run, where no point is passed.
-    pub(crate) fn new(alloc: Global, lens: &[u32], links: &Links) -> Result<Pending, Memory>
-        requires { IsRun lens.now links.now }
-        ensures { IfOk result (λ pending. IsPending lens.now links.now (replicate (length lens.now) 0) pending) }
+    pub(crate) fn new(alloc: Global, run: &Run<'_>) -> Result<Pending, Memory>
+        requires { IsRun run.now.lens.now run.now.links.now }
+        ensures { IfOk result (λ pending. IsPending run.now.lens.now run.now.links.now (replicate (length run.now.lens.now) 0) pending) }
     {
-        let mut inboxes = empty_inboxes(alloc, lens)?;
-        add_edges(&mut inboxes, lens, links.edges.as_slice())?;
-        add_meets(&mut inboxes, lens, links.meets.as_slice())?;
-        let known = vec![in alloc; 0; links.meets.len()]?;
+        let mut inboxes = empty_inboxes(alloc, run.lens)?;
+        add_edges(&mut inboxes, run)?;
+        add_meets(&mut inboxes, run)?;
+        let known = vec![in alloc; 0; run.links.meets.len()]?;
         Ok(Pending { inboxes, known })
     }
 
     /// A rank that has to pass a point before this rank can pass its next one, if there is one.
-    pub(crate) fn blocker(
-        &mut self,
-        lens: &[u32],
-        links: &Links,
-        next: &[u32],
-        rank: u32,
-    ) -> Option<u32>
-        requires run { IsRun lens.now links.now }
-        requires pending { IsPending lens.now links.now next.now self.old }
-        requires size { length next.now ≡ length lens.now }
-        requires rank { slice_index next.now rank < 2 * slice_index lens.now rank }
-        ensures pending { IsPending lens.now links.now next.now self.new }
-        ensures none { IfNone result (IsReady links.now next.now rank) }
-        ensures some { IfSome result (IsBlocked lens.now links.now next.now rank) }
+    pub(crate) fn blocker(&mut self, run: &Run<'_>, next: &[u32], rank: u32) -> Option<u32>
+        requires run { IsRun run.now.lens.now run.now.links.now }
+        requires pending { IsPending run.now.lens.now run.now.links.now next.now self.old }
+        requires size { length next.now ≡ length run.now.lens.now }
+        requires rank { slice_index next.now rank < 2 * slice_index run.now.lens.now rank }
+        ensures pending { IsPending run.now.lens.now run.now.links.now next.now self.new }
+        ensures none { IfNone result (IsReady run.now.links.now next.now rank) }
+        ensures some { IfSome result (IsBlocked run.now.lens.now run.now.links.now next.now rank) }
     {
         let pos = next[rank as usize];
         if pos % 2 == 0 {
             return None;
         }
         let inbox = &mut self.inboxes[rank as usize];
-        blocker(inbox, &mut self.known, links, next, pos / 2)
+        blocker(inbox, &mut self.known, run.links, next, pos / 2)
     }
 }
 
@@ -148,12 +143,13 @@ fn empty_inboxes(alloc: Global, lens: &[u32]) -> Result<Vec<Inbox>, Memory>
 }
 
 /// Adds the sources that edges are.
-fn add_edges(inboxes: &mut Vec<Inbox>, lens: &[u32], edges: &[Edge]) -> Result<(), Memory>
-    requires size { length inboxes.old.items ≡ length lens.now }
-    requires sizes { (rank : ℕ) → length (slice_index_or inboxes.old.items rank []) ≡ slice_index lens.now rank }
-    requires edges { All (λ e. IsReturn lens.now e.to) edges.now }
-    ensures { OnOk result (AreAdded (IsEdgeSource edges.now) inboxes.old.items inboxes.new.items) }
+fn add_edges(inboxes: &mut Vec<Inbox>, run: &Run<'_>) -> Result<(), Memory>
+    requires size { length inboxes.old.items ≡ length run.now.lens.now }
+    requires sizes { (rank : ℕ) → length (slice_index_or inboxes.old.items rank []) ≡ slice_index run.now.lens.now rank }
+    requires within { AreWithin run.now.lens.now run.now.links.now }
+    ensures { OnOk result (AreAdded (IsEdgeSource run.now.links.now.edges) inboxes.old.items inboxes.new.items) }
 {
+    let edges = run.links.edges.as_slice();
     for edge in edges {
         let inbox = &mut inboxes[edge.to.rank.0 as usize];
         inbox.push(edge.to.pos / 2, Source::Entry(edge.from))?;
@@ -162,30 +158,27 @@ fn add_edges(inboxes: &mut Vec<Inbox>, lens: &[u32], edges: &[Edge]) -> Result<(
 }
 
 /// Adds the sources that meets are.
-fn add_meets(inboxes: &mut Vec<Inbox>, lens: &[u32], meets: &[Meet]) -> Result<(), Memory>
-    requires size { length inboxes.old.items ≡ length lens.now }
-    requires sizes { (rank : ℕ) → length (slice_index_or inboxes.old.items rank []) ≡ slice_index lens.now rank }
-    requires meets { All (λ m. All (IsMemberWithin lens.now) m.calls) meets.now }
-    ensures { OnOk result (AreAdded (IsMeetSource meets.now) inboxes.old.items inboxes.new.items) }
+fn add_meets(inboxes: &mut Vec<Inbox>, run: &Run<'_>) -> Result<(), Memory>
+    requires size { length inboxes.old.items ≡ length run.now.lens.now }
+    requires sizes { (rank : ℕ) → length (slice_index_or inboxes.old.items rank []) ≡ slice_index run.now.lens.now rank }
+    requires within { AreWithin run.now.lens.now run.now.links.now }
+    ensures { OnOk result (AreAdded (IsMeetSource run.now.links.now.meets) inboxes.old.items inboxes.new.items) }
 {
-    for (index, meet) in meets.iter().enumerate() {
-        add_members(inboxes, lens, index, meet.calls.as_slice())?;
+    for index in 0..run.links.meets.len() {
+        add_members(inboxes, run, index)?;
     }
     Ok(())
 }
 
-/// Adds the meet as a source of each of its members.
-fn add_members(
-    inboxes: &mut Vec<Inbox>,
-    lens: &[u32],
-    index: usize,
-    members: &[Member],
-) -> Result<(), Memory>
-    requires size { length inboxes.old.items ≡ length lens.now }
-    requires sizes { (rank : ℕ) → length (slice_index_or inboxes.old.items rank []) ≡ slice_index lens.now rank }
-    requires members { All (IsMemberWithin lens.now) members.now }
-    ensures { OnOk result (AreAdded (IsMemberSource index members.now) inboxes.old.items inboxes.new.items) }
+/// Adds the meet at the index as a source of each of its members.
+fn add_members(inboxes: &mut Vec<Inbox>, run: &Run<'_>, index: usize) -> Result<(), Memory>
+    requires size { length inboxes.old.items ≡ length run.now.lens.now }
+    requires sizes { (rank : ℕ) → length (slice_index_or inboxes.old.items rank []) ≡ slice_index run.now.lens.now rank }
+    requires within { AreWithin run.now.lens.now run.now.links.now }
+    requires index { index < length run.now.links.now.meets }
+    ensures { OnOk result (AreAdded (IsMemberSource index (slice_index_or run.now.links.now.meets index no_meet).calls) inboxes.old.items inboxes.new.items) }
 {
+    let members = run.links.meets.get(index).calls.as_slice();
     for member in members {
         let inbox = &mut inboxes[member.rank.0 as usize];
         inbox.push(member.call, Source::Meet(index))?;

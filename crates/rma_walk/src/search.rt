@@ -5,8 +5,8 @@ ghost use Rattle.rma_walk.specs.inside.Search.{IsSearch, IsIdle, work};
 
 use crate::front::Front;
 use crate::pending::Pending;
+use crate::run::Run;
 use rma_base::{Memory, Sequence};
-use rma_link::Links;
 use std::alloc::Global;
 
 /// A walk on its way.
@@ -24,13 +24,13 @@ pub(crate) struct Search {
 
 impl Search {
     /// A walk that is past no point.
-    pub(crate) fn new(alloc: Global, lens: &[u32], links: &Links) -> Result<Search, Memory>
-        requires { IsRun lens.now links.now }
-        ensures { IfOk result (λ search. IsIdle lens.now links.now search 0) }
+    pub(crate) fn new(alloc: Global, run: &Run<'_>) -> Result<Search, Memory>
+        requires { IsRun run.now.lens.now run.now.links.now }
+        ensures { IfOk result (λ search. IsIdle run.now.lens.now run.now.links.now search 0) }
     {
-        let next = vec![in alloc; 0; lens.len()]?;
-        let free = vec![in alloc; true; lens.len()]?;
-        let pending = Pending::new(alloc, lens, links)?;
+        let next = vec![in alloc; 0; run.lens.len()]?;
+        let free = vec![in alloc; true; run.lens.len()]?;
+        let pending = Pending::new(alloc, run)?;
         Ok(Search {
             front: Front {
                 next,
@@ -43,50 +43,50 @@ impl Search {
     }
 
     /// Passes all points that can be passed.
-    pub(crate) fn settle_all(&mut self, lens: &[u32], links: &Links) -> Result<(), Memory>
-        requires { IsIdle lens.now links.now self.old 0 }
-        ensures { OnOk result (IsIdle lens.now links.now self.new (length lens.now)) }
+    pub(crate) fn settle_all(&mut self, run: &Run<'_>) -> Result<(), Memory>
+        requires { IsIdle run.now.lens.now run.now.links.now self.old 0 }
+        ensures { OnOk result (IsIdle run.now.lens.now run.now.links.now self.new (length run.now.lens.now)) }
     {
-        for rank in 0..lens.len() as u32 {
-            self.settle(lens, links, rank)?;
+        for rank in 0..run.lens.len() as u32 {
+            self.settle(run, rank)?;
         }
         Ok(())
     }
 
     /// Passes points of this rank, and of those that it waits for, until it is past its last call or stopped.
-    fn settle(&mut self, lens: &[u32], links: &Links, rank: u32) -> Result<(), Memory>
-        requires idle { IsIdle lens.now links.now self.old rank }
-        requires rank { rank < length lens.now }
-        ensures { OnOk result (IsIdle lens.now links.now self.new (rank + 1)) }
+    fn settle(&mut self, run: &Run<'_>, rank: u32) -> Result<(), Memory>
+        requires idle { IsIdle run.now.lens.now run.now.links.now self.old rank }
+        requires rank { rank < length run.now.lens.now }
+        ensures { OnOk result (IsIdle run.now.lens.now run.now.links.now self.new (rank + 1)) }
     {
         let mut current = rank;
-        while self.has_next(lens, current) {
-            current = self.step(lens, links, rank, current)?;
+        while self.has_next(run, current) {
+            current = self.step(run, rank, current)?;
         }
         Ok(())
     }
 
     /// Whether the rank has a point to pass, and may be followed.
-    fn has_next(&self, lens: &[u32], rank: u32) -> bool
+    fn has_next(&self, run: &Run<'_>, rank: u32) -> bool
         requires next { rank < length self.now.front.next.items }
         requires free { rank < length self.now.free.items }
-        requires calls { slice_index lens.now rank < 2 ^ 31 }
-        requires rank { rank < length lens.now }
-        ensures yes { result ≡ true → (slice_index self.now.front.next.items rank < 2 * slice_index lens.now rank) × (slice_index_or self.now.free.items rank true ≡ true) }
-        ensures no { result ≡ false → (2 * slice_index lens.now rank ≤ slice_index self.now.front.next.items rank) ⊎ (slice_index_or self.now.free.items rank true ≡ false) }
+        requires calls { slice_index run.now.lens.now rank < 2 ^ 31 }
+        requires rank { rank < length run.now.lens.now }
+        ensures yes { result ≡ true → (slice_index self.now.front.next.items rank < 2 * slice_index run.now.lens.now rank) × (slice_index_or self.now.free.items rank true ≡ true) }
+        ensures no { result ≡ false → (2 * slice_index run.now.lens.now rank ≤ slice_index self.now.front.next.items rank) ⊎ (slice_index_or self.now.free.items rank true ≡ false) }
     {
-        self.front.next[rank as usize] < 2 * lens[rank as usize] && self.free[rank as usize]
+        self.front.next[rank as usize] < 2 * run.lens[rank as usize] && self.free[rank as usize]
     }
 
     /// Passes the next point of the rank that is followed for another one, or waits. Answers which rank is followed then.
-    fn step(&mut self, lens: &[u32], links: &Links, rank: u32, current: u32) -> Result<u32, Memory>
-        requires search { IsSearch lens.now links.now self.old rank current }
-        requires next { slice_index self.old.front.next.items current < 2 * slice_index lens.now current }
+    fn step(&mut self, run: &Run<'_>, rank: u32, current: u32) -> Result<u32, Memory>
+        requires search { IsSearch run.now.lens.now run.now.links.now self.old rank current }
+        requires next { slice_index self.old.front.next.items current < 2 * slice_index run.now.lens.now current }
         requires free { slice_index_or self.old.free.items current true ≡ true }
-        ensures search { IfOk result (λ to. IsSearch lens.now links.now self.new rank to) }
-        ensures less { OnOk result (work lens.now self.new.front.next.items self.new.free.items < work lens.now self.old.front.next.items self.old.free.items) }
+        ensures search { IfOk result (λ to. IsSearch run.now.lens.now run.now.links.now self.new rank to) }
+        ensures less { OnOk result (work run.now.lens.now self.new.front.next.items self.new.free.items < work run.now.lens.now self.old.front.next.items self.old.free.items) }
     {
-        match self.pending.blocker(lens, links, &self.front.next, current) {
+        match self.pending.blocker(run, &self.front.next, current) {
             Some(other) => self.wait(rank, current, other),
             None => self.pass(current),
         }

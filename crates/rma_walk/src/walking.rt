@@ -4,6 +4,7 @@ ghost use Rattle.rma_link.specs.Within.{AreWithin};
 ghost use Rattle.rma_walk.specs.Outcome.{IsOutcome};
 ghost use Rattle.rma_walk.specs.inside.Stop.{stopped_at};
 
+use crate::run::Run;
 use crate::search::Search;
 use crate::walked::Walked;
 use rma_base::{Memory, Sequence};
@@ -23,8 +24,9 @@ pub fn walk(alloc: Global, lens: &[u32], links: &Links) -> Result<Walked, Memory
     requires links { AreWithin lens.now links.now }
     ensures { IfOk result (λ walked. IsOutcome lens.now links.now walked) }
 {
-    let mut search = Search::new(alloc, lens, links)?;
-    search.settle_all(lens, links)?;
+    let run = Run { lens, links };
+    let mut search = Search::new(alloc, &run)?;
+    search.settle_all(&run)?;
     let front = search.front;
     if is_whole(lens, &front.next) {
         Ok(Walked::Order(front.order))

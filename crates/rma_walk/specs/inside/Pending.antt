@@ -31,6 +31,10 @@ IsEntryOf links (Meet index) p = (m : meet.Meet) × (slice_get links.meets index
 abbrev pub IsMissing : Links → List ℕ → Source → ℕ → Type 0
 IsMissing links next source rank = (p : Point) × (p.rank.0 ≡ rank) × IsEntryOf links source p × (IsPassed next p → ⊥)
 
+-- a meet without members
+abbrev pub no_meet : meet.Meet
+no_meet = record { calls = [] }
+
 -- the sources of a call
 abbrev pub sources_of : List (List Source) → ℕ → List Source
 sources_of inbox call = slice_index_or inbox call []

@@ -1,16 +1,48 @@
-use Rattle.std.proofs.Common.{◌≡◌, ◌<◌, ◌++◌, List, [], ◌∷◌, length, set, take, sym, subst, ap, ◌∙◌, arith}
-use Rattle.std.specs.Prelude.{slice_index, slice_index_or}
+use Rattle.std.proofs.Common.{◌≡◌, ◌<◌, ◌++◌, ℕ, List, [], ◌∷◌, length, set, take, sym, subst, ap, ◌∙◌, arith}
+use Rattle.std.specs.Prelude.{All, slice_index, slice_index_or}
 use Rattle.std.proofs.lemmas.List.{get_or_read, take_more}
 use Rattle.rma_link.specs.declared.meet.Member.{Member}
+use Rattle.rma_link.specs.declared.meet.Meet as meet
+use Rattle.rma_link.specs.declared.links.Links.{Links}
+use Rattle.rma_link.specs.Within.{IsMemberWithin, AreWithin}
 use Rattle.rma_walk.specs.declared.source.Source.{Source}
 use Rattle.rma_walk.specs.declared.source.Source.TheVariants.{Meet}
-use Rattle.rma_walk.specs.inside.Pending.{AreAdded, IsMemberSource, sources_of}
+use Rattle.rma_walk.specs.inside.Pending.{AreAdded, IsMemberSource, no_meet, sources_of}
 use Rattle.rma_walk.proofs.PendingLemmas.{no_member, in_ranks, added_member}
 use Rattle.rma_walk.proofs.pending.add_members.Goals as goal
 
+member_within : (lens : List ℕ) (links : Links) (index : ℕ) (m : meet.Meet) (members : List Member) → AreWithin lens links → index < length links.meets
+    → m ≡ slice_index_or links.meets index m → members ≡ m.calls → (i : ℕ) → i < length members → IsMemberWithin lens (slice_index_or members i no_member)
+member_within lens links index m members ok lt read calls i less =
+    let whole : m ≡ slice_index_or links.meets index no_meet = get_or_read links.meets index m lt read no_meet in
+    let same : members ≡ (slice_index_or links.meets index no_meet).calls = calls ∙ ap (λ t. t.calls) whole in
+    subst (All (IsMemberWithin lens)) (sym same) (ok.meets index no_meet lt).0 i no_member less
+
+pub index_mut-inbox-requires : goal.index_mut-inbox-requires
+index_mut-inbox-requires c =
+    let lens = c.args.run.now.lens.now in
+    let m : Member = slice_index_or c.as_slice-members.result.now c.loop-member.member-index no_member in
+    let ok : m.call < slice_index lens m.rank.0 = member_within lens c.args.run.now.links.now c.args.index c.get.result.now c.as_slice-members.result.now c.requires.within c.requires.index
+    c.get.ensures c.as_slice-members.ensures c.loop-member.member-index c.loop-member-test.true in
+    let there : m.rank.0 < length lens = in_ranks lens m.rank.0 m.call ok in
+    omega (arith, c.requires.size, c.loop-member.invariant.size, c.loop-member.inboxes.ok)
+
+pub push-requires : goal.push-requires
+push-requires c =
+    let lens = c.args.run.now.lens.now in
+    let mid = c.loop-member.inboxes.items in
+    let m : Member = slice_index_or c.as_slice-members.result.now c.loop-member.member-index no_member in
+    let ok : m.call < slice_index lens m.rank.0 = member_within lens c.args.run.now.links.now c.args.index c.get.result.now c.as_slice-members.result.now c.requires.within c.requires.index
+    c.get.ensures c.as_slice-members.ensures c.loop-member.member-index c.loop-member-test.true in
+    let there : m.rank.0 < length lens = in_ranks lens m.rank.0 m.call ok in
+    let in_mid : m.rank.0 < length mid = omega (arith, c.requires.size, c.loop-member.invariant.size) in
+    let inbox = ap length (get_or_read mid m.rank.0 c.index_mut-inbox.result.now in_mid c.index_mut-inbox.ensures.value []) in
+    omega (arith, c.requires.sizes m.rank.0, c.loop-member.invariant.sizes m.rank.0)
+
 pub loop-member-preserved : goal.loop-member-preserved
 loop-member-preserved c =
-    let members = c.args.members.now in
+    let lens = c.args.run.now.lens.now in
+    let members = c.as_slice-members.result.now in
     let i = c.loop-member.member-index in
     let old = c.args.inboxes.now.items in
     let mid = c.loop-member.inboxes.items in
@@ -18,8 +50,9 @@ loop-member-preserved c =
     let rank = m.rank.0 in
     let call = m.call in
     let source : Source = Meet c.args.index in
-    let ok : call < slice_index c.args.lens.now rank = c.requires.members i no_member c.loop-member-test.true in
-    let there : rank < length c.args.lens.now = in_ranks c.args.lens.now rank call ok in
+    let ok : call < slice_index lens rank = member_within lens c.args.run.now.links.now c.args.index c.get.result.now members c.requires.within c.requires.index
+    c.get.ensures c.as_slice-members.ensures i c.loop-member-test.true in
+    let there : rank < length lens = in_ranks lens rank call ok in
     let in_mid : rank < length mid = omega (arith, c.requires.size, c.loop-member.invariant.size) in
     let inbox : c.index_mut-inbox.result.now ≡ slice_index_or mid rank [] = get_or_read mid rank c.index_mut-inbox.result.now in_mid c.index_mut-inbox.ensures.value [] in
     let in_calls : call < length (slice_index_or mid rank []) = omega (arith, c.requires.sizes rank, c.loop-member.invariant.sizes rank) in

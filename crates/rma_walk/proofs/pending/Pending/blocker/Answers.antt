@@ -12,15 +12,15 @@ use Rattle.rma_walk.proofs.pending.Pending.blocker.Goals as goal
 
 pub returns-then-pos-eq0-clause-none : goal.returns-then-pos-eq0-clause-none
 returns-then-pos-eq0-clause-none c =
-    ready_at_entry c.args.lens.now c.args.links.now c.args.next.now c.requires.run c.requires.size c.args.rank c.if-pos-eq0.true
+    ready_at_entry c.args.run.now.lens.now c.args.run.now.links.now c.args.next.now c.requires.run c.requires.size c.args.rank c.if-pos-eq0.true
 
 pub blocker-requires-clause-readable : goal.blocker-requires-clause-readable
-blocker-requires-clause-readable c = readable_of c.args.lens.now c.args.links.now (length c.args.next.now) c.requires.run c.requires.size
+blocker-requires-clause-readable c = readable_of c.args.run.now.lens.now c.args.run.now.links.now (length c.args.next.now) c.requires.run c.requires.size
 
 pub blocker-requires-clause-sources : goal.blocker-requires-clause-sources
 blocker-requires-clause-sources c =
-    let lens = c.args.lens.now in
-    let links = c.args.links.now in
+    let lens = c.args.run.now.lens.now in
+    let links = c.args.run.now.links.now in
     let next = c.args.next.now in
     let rank = c.args.rank in
     let inboxes = c.args.self.now.inboxes.items in
@@ -33,8 +33,8 @@ blocker-requires-clause-sources c =
 
 pub returns-clause-pending : goal.returns-clause-pending
 returns-clause-pending c =
-    let lens = c.args.lens.now in
-    let links = c.args.links.now in
+    let lens = c.args.run.now.lens.now in
+    let links = c.args.run.now.links.now in
     let next = c.args.next.now in
     let rank = c.args.rank in
     let inboxes = c.args.self.now.inboxes.items in
@@ -45,8 +45,8 @@ returns-clause-pending c =
 
 pub returns-clause-none : goal.returns-clause-none
 returns-clause-none c =
-    let lens = c.args.lens.now in
-    let links = c.args.links.now in
+    let lens = c.args.run.now.lens.now in
+    let links = c.args.run.now.links.now in
     let next = c.args.next.now in
     let rank = c.args.rank in
     let inboxes = c.args.self.now.inboxes.items in
@@ -61,8 +61,8 @@ returns-clause-none c =
 
 pub returns-clause-some : goal.returns-clause-some
 returns-clause-some c =
-    let lens = c.args.lens.now in
-    let links = c.args.links.now in
+    let lens = c.args.run.now.lens.now in
+    let links = c.args.run.now.links.now in
     let next = c.args.next.now in
     let rank = c.args.rank in
     let inboxes = c.args.self.now.inboxes.items in

@@ -2,7 +2,7 @@ use Rattle.rma_walk.specs.inside.Search.{IsSearch, work}
 use Rattle.rma_walk.proofs.search.Search.settle.Given as goal
 
 abbrev pub invariant-loop-self : goal.invariant-loop-self
-invariant-loop-self l = IsSearch l.lens l.links l.self l.rank l.current
+invariant-loop-self l = IsSearch l.run.lens.now l.run.links.now l.self l.rank l.current
 
 abbrev pub decreases-loop-self : goal.decreases-loop-self
-decreases-loop-self l = work l.lens l.self.front.next.items l.self.free.items
+decreases-loop-self l = work l.run.lens.now l.self.front.next.items l.self.free.items

@@ -12,8 +12,8 @@ use Rattle.rma_walk.proofs.search.Search.step.Goals as goal
 
 pub wait-requires-clause-other : goal.wait-requires-clause-other
 wait-requires-clause-other c =
-    let lens = c.args.lens.now in
-    let links = c.args.links.now in
+    let lens = c.args.run.now.lens.now in
+    let links = c.args.run.now.links.now in
     let old = c.args.self.now in
     let is = c.requires.search in
     let P : List ℕ → Type 0 = λ next. IsBlocked lens links next c.args.current c.in-Some.other in
@@ -32,8 +32,8 @@ pass-requires-clause-waiting c k d lt =
 
 pub returns-in-Some-clause-search : goal.returns-in-Some-clause-search
 returns-in-Some-clause-search c =
-    let lens = c.args.lens.now in
-    let links = c.args.links.now in
+    let lens = c.args.run.now.lens.now in
+    let links = c.args.run.now.links.now in
     let old = c.args.self.now in
     let new = c.wait.new.self in
     let current = c.args.current in
@@ -52,8 +52,8 @@ returns-in-Some-clause-search c =
 
 pub returns-in-None-clause-search : goal.returns-in-None-clause-search
 returns-in-None-clause-search c =
-    let lens = c.args.lens.now in
-    let links = c.args.links.now in
+    let lens = c.args.run.now.lens.now in
+    let links = c.args.run.now.links.now in
     let old = c.args.self.now in
     let new = c.pass.new.self in
     let current = c.args.current in
@@ -71,8 +71,8 @@ returns-in-None-clause-search c =
 
 pub returns-in-None-clause-less : goal.returns-in-None-clause-less
 returns-in-None-clause-less c =
-    let lens = c.args.lens.now in
-    let links = c.args.links.now in
+    let lens = c.args.run.now.lens.now in
+    let links = c.args.run.now.links.now in
     let old = c.args.self.now in
     let new = c.pass.new.self in
     let current = c.args.current in
