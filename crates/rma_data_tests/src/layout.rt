@@ -2,8 +2,8 @@
 use crate::plan::{Plan, name};
 use crate::typemap::{MADE, make, make_known};
 use rma_bytes::Layout;
-use rma_datatype::{Basic, Order};
-use rma_layout::{LayoutError, LayoutFault, Space, place};
+use rma_datatype::{Basic, Make, Order};
+use rma_layout::{LayoutError, LayoutFault, LayoutTable, Space, place};
 use rma_type::{Component, TypeId, TypeTable};
 use std::alloc::Global;
 use std::process::Abort;
@@ -254,18 +254,17 @@ fn is_out(bytes: &[i64], space: Space) -> bool {
 fn check(
     rt: &impl Abort,
     alloc: Global,
-    table: &TypeTable,
+    table: &mut LayoutTable,
     elements: &[(Basic, i64)],
     buffer: Buffer,
 ) -> Result<(), Fail> {
-    assert!(rt; buffer.id.0 < table.types());
-    let made = table.made(buffer.id);
+    assert!(rt; buffer.id.0 < table.types().types());
+    let made = table.types().made(buffer.id);
     let (mut bytes, basics) = touched(alloc, elements, made.extent, buffer)?;
     let there = u64::from(buffer.count).saturating_mul(made.entries);
     assert!(rt; buffer.entries <= there);
     assert!(rt; buffer.address >= 0 && buffer.address <= 281_474_976_710_656);
-    let placed = place(
-        table,
+    let placed = table.place(
         buffer.id,
         buffer.count,
         buffer.address,
@@ -290,7 +289,7 @@ fn check(
 fn check_prefixes(
     rt: &impl Abort,
     alloc: Global,
-    table: &TypeTable,
+    table: &mut LayoutTable,
     elements: &[(Basic, i64)],
     id: TypeId,
 ) -> Result<(), Fail> {
@@ -321,13 +320,32 @@ fn layouts_are_those_of_a_plain_listing(rt: HostRuntime) -> Result<(), Fail> {
     let mut table = TypeTable::new(rt.alloc())?;
     make_known(&rt, rt.alloc(), &mut table)?;
     let lists = list_all(&rt, rt.alloc(), &table)?;
+    let mut table = LayoutTable::new(table)?;
     let mut number = 0_u32;
     for elements in &lists {
         if elements.len() < 1000 {
-            check_prefixes(&rt, rt.alloc(), &table, elements, TypeId(number))?;
+            check_prefixes(&rt, rt.alloc(), &mut table, elements, TypeId(number))?;
         }
         number = number.wrapping_add(1);
     }
+    Ok(())
+}
+
+/// Makes, commits and frees a datatype in a table that knows layouts.
+#[test]
+fn datatypes_of_a_table_that_knows_layouts(rt: HostRuntime) -> Result<(), Fail> {
+    let mut table = LayoutTable::new(TypeTable::new(rt.alloc())?)?;
+    let pair = name(rt.alloc(), "pair")?;
+    let constructor = Make::Contiguous {
+        count: 2,
+        old: name(rt.alloc(), "INT")?,
+    };
+    assert!(rt; table.types().types() < u32::MAX);
+    let made = table.make(&pair, &constructor);
+    assert!(rt; table.types().find(&pair) == made.ok());
+    assert!(rt; table.commit(&pair).is_ok());
+    assert!(rt; table.free(&pair).is_ok());
+    assert!(rt; table.types().find(&pair).is_none());
     Ok(())
 }
 

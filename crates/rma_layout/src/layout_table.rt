@@ -6,7 +6,6 @@ ghost use Rattle.rma_type.specs.declared.origin.Origin.{Origin};
 ghost use Rattle.rma_type.specs.Names.{id_of};
 ghost use Rattle.rma_type.specs.Table.{names_derived, typemaps, typemap_in};
 ghost use Rattle.rma_type.specs.Change.{IsCommitted, IsFreed, IsMade};
-ghost use Rattle.rma_type.specs.FirstTable.{basics, table_of_basics};
 ghost use Rattle.rma_type.specs.Refusal as rule;
 ghost use Rattle.rma_layout.specs.Touched.{touched};
 ghost use Rattle.rma_layout.specs.Layout.{IsLayoutOf};
@@ -50,12 +49,11 @@ impl Model for LayoutTable {
 }
 
 impl LayoutTable {
-    /// The table of a rank that made no datatype yet.
-    pub fn new(alloc: Global) -> Result<LayoutTable, Memory>
-        ensures { IfOk result (λ table. table ≡ table_of_basics basics) }
+    /// The table of these datatypes. No layout is known yet.
+    pub fn new(types: TypeTable) -> Result<LayoutTable, Memory>
+        ensures { IfOk result (λ table. table ≡ types) }
     {
-        let types = TypeTable::new(alloc)?;
-        let known = no_layouts(alloc)?;
+        let known = no_layouts(types.allocator())?;
         Ok(LayoutTable { types, known })
     }
 
