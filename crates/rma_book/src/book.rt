@@ -28,6 +28,7 @@ use indexmap::IndexMap;
 use rma_base::limits::SPACE;
 use rma_base::{FormReason, Memory, Name, Rank, RankSet};
 use rma_call::WhatRef;
+use rma_layout::LayoutTable;
 use rma_type::TypeTable;
 use std::alloc::Global;
 use std::marker::Model;
@@ -58,8 +59,8 @@ pub struct Book {
     /// The windows that were created, with what became of them.
     windows: IndexMap<Name, WindowState>,
     requests: Requests,
-    /// The datatypes.
-    types: TypeTable,
+    /// The datatypes, with the layouts that came last.
+    types: LayoutTable,
 }
 
 impl Model for Book {
@@ -86,7 +87,7 @@ impl Book {
         ensures logs { IfOk result (λ book. book.logs ≡ logs) }
         ensures empty { IfOk result (λ book. Represents book []) }
     {
-        let types = TypeTable::new(alloc)?;
+        let types = LayoutTable::new(TypeTable::new(alloc)?)?;
         Ok(Book {
             rank,
             logs,

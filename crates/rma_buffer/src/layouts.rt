@@ -16,8 +16,7 @@ use crate::rule::uses_origin;
 use rma_base::{FormReason, Memory};
 use rma_bytes::Layout;
 use rma_call::RmaKind;
-use rma_layout::{LayoutFault, Space};
-use rma_type::TypeTable;
+use rma_layout::{LayoutFault, LayoutTable, Space};
 
 /// The layouts of the buffers of a call.
 #[derive(Debug, Drop)]
@@ -34,19 +33,20 @@ pub(crate) struct Layouts {
 ///
 /// The reason for which they are bad, and [`BufferError::Memory`].
 pub(crate) fn lay_out(
-    types: &TypeTable,
+    table: &mut LayoutTable,
     kind: RmaKind,
     operands: &Operands,
     touched: u64,
 ) -> Result<Layouts, BufferError>
-    requires within { AreOf (length types.now.origins) operands.now }
+    requires within { AreOf (length table.old.origins) operands.now }
     requires few { touched ≤ element_limit }
-    requires there { HaveEnough (typemaps types.now.origins) kind touched operands.now }
-    ensures ok { IfOk result (λ layouts. layouts ≡ layouts_in (typemaps types.now.origins) kind touched operands.now) }
-    ensures taken { OnOk result (bytes_reason (typemaps types.now.origins) kind touched operands.now ≡ None) }
-    ensures fault { IfErr result (IsErrorOf (bytes_reason (typemaps types.now.origins) kind touched operands.now)) }
+    requires there { HaveEnough (typemaps table.old.origins) kind touched operands.now }
+    ensures ok { IfOk result (λ layouts. layouts ≡ layouts_in (typemaps table.old.origins) kind touched operands.now) }
+    ensures taken { OnOk result (bytes_reason (typemaps table.old.origins) kind touched operands.now ≡ None) }
+    ensures fault { IfErr result (IsErrorOf (bytes_reason (typemaps table.old.origins) kind touched operands.now)) }
+    ensures same { table.new ≡ table.old }
 {
-    let layouts = laid_out(types, kind, operands, touched)?;
+    let layouts = laid_out(table, kind, operands, touched)?;
     if overlap(kind, &layouts) {
         return Err(BufferError::Fault(FormReason::OverlappingType));
     }
@@ -55,22 +55,23 @@ pub(crate) fn lay_out(
 
 // The layouts, or the first refusal in the order of the reasons.
 fn laid_out(
-    types: &TypeTable,
+    table: &mut LayoutTable,
     kind: RmaKind,
     operands: &Operands,
     touched: u64,
 ) -> Result<Layouts, BufferError>
-    requires within { AreOf (length types.now.origins) operands.now }
+    requires within { AreOf (length table.old.origins) operands.now }
     requires few { touched ≤ element_limit }
-    requires there { HaveEnough (typemaps types.now.origins) kind touched operands.now }
-    ensures ok { IfOk result (λ layouts. layouts ≡ layouts_in (typemaps types.now.origins) kind touched operands.now) }
-    ensures taken { OnOk result (space_reason (typemaps types.now.origins) kind touched operands.now ≡ None) }
-    ensures fault { IfErr result (IsErrorOf (space_reason (typemaps types.now.origins) kind touched operands.now)) }
+    requires there { HaveEnough (typemaps table.old.origins) kind touched operands.now }
+    ensures ok { IfOk result (λ layouts. layouts ≡ layouts_in (typemaps table.old.origins) kind touched operands.now) }
+    ensures taken { OnOk result (space_reason (typemaps table.old.origins) kind touched operands.now ≡ None) }
+    ensures fault { IfErr result (IsErrorOf (space_reason (typemaps table.old.origins) kind touched operands.now)) }
+    ensures same { table.new ≡ table.old }
 {
-    let target = placed(types, &operands.target, touched, Space::Target)?;
-    let origin = placed_origin(types, kind, operands, touched)?;
-    let result = placed_if(types, operands.result, touched)?;
-    let compare = placed_if(types, operands.compare, touched)?;
+    let target = placed(table, &operands.target, touched, Space::Target)?;
+    let origin = placed_origin(table, kind, operands, touched)?;
+    let result = placed_if(table, operands.result, touched)?;
+    let compare = placed_if(table, operands.compare, touched)?;
     let others = worse(
         fault_if(&origin),
         worse(fault_if(&result), fault_if(&compare)),
@@ -91,18 +92,19 @@ fn laid_out(
 
 // The layout of the first elements of the origin, if it is touched, or why it has none.
 fn placed_origin(
-    types: &TypeTable,
+    table: &mut LayoutTable,
     kind: RmaKind,
     operands: &Operands,
     touched: u64,
 ) -> Result<Option<Placed>, Memory>
-    requires within { AreOf (length types.now.origins) operands.now }
+    requires within { AreOf (length table.old.origins) operands.now }
     requires few { touched ≤ element_limit }
-    requires there { HaveEnough (typemaps types.now.origins) kind touched operands.now }
-    ensures { IfOk result (ArePlaced (typemaps types.now.origins) touched (touched_origin kind operands.now)) }
+    requires there { HaveEnough (typemaps table.old.origins) kind touched operands.now }
+    ensures placed { IfOk result (ArePlaced (typemaps table.old.origins) touched (touched_origin kind operands.now)) }
+    ensures same { table.new ≡ table.old }
 {
     if uses_origin(kind) {
-        Ok(Some(placed(types, &operands.origin, touched, Space::Local)?))
+        Ok(Some(placed(table, &operands.origin, touched, Space::Local)?))
     } else {
         Ok(None)
     }
@@ -110,17 +112,18 @@ fn placed_origin(
 
 // The layout of the first elements of a buffer of the caller, if there is one, or why it has none.
 fn placed_if(
-    types: &TypeTable,
+    table: &mut LayoutTable,
     operand: Option<Operand>,
     touched: u64,
 ) -> Result<Option<Placed>, Memory>
-    requires within { IfSome operand (IsOf (length types.now.origins)) }
+    requires within { IfSome operand (IsOf (length table.old.origins)) }
     requires few { touched ≤ element_limit }
-    requires there { IfSome operand (HasEnough (typemaps types.now.origins) touched) }
-    ensures { IfOk result (ArePlaced (typemaps types.now.origins) touched operand) }
+    requires there { IfSome operand (HasEnough (typemaps table.old.origins) touched) }
+    ensures placed { IfOk result (ArePlaced (typemaps table.old.origins) touched operand) }
+    ensures same { table.new ≡ table.old }
 {
     match operand {
-        Some(operand) => Ok(Some(placed(types, &operand, touched, Space::Local)?)),
+        Some(operand) => Ok(Some(placed(table, &operand, touched, Space::Local)?)),
         None => Ok(None),
     }
 }

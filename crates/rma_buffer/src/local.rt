@@ -10,8 +10,7 @@ use crate::placed::placed;
 use crate::rule::entries;
 use rma_base::Memory;
 use rma_call::{LocalAccess, LocalCall};
-use rma_layout::Space;
-use rma_type::TypeTable;
+use rma_layout::{LayoutTable, Space};
 
 /// The local access of a line that does this with this memory.
 ///
@@ -19,17 +18,18 @@ use rma_type::TypeTable;
 ///
 /// The reason for which the memory is bad, and [`BufferError::Memory`].
 pub fn local_call(
-    types: &TypeTable,
+    table: &mut LayoutTable,
     access: LocalAccess,
     memory: &Operand,
 ) -> Result<LocalCall, BufferError>
-    requires within { IsOf (length types.now.origins) memory.now }
-    ensures ok { IfOk result (λ call. call ≡ local_call_of types.now.origins access memory.now) }
-    ensures taken { OnOk result (memory_reason types.now.origins memory.now ≡ None) }
-    ensures fault { IfErr result (IsErrorOf (memory_reason types.now.origins memory.now)) }
+    requires within { IsOf (length table.old.origins) memory.now }
+    ensures ok { IfOk result (λ call. call ≡ local_call_of table.old.origins access memory.now) }
+    ensures taken { OnOk result (memory_reason table.old.origins memory.now ≡ None) }
+    ensures fault { IfErr result (IsErrorOf (memory_reason table.old.origins memory.now)) }
+    ensures same { table.new ≡ table.old }
 {
-    let touched = entries(types, memory);
-    match placed(types, memory, touched, Space::Local) {
+    let touched = entries(table.types(), memory);
+    match placed(table, memory, touched, Space::Local) {
         Ok(Ok(layout)) => Ok(LocalCall { access, layout }),
         Ok(Err(fault)) => Err(BufferError::Fault(layout_reason(fault))),
         Err(Memory) => Err(BufferError::Memory),

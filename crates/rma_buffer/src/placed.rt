@@ -9,25 +9,24 @@ ghost use Rattle.rma_buffer.specs.inside.Placed.{IsPlaced};
 use crate::operand::Operand;
 use rma_base::Memory;
 use rma_bytes::Layout;
-use rma_layout::{LayoutError, LayoutFault, Space, place};
-use rma_type::TypeTable;
+use rma_layout::{LayoutError, LayoutFault, LayoutTable, Space};
 
 /// A buffer's layout, or why it has none.
 pub(crate) type Placed = Result<Layout, LayoutFault>;
 
 /// The layout of the first elements of a buffer in a space, or why it has none.
 pub(crate) fn placed(
-    types: &TypeTable,
+    table: &mut LayoutTable,
     operand: &Operand,
     touched: u64,
     space: Space,
 ) -> Result<Placed, Memory>
-    requires within { IsOf (length types.now.origins) operand.now }
-    requires there { touched ≤ entries_in (typemaps types.now.origins) operand.now }
-    ensures { IfOk result (IsPlaced (typemaps types.now.origins) touched space operand.now) }
+    requires within { IsOf (length table.old.origins) operand.now }
+    requires there { touched ≤ entries_in (typemaps table.old.origins) operand.now }
+    ensures placed { IfOk result (IsPlaced (typemaps table.old.origins) touched space operand.now) }
+    ensures same { table.new ≡ table.old }
 {
-    let placed = place(
-        types,
+    let placed = table.place(
         operand.datatype,
         operand.count,
         operand.address as i64,

@@ -8,7 +8,8 @@ use crate::book::Book;
 use rma_base::{FormReason, Memory, Name};
 use rma_datatype::Make;
 use rma_form::TypeLine;
-use rma_type::{TypeError, TypeFault, TypeTable};
+use rma_layout::LayoutTable;
+use rma_type::{TypeError, TypeFault};
 
 impl Book {
     /// Judges a line that speaks of a datatype, and takes it where it is good. It answers why it is bad, if it is.
@@ -27,24 +28,24 @@ impl Book {
 }
 
 /// Changes the datatypes as the line says, or answers why it is bad.
-fn change(types: &mut TypeTable, line: &TypeLine) -> Result<Option<FormReason>, Memory>
-    ensures { IfOk result (IsChanged types.old types.new line.now) }
+fn change(table: &mut LayoutTable, line: &TypeLine) -> Result<Option<FormReason>, Memory>
+    ensures { IfOk result (IsChanged table.old table.new line.now) }
 {
     match line {
-        TypeLine::Make { name, make } => made(types, name, make),
-        TypeLine::Commit { name } => Ok(fault_in(types.commit(name))),
-        TypeLine::Free { name } => Ok(fault_in(types.free(name))),
+        TypeLine::Make { name, make } => made(table, name, make),
+        TypeLine::Commit { name } => Ok(fault_in(table.commit(name))),
+        TypeLine::Free { name } => Ok(fault_in(table.free(name))),
     }
 }
 
 /// Makes the datatype, or answers why it may not be made.
-fn made(types: &mut TypeTable, name: &Name, make: &Make) -> Result<Option<FormReason>, Memory>
-    ensures { IfOk result (IsChanged types.old types.new (TypeLine.Make name.now make.now)) }
+fn made(table: &mut LayoutTable, name: &Name, make: &Make) -> Result<Option<FormReason>, Memory>
+    ensures { IfOk result (IsChanged table.old table.new (TypeLine.Make name.now make.now)) }
 {
-    if types.types() == u32::MAX {
+    if table.types().types() == u32::MAX {
         return Err(Memory);
     }
-    match types.make(name, make) {
+    match table.make(name, make) {
         Ok(_) => Ok(None),
         Err(TypeError::Fault(fault)) => Ok(Some(fault_reason(fault))),
         Err(TypeError::Memory) => Err(Memory),

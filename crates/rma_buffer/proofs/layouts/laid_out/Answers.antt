@@ -6,9 +6,11 @@ use Rattle.rma_buffer.proofs.layouts.laid_out.Goals as goal
 
 pub returns-in-Some-clause-fault : goal.returns-in-Some-clause-fault
 returns-in-Some-clause-fault c =
-    first_reason (typemaps c.args.types.now.origins) c.args.kind c.args.touched c.args.operands.now c.requires.few
+    first_reason (typemaps c.args.table.now.origins) c.args.kind c.args.touched c.args.operands.now c.requires.few
     c.in_ok-target.target c.in_ok-origin.origin c.in_ok-result.result c.in_ok-compare.compare
-    c.in_ok-target.ensures c.in_ok-origin.ensures c.in_ok-result.ensures c.in_ok-compare.ensures
+    c.in_ok-target.ensures.placed (rw c.placed.ensures.same at c.in_ok-origin.ensures.placed)
+    (rw (c.placed_origin.ensures.same, c.placed.ensures.same) at c.in_ok-result.ensures.placed)
+    (rw (c.placed_if.ensures.same, c.placed_origin.ensures.same, c.placed.ensures.same) at c.in_ok-compare.ensures.placed)
     ∙ ap (option_map layout_reason)
     (sym (worst_of_all c.worse-2.ensures c.fault_of.ensures c.worse-others.ensures c.fault_if.ensures c.worse.ensures c.fault_if-2.ensures c.fault_if-3.ensures) ∙ c.in-Some.is)
     ∙ ap Some (sym c.layout_reason.ensures)
@@ -16,16 +18,20 @@ returns-in-Some-clause-fault c =
 pub returns-in-Ok-clause-ok : goal.returns-in-Ok-clause-ok
 returns-in-Ok-clause-ok c =
     rw (c.layout_if.ensures, c.layout_if-in-Ok.ensures, c.layout_if-in-Ok-2.ensures)
-    (layouts_are (typemaps c.args.types.now.origins) c.args.kind c.args.touched c.args.operands.now
+    (layouts_are (typemaps c.args.table.now.origins) c.args.kind c.args.touched c.args.operands.now
     c.in_ok-target.target c.in_ok-origin.origin c.in_ok-result.result c.in_ok-compare.compare c.in-Ok.target c.in-Ok.is
-    c.in_ok-target.ensures c.in_ok-origin.ensures c.in_ok-result.ensures c.in_ok-compare.ensures
+    c.in_ok-target.ensures.placed (rw c.placed.ensures.same at c.in_ok-origin.ensures.placed)
+    (rw (c.placed_origin.ensures.same, c.placed.ensures.same) at c.in_ok-result.ensures.placed)
+    (rw (c.placed_if.ensures.same, c.placed_origin.ensures.same, c.placed.ensures.same) at c.in_ok-compare.ensures.placed)
     (sym (worst_of_all c.worse-2.ensures c.fault_of.ensures c.worse-others.ensures c.fault_if.ensures c.worse.ensures c.fault_if-2.ensures c.fault_if-3.ensures) ∙ c.in_default.is))
 
 pub returns-in-Ok-clause-taken : goal.returns-in-Ok-clause-taken
 returns-in-Ok-clause-taken c =
-    first_reason (typemaps c.args.types.now.origins) c.args.kind c.args.touched c.args.operands.now c.requires.few
+    first_reason (typemaps c.args.table.now.origins) c.args.kind c.args.touched c.args.operands.now c.requires.few
     c.in_ok-target.target c.in_ok-origin.origin c.in_ok-result.result c.in_ok-compare.compare
-    c.in_ok-target.ensures c.in_ok-origin.ensures c.in_ok-result.ensures c.in_ok-compare.ensures
+    c.in_ok-target.ensures.placed (rw c.placed.ensures.same at c.in_ok-origin.ensures.placed)
+    (rw (c.placed_origin.ensures.same, c.placed.ensures.same) at c.in_ok-result.ensures.placed)
+    (rw (c.placed_if.ensures.same, c.placed_origin.ensures.same, c.placed.ensures.same) at c.in_ok-compare.ensures.placed)
     ∙ ap (option_map layout_reason)
     (sym (worst_of_all c.worse-2.ensures c.fault_of.ensures c.worse-others.ensures c.fault_if.ensures c.worse.ensures c.fault_if-2.ensures c.fault_if-3.ensures) ∙ c.in_default.is)
 

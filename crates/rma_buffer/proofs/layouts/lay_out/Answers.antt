@@ -8,16 +8,16 @@ pub returns-in_err-layouts-clause-fault : goal.returns-in_err-layouts-clause-fau
 returns-in_err-layouts-clause-fault c =
     let returned = err_from_is_err_and c.from_residual.result c.from_residual.ensures.1 in
     rw (returned.1, returned.2)
-    (first_of_all (typemaps c.args.types.now.origins) c.args.kind c.args.touched c.args.operands.now c.in_err-layouts.field-0.0 c.in_err-layouts.ensures.fault)
+    (first_of_all (typemaps c.args.table.now.origins) c.args.kind c.args.touched c.args.operands.now c.in_err-layouts.field-0.0 c.in_err-layouts.ensures.fault)
 
 pub returns-then-overlap-clause-fault : goal.returns-then-overlap-clause-fault
 returns-then-overlap-clause-fault c =
-    let maps = typemaps c.args.types.now.origins in
+    let maps = typemaps c.args.table.now.origins in
     overlap_first maps c.args.kind c.args.touched c.args.operands.now c.in_ok-layouts.ensures.taken
     (overlaps_laid maps c.args.kind c.args.touched c.args.operands.now c.in_ok-layouts.layouts c.overlap.result c.in_ok-layouts.ensures.ok c.overlap.ensures ∙ c.if-overlap.true)
 
 pub returns-clause-taken : goal.returns-clause-taken
 returns-clause-taken c =
-    let maps = typemaps c.args.types.now.origins in
+    let maps = typemaps c.args.table.now.origins in
     overlap_none maps c.args.kind c.args.touched c.args.operands.now c.in_ok-layouts.ensures.taken
     (overlaps_laid maps c.args.kind c.args.touched c.args.operands.now c.in_ok-layouts.layouts c.overlap.result c.in_ok-layouts.ensures.ok c.overlap.ensures ∙ c.if-overlap.false)

@@ -9,9 +9,9 @@ use Rattle.rma_buffer.specs.Rules.{touched_in}
 use Rattle.rma_buffer.proofs.LayoutLemmas.{all_in, layout_is}
 use Rattle.rma_buffer.proofs.placed.placed.Goals as goal
 
-pub returns-in-Ok : goal.returns-in-Ok
-returns-in-Ok c =
-    let maps = typemaps c.args.types.now.origins in
+pub returns-in-Ok-clause-placed : goal.returns-in-Ok-clause-placed
+returns-in-Ok-clause-placed c =
+    let maps = typemaps c.args.table.now.origins in
     let m = c.args.touched in
     let it = c.args.operand.now in
     let es = touched_in maps m it in

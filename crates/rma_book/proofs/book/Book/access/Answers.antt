@@ -28,7 +28,7 @@ pub returns-in-Some-clause-judged : goal.returns-in-Some-clause-judged
 returns-in-Some-clause-judged c =
     let book = c.args.self.now in
     let line = c.args.line.now in
-    let looked = sym (ap (λ (b : BookState). operands_of b.types.live line.access) c.self.view_is) ∙ sym c.of-operands.ensures.is in
+    let looked = sym (ap (λ (b : BookState). operands_of b.types.live line.access) c.self.view_is) ∙ sym (rw c.types.ensures at c.of-operands.ensures.is) in
     bad_name book (Rma line (option_copied c.args.request)) (value_of c.with_access-naming.result) c.is_none.result c.reason.result c.with_access-naming.ensures
     (lacks_from c.of-operands.result c.is_none.result c.is_none.ensures ∙ ap is_none (sym looked)) refl (λ rank logs. refl) refl c.reason.ensures c.in-Some.reason c.in-Some.is
 
@@ -37,7 +37,7 @@ returns-in_default-operands-clause-judged c =
     let book = c.args.self.now in
     let line = c.args.line.now in
     let event = Rma line (option_copied c.args.request) in
-    let looked = sym (ap (λ (b : BookState). operands_of b.types.live line.access) c.self.view_is) ∙ sym c.of-operands.ensures.is in
+    let looked = sym (ap (λ (b : BookState). operands_of b.types.live line.access) c.self.view_is) ∙ sym (rw c.types.ensures at c.of-operands.ensures.is) in
     let lacking = lacks_from c.of-operands.result c.is_none.result c.is_none.ensures in
     IsJudged_bad book event UnknownType
     (λ events h.
@@ -51,12 +51,12 @@ returns-in_ok-request-in-Ok-clause-judged c =
     let line = c.args.line.now in
     let event = Rma line (option_copied c.args.request) in
     let operands = c.in-Some-operands.operands in
-    let looked = sym (ap (λ (b : BookState). operands_of b.types.live line.access) c.self.view_is) ∙ sym c.of-operands.ensures.is in
+    let looked = sym (ap (λ (b : BookState). operands_of b.types.live line.access) c.self.view_is) ∙ sym (rw c.types.ensures at c.of-operands.ensures.is) in
     let judge = λ (b : BookState) (it : Operands). buffers_reason b.types.origins b.types.committed (kind_of line.access) line.target it in
     good_type book event (value_of c.with_access-naming.result) c.is_none.result c.reason.result c.with_access-naming.ensures
     (lacks_from c.of-operands.result c.is_none.result c.is_none.ensures ∙ ap is_none (sym looked)) refl (λ rank logs. refl) refl c.reason.ensures c.note.new.self c.in_default.is
-    (ap (option_and_then (judge book)) (looked ∙ c.in-Some-operands.is) ∙ sym (ap (λ (b : BookState). judge b operands) c.self.view_is) ∙ c.in-Ok.ensures.taken)
-    (c.in_ok-request-in-Ok.ensures.taken event c.with_access-naming.ensures refl refl)
+    (ap (option_and_then (judge book)) (looked ∙ c.in-Some-operands.is) ∙ c.in-Ok.ensures.taken)
+    (rw c.one_sided.ensures.same at c.in_ok-request-in-Ok.ensures.taken event c.with_access-naming.ensures refl refl)
 
 pub returns-in_ok-request-in-Ok-clause-good : goal.returns-in_ok-request-in-Ok-clause-good
 returns-in_ok-request-in-Ok-clause-good c = λ events h.
@@ -64,11 +64,11 @@ returns-in_ok-request-in-Ok-clause-good c = λ events h.
     let line = c.args.line.now in
     let event = Rma line (option_copied c.args.request) in
     let operands = c.in-Some-operands.operands in
-    let looked = sym (ap (λ (b : BookState). operands_of b.types.live line.access) c.self.view_is) ∙ sym c.of-operands.ensures.is in
+    let looked = sym (ap (λ (b : BookState). operands_of b.types.live line.access) c.self.view_is) ∙ sym (rw c.types.ensures at c.of-operands.ensures.is) in
     let made = λ (b : BookState) (it : Operands). what.Rma (rma_call_of b.types.origins line it) in (
       sym (what_in_same book.types (types_after events) h.types event) ∙ ap (option_map (made book)) (looked ∙ c.in-Some-operands.is)
-          ∙ sym (ap (λ (b : BookState). Some (made b operands)) c.self.view_is) ∙ ap (λ (call : RmaCall). Some (what.Rma call)) (sym c.in-Ok.ensures.ok),
-      c.in_ok-request-in-Ok.ensures.number events h ∙ ap (request_number events) c.with_access-naming.ensures,
+          ∙ ap (λ (call : RmaCall). Some (what.Rma call)) (sym c.in-Ok.ensures.ok),
+      c.in_ok-request-in-Ok.ensures.number events (rw c.one_sided.ensures.same h) ∙ ap (request_number events) c.with_access-naming.ensures,
     )
 
 pub returns-in-Err-Fault-clause-judged : goal.returns-in-Err-Fault-clause-judged
@@ -77,10 +77,10 @@ returns-in-Err-Fault-clause-judged c =
     let line = c.args.line.now in
     let event = Rma line (option_copied c.args.request) in
     let operands = c.in-Some-operands.operands in
-    let looked = sym (ap (λ (b : BookState). operands_of b.types.live line.access) c.self.view_is) ∙ sym c.of-operands.ensures.is in
+    let looked = sym (ap (λ (b : BookState). operands_of b.types.live line.access) c.self.view_is) ∙ sym (rw c.types.ensures at c.of-operands.ensures.is) in
     let judge = λ (b : BookState) (it : Operands). buffers_reason b.types.origins b.types.committed (kind_of line.access) line.target it in
     let fault = rw c.in-Err-Fault.field-0-is at c.in-Err-Fault.ensures.fault in
-    rw c.in-Err-Fault.reason-is
+    rw (c.in-Err-Fault.reason-is, c.one_sided.ensures.same)
     (bad_type book event (value_of c.with_access-naming.result) c.is_none.result c.reason.result c.with_access-naming.ensures
     (lacks_from c.of-operands.result c.is_none.result c.is_none.ensures ∙ ap is_none (sym looked)) refl (λ rank logs. refl) refl c.reason.ensures c.in-Err-Fault.reason c.in_default.is
-    (ap (option_and_then (judge book)) (looked ∙ c.in-Some-operands.is) ∙ sym (ap (λ (b : BookState). judge b operands) c.self.view_is) ∙ fault))
+    (ap (option_and_then (judge book)) (looked ∙ c.in-Some-operands.is) ∙ fault))

@@ -11,7 +11,7 @@ returns-in-Ok-clause-judged c =
     let book = c.args.self.now in
     let memory = c.in-Some-of.memory in
     let found : operand_of book.types.live c.args.line.now.buffer ≡ Some memory =
-    sym (ap (λ (b : BookState). operand_of b.types.live c.args.line.now.buffer) c.self.view_is) ∙ sym c.of.ensures.is ∙ c.in-Some-of.is in
-    let good = sym (ap (λ (b : BookState). memory_reason b.types.origins memory) c.self.view_is) ∙ c.in-Ok.ensures.taken in
-    local_good book c.args.line.now (sym c.later_reason.ensures ∙ c.in_default.is) (ap is_none found)
-    (ap (option_and_then (memory_reason book.types.origins)) found ∙ good)
+    sym (ap (λ (b : BookState). operand_of b.types.live c.args.line.now.buffer) c.self.view_is) ∙ sym (rw c.types.ensures at c.of.ensures.is) ∙ c.in-Some-of.is in
+    let good = c.in-Ok.ensures.taken in
+    rw c.memory.ensures.same (local_good book c.args.line.now (sym c.later_reason.ensures ∙ c.in_default.is) (ap is_none found)
+    (ap (option_and_then (memory_reason book.types.origins)) found ∙ good))
