@@ -1,4 +1,5 @@
--- What a walk over the points of a run comes to: an order of them, or the calls that are never reached.
+-- What a walk over the points of a run comes to: an order of them, or the calls that are never left (MPI 4.0, "MPI Terms and
+-- Conventions" and "One-Sided Communications").
 use Rattle.std.specs.Prelude.{ℕ, ◌≡◌, ◌<◌, ◌≤◌, ◌⊎◌, List, Option, Some, None, length, slice_index, slice_get}
 use Rattle.rma_base.specs.declared.rank.Rank.{Rank}
 use Rattle.rma_base.specs.declared.point.Point.{Point}

@@ -4,6 +4,7 @@ use Rattle.rma_walk.specs.declared.source.Source.{Source}
 use Rattle.rma_walk.specs.declared.source.Source.TheVariants.{Meet}
 use Rattle.rma_walk.specs.declared.inbox.Arrival.{Arrival}
 
+-- what is read where no arrival stands
 abbrev pub no_arrival : Arrival
 no_arrival = record { source = Meet 0; before = 0 }
 
