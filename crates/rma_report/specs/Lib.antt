@@ -1,3 +1,4 @@
 pub mod ReportText
+pub mod ReportJson
 pub mod Writing
 pub mod inside

@@ -8,8 +8,10 @@
 
 mod buffer;
 mod finding;
+mod json;
 mod line;
 mod report;
 
 pub use finding::{Finding, FindingList, Findings};
+pub use json::json_text;
 pub use report::{WriteFault, write_text};
