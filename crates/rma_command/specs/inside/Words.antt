@@ -1,0 +1,63 @@
+-- How the words of the command line are read, from left to right.
+use Rattle.std.specs.Prelude.{ℕ, List, [], ◌∷◌, length, codes, Bool, true, false, ◌&&◌, Option, Some, None, option_map, nat_eq, nat_le, not, ◌==◌, if◌then◌else◌}
+use Rattle.std.specs.List.{list_all}
+use Rattle.std.specs.Option.{option_and_then}
+use Rattle.std.specs.Cmp.Lexicographic.{pointwise}
+use Rattle.rma_base.specs.Limits.{rank_limit}
+use Rattle.rma_command.specs.Words.{Command, number_of}
+
+-- whether a word is this one
+abbrev pub is : List ℕ → List ℕ → Bool
+is word other = pointwise nat_eq word other
+
+-- a limit that the first word gives, and the words behind it
+abbrev pub limit_behind : List (List ℕ) → Option (Option ℕ × List (List ℕ))
+limit_behind [] = None
+limit_behind (word ∷ rest) = option_map (λ limit. (Some limit, rest)) (number_of word)
+
+-- the limit, if the first words give one, and the words behind it; nothing where it is no number
+abbrev pub limit_from : List (List ℕ) → Option (Option ℕ × List (List ℕ))
+limit_from [] = Some (None, [])
+limit_from (word ∷ rest) = if is word (codes "--limit") then limit_behind rest else Some (None, word ∷ rest)
+
+-- whether the first word asks for JSON, and the words behind it
+abbrev pub json_from : List (List ℕ) → Bool × List (List ℕ)
+json_from [] = (false, [])
+json_from (word ∷ rest) = if is word (codes "--json") then (true, rest) else (false, word ∷ rest)
+
+-- whether a word is not empty, and no option
+abbrev pub is_name : List ℕ → Bool
+is_name [] = false
+is_name (first ∷ rest) = not (first == 45)
+
+-- whether a word is not empty
+abbrev pub is_some : List ℕ → Bool
+is_some [] = false
+is_some (first ∷ rest) = true
+
+-- the words as names, where all are of the right form, and there are as many as there may be
+abbrev pub names_if : Bool → List (List ℕ) → Option (List (List ℕ))
+names_if right words = if right && nat_le 1 (length words) && nat_le (length words) rank_limit then Some words else None
+
+-- the names, where all words are names
+abbrev pub names_from : List (List ℕ) → Option (List (List ℕ))
+names_from [] = None
+names_from (word ∷ rest) = if is word (codes "--") then names_if (list_all is_some rest) rest else names_if (list_all is_name (word ∷ rest)) (word ∷ rest)
+
+-- the command of a limit and a form, where all other words are names
+abbrev pub with_names : Option ℕ → Bool → List (List ℕ) → Option Command
+with_names limit json words = option_map (λ names. record { limit = limit; json = json; names = names }) (names_from words)
+
+-- the command where the words before `--json`, if it is there, gave this limit
+abbrev pub after_json : Option ℕ → Bool × List (List ℕ) → Option Command
+after_json (Some limit) words = with_names (Some limit) words.0 words.1
+after_json None words = option_and_then (λ found. with_names found.0 words.0 found.1) (limit_from words.1)
+
+-- the command behind the verb
+abbrev pub command_behind : List (List ℕ) → Option Command
+command_behind words = option_and_then (λ found. after_json found.0 (json_from found.1)) (limit_from words)
+
+-- the command of all words
+abbrev pub command_of : List (List ℕ) → Option Command
+command_of [] = None
+command_of (verb ∷ words) = if is verb (codes "audit") then command_behind words else None
