@@ -134,7 +134,7 @@ def is_usage(_):
 
 CHECKS = (
     ("rmaudit: an example, unproved", lambda: unproved(lambda case: ["audit", *case.logs], report_of)),
-    ("rmaudit: --limit, unproved", lambda: unproved(lambda case: ["audit", "--limit", "10", *case.logs], is_usage)),
+    ("rmaudit: --limit, unproved", lambda: unproved(lambda case: ["audit", "--limit", "10", *case.logs], report_of)),
     ("rmaudit: the words of trial, unproved", lambda: unproved(lambda case: ["trial", "8", "1000", "7"], is_usage)),
     ("rmaudit: words are passed on", words_are_passed_on),
     ("rmaudit: a run without an end has no answer", a_run_without_an_end_has_no_answer),

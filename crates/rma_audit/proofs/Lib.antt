@@ -2,4 +2,3 @@ mod OpeningLemmas
 mod ProgressLemmas
 mod RunLemmas
 mod SaysLemmas
-mod WordLemmas

@@ -1,12 +1,13 @@
 -- What each answer of the top call says.
-use Rattle.std.specs.Prelude.{◌≡◌, ◌≢◌, ℕ, ◌+◌, ◌<◌, ◌≤◌, List, [], ◌∷◌, ◌++◌, Some, None, ◌⊎◌, length, sum_by, IfSome, slice_index_or}
+use Rattle.std.specs.Prelude.{◌≡◌, ◌≢◌, ℕ, ◌+◌, ◌<◌, ◌≤◌, List, [], ◌∷◌, ◌++◌, Some, None, ◌⊎◌, length, sum_by, IfSome, slice_index_or, unwrap_or, if◌then◌else◌}
 use Rattle.rma_io.specs.Count.{Rose}
 use Rattle.rma_io.specs.Known.{StillKnown}
 use Rattle.rma_io.specs.LogBytes.{LogBytes, log_of}
 use Rattle.rma_io.specs.Source.{Source, Opened, AreRead}
 use Rattle.rma_io.specs.Sink.{Output, AppendsPrefixOf}
-use Rattle.rma_audit.specs.Words.{IsAudit, AreFaulty}
+use Rattle.rma_command.specs.Words.{Command, IsAudit, AreFaulty}
 use Rattle.rma_report.specs.ReportText.{report_text}
+use Rattle.rma_report.specs.ReportJson.{report_json}
 use Rattle.rma_report.specs.declared.finding.Finding.{Finding}
 use Rattle.rma_stream.specs.Findings.{AreFindings, count_of_lines}
 use Rattle.rma_audit.specs.declared.status.Status.{Status}
@@ -34,16 +35,16 @@ pub record OpensSome (names : List (List ℕ)) (opened : Opened) : Type 0 where
   pub first : names ≡ opened.names ++ rest
   pub refused : (opened.refused ≡ None) ⊎ ((next : List ℕ) × (more : List (List ℕ)) × (rest ≡ next ∷ more) × (opened.refused ≡ Some next))
 
--- the words name these logs, of which the first were opened; no more bytes were taken than are allowed
-pub record ReadsSome (run : Run) (names : List (List ℕ)) : Type 0 where
-  pub words : IsAudit run.words names
-  pub opened : OpensSome names run.opened
+-- the words ask for this audit, and the first of its logs were opened; no more bytes were taken than are allowed
+pub record ReadsSome (run : Run) (command : Command) : Type 0 where
+  pub words : IsAudit run.words command
+  pub opened : OpensSome command.names run.opened
   pub taken : run.source.taken ≤ byte_limit
 
--- the words name these logs, and all of them were opened
-pub record ReadsTooMuch (run : Run) (names : List (List ℕ)) : Type 0 where
-  pub words : IsAudit run.words names
-  pub opened : run.opened.names ≡ names
+-- the words ask for this audit, and all of its logs were opened
+pub record ReadsTooMuch (run : Run) (command : Command) : Type 0 where
+  pub words : IsAudit run.words command
+  pub opened : run.opened.names ≡ command.names
   pub none_refused : run.opened.refused ≡ None
   pub taken : byte_limit < run.source.taken
   pub stops : run.source.taken ≤ byte_limit + 65536
@@ -52,43 +53,53 @@ pub record ReadsTooMuch (run : Run) (names : List (List ℕ)) : Type 0 where
 abbrev pub AreTaken : List LogBytes → List (List ℕ) → Type 0
 AreTaken known logs = (rank : ℕ) → IfSome (log_of known rank).taken (λ bytes. bytes ≡ slice_index_or logs rank [])
 
--- the words name these logs, all of them were opened and read to their ends, these are their whole bytes, and this
--- is what an audit finds in them
-pub record Judges (run : Run) (names logs : List (List ℕ)) (found : List Finding) : Type 0 where
-  pub words : IsAudit run.words names
-  pub opened : run.opened.names ≡ names
+-- the words ask for this audit, all of its logs were opened and read to their ends, these are their whole bytes, and
+-- this is what an audit finds in them
+pub record Judges (run : Run) (command : Command) (logs : List (List ℕ)) (found : List Finding) : Type 0 where
+  pub words : IsAudit run.words command
+  pub opened : run.opened.names ≡ command.names
   pub none_refused : run.opened.refused ≡ None
   pub taken : run.source.taken ≤ byte_limit
-  pub one_log_a_name : length logs ≡ length names
+  pub one_log_a_name : length logs ≡ length command.names
   pub all_taken : sum_by length logs ≡ run.source.taken
   pub one_a_log : length run.source.logs ≡ length logs
   pub read : AreRead run.source.logs
   pub bytes : AreTaken run.source.logs logs
   pub findings : AreFindings logs found
 
--- the report on these whole logs, in which this was found; all findings are shown
-abbrev pub report : List (List ℕ) → List Finding → List ℕ
-report logs found = report_text (length logs) (count_of_lines logs) found (length found)
+-- how many of the findings are shown: as many as the words say, and all where they do not
+abbrev pub limit_of : Command → List Finding → ℕ
+limit_of command found = unwrap_or command.limit (length found)
+
+-- the report on `ranks` logs of `lines` lines together in which this was found, as the words ask for it
+abbrev pub report_of : Command → ℕ → ℕ → List Finding → List ℕ
+report_of command ranks lines found =
+    if command.json then report_json ranks lines found (limit_of command found) else report_text ranks lines found (limit_of command found)
+
+-- the report on these whole logs
+abbrev pub report : Command → List (List ℕ) → List Finding → List ℕ
+report command logs found = report_of command (length logs) (count_of_lines logs) found
 
 -- the whole report was written, and nothing else
-abbrev pub WritesReport : Run → List (List ℕ) → List Finding → Type 0
-WritesReport run logs found = StillKnown (λ before after. after ≡ before ++ report logs found) run.output_before.written run.output.written
+abbrev pub WritesReport : Run → Command → List (List ℕ) → List Finding → Type 0
+WritesReport run command logs found = StillKnown (λ before after. after ≡ before ++ report command logs found) run.output_before.written run.output.written
 
 -- what was written is a prefix of the report
-abbrev pub WritesPrefix : Run → List (List ℕ) → List Finding → Type 0
-WritesPrefix run logs found = StillKnown (AppendsPrefixOf (report logs found)) run.output_before.written run.output.written
+abbrev pub WritesPrefix : Run → Command → List (List ℕ) → List Finding → Type 0
+WritesPrefix run command logs found = StillKnown (AppendsPrefixOf (report command logs found)) run.output_before.written run.output.written
 
 -- when each answer comes, and what was read and written then
 abbrev pub Says : Status → Run → Type 0
-Says Clean run = (names logs : List (List ℕ)) × Judges run names logs [] × WritesReport run logs []
-Says Findings run = (names logs : List (List ℕ)) × (found : List Finding) × Judges run names logs found × (found ≢ []) × WritesReport run logs found
+Says Clean run = (command : Command) × (logs : List (List ℕ)) × Judges run command logs [] × WritesReport run command logs []
+Says Findings run =
+    (command : Command) × (logs : List (List ℕ)) × (found : List Finding) × Judges run command logs found × (found ≢ []) × WritesReport run command logs found
 Says Usage run = AreFaulty run.words
-Says (ReadFault recorded) run = (names : List (List ℕ)) × ReadsSome run names × Rose run.source_before.faults run.source.faults × (recorded ≡ 0)
+Says (ReadFault recorded) run = (command : Command) × ReadsSome run command × Rose run.source_before.faults run.source.faults × (recorded ≡ 0)
 Says WriteFault run =
-    (names logs : List (List ℕ)) × (found : List Finding) × Judges run names logs found × Rose run.output_before.faults run.output.faults
-    × WritesPrefix run logs found
-Says (TooLarge bytes) run = (names : List (List ℕ)) × ReadsTooMuch run names × (bytes ≡ run.source.taken)
-Says Memory run = (names : List (List ℕ)) × ReadsSome run names
+    (command : Command) × (logs : List (List ℕ)) × (found : List Finding) × Judges run command logs found × Rose run.output_before.faults run.output.faults
+    × WritesPrefix run command logs found
+Says (TooLarge bytes) run = (command : Command) × ReadsTooMuch run command × (bytes ≡ run.source.taken)
+Says Memory run = (command : Command) × ReadsSome run command
 
 -- the answers at which nothing was written
 abbrev pub WritesNothing : Status → Type 0

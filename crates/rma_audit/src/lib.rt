@@ -2,16 +2,14 @@
 //!
 //! [`run`] opens the logs, reads them to their ends, audits them and writes the report; its [`Status`] says how it ended. It is
 //! generic over where logs come from and where the report goes, so the program and a test run the same call. What each answer
-//! says stands in `specs/Answers.antt`, and which words are a command in `specs/Words.antt`.
+//! says stands in `specs/Answers.antt`; which words are a command, in `rma_command`.
 #![tactic(auto)]
 
-pub mod laws;
 mod opening;
 mod program;
 mod reading;
 mod status;
 mod stop;
-mod word;
 
 pub use program::run;
 pub use status::Status;

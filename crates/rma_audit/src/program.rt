@@ -1,17 +1,20 @@
 //! The top call: what the program does with its words, its logs and its output.
 ghost use Rattle.std.specs.Prelude.{◌≡◌, ℕ, ◌≤◌, List, length, map, string_bytes, vec_len, IfOk, IfErr};
-ghost use Rattle.rma_audit.specs.Answers.{IsFresh, Says, WritesNothing};
+ghost use Rattle.rma_command.specs.Asked.{asked};
+ghost use Rattle.rma_io.specs.Sink.{Output};
+ghost use Rattle.rma_report.specs.Writing.{IsWritten};
+ghost use Rattle.rma_audit.specs.Answers.{IsFresh, Says, WritesNothing, limit_of, report_of};
 ghost use Rattle.rma_audit.specs.inside.Runs.{HasJudged, HasStopped, HasWritten, status_of};
 
 use crate::opening::open_all;
 use crate::reading::read_all;
 use crate::status::Status;
 use crate::stop::Stop;
-use crate::word::audit_names;
 use rma_base::Memory;
 use rma_base::limits::RANKS;
+use rma_command::Command;
 use rma_io::{Logs, Sink};
-use rma_report::{Findings, write_text};
+use rma_report::{Findings, WriteFault, json_text, write_text};
 use rma_stream::Audit;
 use std::alloc::Global;
 
@@ -19,10 +22,10 @@ use std::alloc::Global;
 const ROOM: usize = 65_536;
 
 /// Does what the words of the command line say: opens the logs that they name, in order, one log a rank; reads them
-/// to their ends; audits them; and writes the report to `out`.
+/// to their ends; audits them; and writes the report to `out`, as text or as JSON.
 ///
 /// An audit finds the first bad line of each log that has one; and where no log has one, the barriers, the windows and
-/// the communicators of a rank that those of the other ranks do not match. All findings are shown.
+/// the communicators of a rank that those of the other ranks do not match. As many findings are shown as the words say.
 ///
 /// All memory is taken before the first byte is written.
 pub fn run<L: Logs, S: Sink>(alloc: Global, words: &[String], logs: &mut L, out: &mut S) -> Status
@@ -40,11 +43,11 @@ pub fn run<L: Logs, S: Sink>(alloc: Global, words: &[String], logs: &mut L, out:
     ensures usage { result ≡ Status.Usage → logs.new ≡ logs.old }
     ensures nothing_written { WritesNothing result → out.new ≡ out.old }
 {
-    let Some(names) = audit_names(words) else {
+    let Some(command) = Command::of_words(words) else {
         return Status::Usage;
     };
-    match read_logs(alloc, names, logs) {
-        Ok(findings) => write_report(&findings, out),
+    match read_logs(alloc, command.names, logs) {
+        Ok(findings) => write_report(alloc, command, &findings, out),
         Err(stop) => status_of(stop),
     }
 }
@@ -70,13 +73,52 @@ fn new_room(alloc: Global) -> Result<Vec<u8>, Memory>
     Ok(vec![in alloc; 0; ROOM]?)
 }
 
-// Writes the report.
-fn write_report<S: Sink>(findings: &Findings, out: &mut S) -> Status
-    ensures written { HasWritten result findings.now (S.output out.old) (S.output out.new) }
+// Writes the report, as the words ask for it.
+fn write_report<S: Sink>(
+    alloc: Global,
+    command: Command<'_>,
+    findings: &Findings,
+    out: &mut S,
+) -> Status
+    ensures written { HasWritten result (report_of (asked command) findings.now.ranks findings.now.lines findings.now.list) findings.now.list (S.output out.old) (S.output out.new) }
     ensures nothing_written { WritesNothing result → out.new ≡ out.old }
 {
-    let all = findings.list.len() as u64;
-    match write_text(findings, all, out) {
+    let limit = limit_of(command, findings);
+    if !command.json {
+        return ended(findings, write_text(findings, limit, out));
+    }
+    match json_text(alloc, findings, limit) {
+        Ok(text) => ended(findings, put(text.as_slice(), out)),
+        Err(Memory) => Status::Memory,
+    }
+}
+
+// How many of the findings are shown.
+fn limit_of(command: Command<'_>, findings: &Findings) -> u64
+    ensures { result ≡ limit_of (asked command) findings.now.list }
+{
+    match command.limit {
+        Some(limit) => u64::from(limit),
+        None => findings.list.len() as u64,
+    }
+}
+
+// Puts a text to the sink.
+fn put<S: Sink>(text: &[u8], out: &mut S) -> Result<(), WriteFault>
+    ensures { IsWritten (S.output out.old) text.now result (S.output out.new) }
+{
+    match out.put(text) {
+        Ok(()) => Ok(()),
+        Err(_) => Err(WriteFault),
+    }
+}
+
+// The status of a run whose report was written so.
+fn ended(findings: &Findings, written: Result<(), WriteFault>) -> Status
+    ensures written { (text : List ℕ) (before after : Output) → IsWritten before text written after → HasWritten result text findings.now.list before after }
+    ensures something_written { WritesNothing result → ⊥ }
+{
+    match written {
         Ok(()) if findings.list.is_empty() => Status::Clean,
         Ok(()) => Status::Findings,
         Err(_) => Status::WriteFault,

@@ -7,6 +7,9 @@ ghost use Rattle.rma_command.specs.inside.Words.{after_json, command_behind, com
 
 use rma_base::limits::RANKS;
 
+/// The most digits of a number.
+const DIGITS: usize = 10;
+
 /// An audit that the words of the command line ask for.
 #[derive(Clone, Copy)]
 pub struct Command<'a> {
@@ -69,7 +72,7 @@ fn limit_behind(words: &[String]) -> Option<(Option<u32>, &[String])>
 fn number(word: &str) -> Option<u32>
     ensures { result ≡ number_of word.now }
 {
-    if has_plus(word.as_bytes()) || word.len() > 10 {
+    if has_plus(word.as_bytes()) || word.len() > DIGITS {
         return None;
     }
     word.parse::<u32>().ok()

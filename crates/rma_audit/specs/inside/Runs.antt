@@ -5,7 +5,7 @@ use Rattle.rma_io.specs.Count.{Rose}
 use Rattle.rma_io.specs.Known.{StillKnown}
 use Rattle.rma_io.specs.Source.{Source, Opened, AreRead}
 use Rattle.rma_io.specs.Sink.{Output, AppendsPrefixOf}
-use Rattle.rma_report.specs.ReportText.{report_text}
+use Rattle.rma_report.specs.declared.finding.Finding.{Finding}
 use Rattle.rma_report.specs.declared.finding.Findings.{Findings}
 use Rattle.rma_stream.specs.Findings.{AreFindings, count_of_lines}
 use Rattle.rma_audit.specs.Answers.{OpensSome, AreTaken}
@@ -41,19 +41,12 @@ status_of stops.Fault = status.ReadFault 0
 status_of (stops.TooLarge bytes) = status.TooLarge bytes
 status_of stops.Memory = status.Memory
 
--- the text of the report on these findings, all of them shown
-abbrev pub text_of : Findings → List ℕ
-text_of findings = report_text findings.ranks findings.lines findings.list (length findings.list)
-
--- what was written of the report on these findings, by the answer
-abbrev pub HasWritten : Status → Findings → Output → Output → Type 0
-HasWritten status.Clean findings before after =
-    (findings.list ≡ []) × StillKnown (λ old new. new ≡ old ++ text_of findings) before.written after.written
-HasWritten status.Findings findings before after =
-    (findings.list ≢ []) × StillKnown (λ old new. new ≡ old ++ text_of findings) before.written after.written
-HasWritten status.Usage findings before after = ⊥
-HasWritten (status.ReadFault recorded) findings before after = ⊥
-HasWritten status.WriteFault findings before after =
-    Rose before.faults after.faults × StillKnown (AppendsPrefixOf (text_of findings)) before.written after.written
-HasWritten (status.TooLarge bytes) findings before after = ⊥
-HasWritten status.Memory findings before after = ⊥
+-- what was written of a report of this text, which has these findings, by the answer
+abbrev pub HasWritten : Status → List ℕ → List Finding → Output → Output → Type 0
+HasWritten status.Clean text found before after = (found ≡ []) × StillKnown (λ old new. new ≡ old ++ text) before.written after.written
+HasWritten status.Findings text found before after = (found ≢ []) × StillKnown (λ old new. new ≡ old ++ text) before.written after.written
+HasWritten status.Usage text found before after = ⊥
+HasWritten (status.ReadFault recorded) text found before after = ⊥
+HasWritten status.WriteFault text found before after = Rose before.faults after.faults × StillKnown (AppendsPrefixOf text) before.written after.written
+HasWritten (status.TooLarge bytes) text found before after = ⊥
+HasWritten status.Memory text found before after = Unit {0}
