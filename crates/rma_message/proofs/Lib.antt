@@ -1,0 +1,4 @@
+pub mod MatchLemmas
+pub mod NumberLemmas
+pub mod ReceiveLemmas
+pub mod RunLemmas

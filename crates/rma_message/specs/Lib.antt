@@ -1,0 +1,6 @@
+pub mod Key
+pub mod Receive
+pub mod RankMessages
+pub mod Matching
+pub mod Messages
+pub mod inside

@@ -1,0 +1,48 @@
+//! Edges of messages.
+ghost use Rattle.std.specs.Prelude.{◌≡◌, ◌<◌, ◌++◌, All, OnOk};
+ghost use Rattle.rma_base.specs.Limits.{fed_limit};
+ghost use Rattle.rma_message.specs.Matching.{IsNumbered, edge_between, edges_of};
+
+use crate::end::End;
+use crate::queue::{pop, queues_of};
+use rma_base::{Memory, Point};
+use rma_link::{Edge, Links};
+use std::alloc::Global;
+
+/// Appends the edges of the messages that these ends make.
+pub(crate) fn push_edges(
+    alloc: Global,
+    sends: &[End],
+    receives: &[End],
+    links: &mut Links,
+) -> Result<(), Memory>
+    requires sends { All IsNumbered sends.now }
+    requires receives { All IsNumbered receives.now }
+    ensures { OnOk result (links.new ≡ record links.old { edges = links.old.edges ++ edges_of sends.now receives.now }) }
+{
+    let mut queues = queues_of(alloc, sends)?;
+    for end in receives {
+        if let Some(call) = pop(&mut queues, &end.key) {
+            links.push_edge(edge(call, end))?;
+        }
+    }
+    Ok(())
+}
+
+/// The edge from the send of this number to the receive.
+fn edge(send: u32, receive: &End) -> Edge
+    requires send { send < fed_limit }
+    requires receive { receive.now.call < fed_limit }
+    ensures { result ≡ edge_between send receive.now }
+{
+    Edge {
+        from: Point {
+            rank: receive.key.from,
+            pos: 2 * send,
+        },
+        to: Point {
+            rank: receive.rank,
+            pos: 2 * receive.call + 1,
+        },
+    }
+}
