@@ -1,5 +1,5 @@
 -- The numbers of calls that ends of messages have.
-use Rattle.std.proofs.Common.{◌≡◌, ℕ, zero, suc, ◌+◌, ◌<◌, ◌≤◌, List, [], ◌∷◌, ◌++◌, length, Option, Some, None, arith}
+use Rattle.std.proofs.Common.{ℕ, zero, suc, ◌+◌, ◌<◌, ◌≤◌, List, [], ◌∷◌, length, Option, Some, None, arith}
 use Rattle.std.specs.Prelude.{All, IfSome}
 use Rattle.std.specs.List.{cons_option, filter_map, flat_map}
 use Rattle.std.specs.Option.{option_map_or}
@@ -13,7 +13,6 @@ use Rattle.rma_call.specs.declared.what.What.TheVariants.{Sync, Rma, Local}
 use Rattle.rma_call.specs.declared.what.SyncCall.TheVariants.{Frame, Message, Window, Epoch, Moving}
 use Rattle.rma_call.specs.declared.message.MessageCall.TheVariants.{Send, Isend, Recv, Irecv, Wait}
 use Rattle.rma_call.specs.declared.message.Received.{Received}
-use Rattle.rma_message.specs.declared.end.End.{End}
 use Rattle.rma_message.specs.declared.receive.Receive.{Receive}
 use Rattle.rma_message.specs.declared.receive.Completion.{Completion}
 use Rattle.rma_message.specs.Receive.{posted, waited, complete_at, open_at, end_of}

@@ -1,10 +1,10 @@
 -- The messages of ranks, call by call and rank by rank.
-use Rattle.std.proofs.Common.{◌≡◌, ℕ, suc, ◌+◌, ◌<◌, List, [], ◌∷◌, ◌++◌, length, take, get_or, slice_get, Option, Some, append_assoc, refl, sym, ap, ◌∙◌, arith}
+use Rattle.std.proofs.Common.{◌≡◌, ℕ, suc, ◌+◌, ◌<◌, List, [], ◌∷◌, ◌++◌, length, take, get_or, slice_get, Option, Some, append_assoc, sym, ap, ◌∙◌, arith}
 use Rattle.std.specs.List.{cons_option, filter_map}
 use Rattle.std.proofs.lemmas.List.{length-take}
 use Rattle.std.proofs.lemmas.List.Elements.{filter_map-append}
 use Rattle.std.proofs.lemmas.Option.{slice_get_within, get_or_from_slice_get}
-use Rattle.rma_call.specs.Call.{Call, RankCalls}
+use Rattle.rma_call.specs.Call.{Call}
 use Rattle.rma_message.specs.RankMessages.{RankMessages, with_call, with_calls}
 use Rattle.rma_message.proofs.MatchLemmas.{taken}
 

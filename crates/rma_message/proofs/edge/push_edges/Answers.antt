@@ -1,8 +1,8 @@
-use Rattle.std.proofs.Common.{◌≡◌, ◌++◌, ◌∷◌, [], Some, Option, take, ap, sym, ◌∙◌, append-nil}
+use Rattle.std.proofs.Common.{◌≡◌, ◌++◌, ◌∷◌, [], take, ap, sym, ◌∙◌, append-nil}
 use Rattle.std.specs.Prelude.{option_map}
 use Rattle.std.specs.List.{cons_option}
 use Rattle.rma_link.specs.declared.links.Links.{Links}
-use Rattle.rma_message.specs.Matching.{edge_between, edge_of}
+use Rattle.rma_message.specs.Matching.{edge_between}
 use Rattle.rma_message.proofs.MatchLemmas.{edge_is, edges_more, first_left, found_numbered, popped}
 use Rattle.rma_message.proofs.edge.push_edges.Goals as goal
 use Rattle.rma_message.proofs.edge.push_edges.Goals.{in-Some+in_ok-push_edge, in_default}

@@ -1,4 +1,4 @@
-use Rattle.std.proofs.Common.{◌≡◌, ◌++◌, ◌∷◌, [], true, false, is_some, not, take, ap, sym, ◌∙◌, append-nil}
+use Rattle.std.proofs.Common.{◌≡◌, ◌++◌, ◌∷◌, [], not, take, ap, sym, ◌∙◌, append-nil}
 use Rattle.std.specs.List.{cons_option}
 use Rattle.rma_message.specs.Matching.{fault_of}
 use Rattle.rma_message.proofs.MatchLemmas.{fault_there, first_left, no_fault, popped, walked_more}

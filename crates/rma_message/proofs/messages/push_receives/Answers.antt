@@ -1,4 +1,4 @@
-use Rattle.std.proofs.Common.{◌≡◌, ◌++◌, ◌∷◌, [], ap, sym, ◌∙◌, append-nil}
+use Rattle.std.proofs.Common.{◌≡◌, ◌++◌, [], ap, sym, ◌∙◌, append-nil}
 use Rattle.std.specs.List.{cons_option}
 use Rattle.rma_message.specs.Receive.{end_of}
 use Rattle.rma_message.proofs.RunLemmas.{filter_map_more}

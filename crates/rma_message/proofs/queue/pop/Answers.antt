@@ -1,4 +1,4 @@
-use Rattle.std.proofs.Common.{◌≡◌, drop, [], cond, Some, sym, ap, ◌∙◌, rules}
+use Rattle.std.proofs.Common.{drop, [], cond, ap, ◌∙◌, rules}
 use Rattle.std.specs.Option.{option_map_or}
 use Rattle.rma_message.specs.Key.{same_key}
 use Rattle.rma_message.specs.inside.Queue.{queue_of}

@@ -1,6 +1,6 @@
-use Rattle.std.proofs.Common.{◌≡◌, ◌+◌, ◌++◌, ◌∷◌, [], Some, slice_get, length, take, sym, ap, ◌∙◌, arith}
+use Rattle.std.proofs.Common.{◌≡◌, Some, slice_get, sym, ap, ◌∙◌}
 use Rattle.rma_call.specs.Call.{call_of}
-use Rattle.rma_message.specs.RankMessages.{no_messages, with_call, with_calls}
+use Rattle.rma_message.specs.RankMessages.{no_messages, with_call}
 use Rattle.rma_message.proofs.RunLemmas.{with_next_call}
 use Rattle.rma_message.proofs.rank_messages.RankMessages.of_calls.Goals as goal
 

@@ -1,7 +1,6 @@
-use Rattle.std.proofs.Common.{◌≡◌, ℕ, ◌∷◌, [], ◌++◌, cond, Some, None, length, nat_eq, refl, ap, ◌∙◌, subst, sym}
+use Rattle.std.proofs.Common.{◌≡◌, ℕ, cond, Some, None, length, nat_eq, refl, ap, ◌∙◌}
 use Rattle.std.specs.Map.{lookup}
 use Rattle.rma_message.specs.Receive.{posted}
-use Rattle.rma_message.specs.inside.Open.{AreOpen}
 use Rattle.rma_message.proofs.ReceiveLemmas.{pending_other, pending_own}
 use Rattle.rma_message.proofs.rank_messages.RankMessages.post.Goals as goal
 

@@ -1,6 +1,5 @@
-use Rattle.std.proofs.Common.{◌∷◌, [], ◌++◌, Some, None, refl, subst, sym}
+use Rattle.std.proofs.Common.{Some, None, refl}
 use Rattle.rma_message.specs.Receive.{posted}
-use Rattle.rma_message.specs.inside.Open.{AreOpen}
 use Rattle.rma_message.proofs.ReceiveLemmas.{pending_other}
 use Rattle.rma_message.proofs.rank_messages.RankMessages.receive.Goals as goal
 

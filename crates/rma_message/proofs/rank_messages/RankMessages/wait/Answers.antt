@@ -1,7 +1,4 @@
-use Rattle.std.proofs.Common.{◌≡◌, Some, sym, ◌∙◌}
-use Rattle.std.specs.Prelude.{nat_eq}
-use Rattle.std.specs.Map.{lookup}
-use Rattle.rma_message.specs.Receive.{open_at}
+use Rattle.std.proofs.Common.{sym, ◌∙◌}
 use Rattle.rma_message.proofs.ReceiveLemmas.{open_at_within, pending_completed}
 use Rattle.rma_message.proofs.rank_messages.RankMessages.wait.Goals as goal
 
