@@ -1,4 +1,5 @@
 pub mod MatchLemmas
 pub mod NumberLemmas
+pub mod NumberedLemmas
 pub mod ReceiveLemmas
 pub mod RunLemmas

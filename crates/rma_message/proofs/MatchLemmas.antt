@@ -4,8 +4,8 @@ use Rattle.std.specs.Prelude.{map, filter, count_by, option_map, All}
 use Rattle.std.specs.List.{cons_option}
 use Rattle.std.specs.Map.{lookup}
 use Rattle.std.specs.Option.{option_map_or}
-use Rattle.std.specs.Cmp.Lexicographic.{pointwise, same_text}
-use Rattle.std.proofs.lemmas.Bool.{false≢true, eqb-true}
+use Rattle.std.specs.Cmp.Lexicographic.{pointwise, nat_list_eq_equiv, same_text}
+use Rattle.std.proofs.lemmas.Bool.{false≢true, eqb-true, eq-eqb}
 use Rattle.std.proofs.lemmas.List.{take_more, append_assoc, append-nil, map-append}
 use Rattle.std.proofs.lemmas.List.Elements.{filter-append, All-filter}
 use Rattle.std.proofs.lemmas.List.Sums.{sum_by_push}
@@ -41,6 +41,9 @@ same_key_true a b h =
     ∙ ap (λ n. key_of b.from.0 n a.comm a.tag) (eqb-true a.to.0 b.to.0 y.0)
     ∙ ap (λ n. key_of b.from.0 b.to.0 n a.tag) (same_text a.comm b.comm (sym z.0))
     ∙ ap (λ n. key_of b.from.0 b.to.0 b.comm n) (eqb-true a.tag b.tag z.1)
+
+pub same_key_refl : (key : Key) → same_key key key ≡ true
+same_key_refl key = rw (eq-eqb key.from.0 key.from.0 refl, eq-eqb key.to.0 key.to.0 refl, nat_list_eq_equiv.refl key.comm, eq-eqb key.tag key.tag refl) refl
 
 -- ---- lists that grow at their end
 

@@ -1,15 +1,17 @@
 -- The messages of a run (MPI 4.0, "Point-to-Point Communication").
-use Rattle.std.specs.Prelude.{List, [], ◌++◌, All}
+use Rattle.std.specs.Prelude.{ℕ, ◌≡◌, List, [], ◌++◌, All, Some, filter, slice_get}
 use Rattle.std.specs.List.{filter_map, flat_map}
 use Rattle.rma_base.specs.declared.match_reason.MatchReason.TheVariants.{SendUnreceived, ReceiveUnsent}
 use Rattle.rma_call.specs.Call.{RankCalls}
 use Rattle.rma_call.specs.declared.match_fault.MatchFault.{MatchFault}
 use Rattle.rma_link.specs.declared.edge.Edge.{Edge}
+use Rattle.rma_message.specs.declared.key.Key.{Key}
 use Rattle.rma_message.specs.declared.end.End.{End}
+use Rattle.rma_message.specs.Key.{has_key}
 use Rattle.rma_message.specs.declared.messages.Messages.{Messages}
 use Rattle.rma_message.specs.Receive.{end_of}
 use Rattle.rma_message.specs.RankMessages.{RankMessages, messages_by}
-use Rattle.rma_message.specs.Matching.{IsNumbered, edges_of, unmatched}
+use Rattle.rma_message.specs.Matching.{IsNumbered, edge_between, edges_of, unmatched}
 
 -- the receives of a rank that are complete, in the order in which they are posted
 abbrev pub receives_in : RankMessages → List End
@@ -31,13 +33,32 @@ messages_of ranks =
       receives = flat_map (λ r. receives_in (messages_by r)) ranks;
     }
 
--- the sends that no receive matches, then the receives that no send matches
-abbrev pub message_faults : Messages → List MatchFault
-message_faults m = unmatched SendUnreceived m.receives m.sends ++ unmatched ReceiveUnsent m.sends m.receives
+-- an edge for each receive that a send matches
+abbrev pub edges_in : Messages → List Edge
+edges_in m = edges_of m.sends m.receives
 
--- an edge for each message
-abbrev pub message_edges : Messages → List Edge
-message_edges m = edges_of m.sends m.receives
+-- the edge of a message, by the number that it has among those of its key: from the entry of that send of the key to the return
+-- of the call that completes that receive of the key
+pub record IsMessageEdge (m : Messages) (edge : Edge) : Type 0 where
+  pub key : Key
+  pub number : ℕ
+  pub send : End
+  pub receive : End
+  pub is_send : slice_get (filter (has_key key) m.sends) number ≡ Some send
+  pub is_receive : slice_get (filter (has_key key) m.receives) number ≡ Some receive
+  pub is_edge : edge ≡ edge_between send.call receive
+
+-- the sends that no receive matches, then the receives that no send matches
+abbrev pub faults_in : Messages → List MatchFault
+faults_in m = unmatched SendUnreceived m.receives m.sends ++ unmatched ReceiveUnsent m.sends m.receives
+
+-- the faults of the messages of a run
+abbrev pub message_faults : List RankCalls → List MatchFault
+message_faults ranks = faults_in (messages_of ranks)
+
+-- the edges of the messages of a run
+abbrev pub message_edges : List RankCalls → List Edge
+message_edges ranks = edges_in (messages_of ranks)
 
 -- all ends have numbers that calls of the run may have
 pub record AreNumbered (m : Messages) : Type 0 where

@@ -13,6 +13,7 @@ mod edge;
 mod end;
 mod fault;
 mod key;
+pub mod laws;
 mod messages;
 mod queue;
 mod rank_messages;

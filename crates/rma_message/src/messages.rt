@@ -3,7 +3,7 @@ ghost use Rattle.std.specs.Prelude.{◌≡◌, ◌≤◌, ◌++◌, length, All,
 ghost use Rattle.std.specs.List.{filter_map};
 ghost use Rattle.rma_base.specs.Limits.{fed_limit};
 ghost use Rattle.rma_message.specs.Receive.{end_of};
-ghost use Rattle.rma_message.specs.Messages.{AreNumbered, message_edges, message_faults, messages_of, no_messages, with_rank};
+ghost use Rattle.rma_message.specs.Messages.{AreNumbered, edges_in, faults_in, messages_of, no_messages, with_rank};
 
 use crate::edge;
 use crate::end::End;
@@ -71,7 +71,7 @@ impl Messages {
     ///
     /// `Memory` where there is none left.
     pub fn faults(&self, alloc: Global) -> Result<Sequence<MatchFault>, Memory>
-        ensures { IfOk result (λ faults. faults ≡ message_faults self.now) }
+        ensures { IfOk result (λ faults. faults ≡ faults_in self.now) }
     {
         let sends = self.sends.as_slice();
         let receives = self.receives.as_slice();
@@ -100,7 +100,7 @@ impl Messages {
     /// `Memory`: some of the edges may be there.
     pub fn push_edges(&self, alloc: Global, links: &mut Links) -> Result<(), Memory>
         requires { AreNumbered self.now }
-        ensures { OnOk result (links.new ≡ record links.old { edges = links.old.edges ++ message_edges self.now }) }
+        ensures { OnOk result (links.new ≡ record links.old { edges = links.old.edges ++ edges_in self.now }) }
     {
         edge::push_edges(
             alloc,
