@@ -1,0 +1,165 @@
+-- What is kept of the epochs of a rank, with one more call.
+use Rattle.std.proofs.Common.{◌≡◌, ℕ, zero, suc, ◌+◌, ◌<◌, ◌≤◌, Bool, true, false, cond, ◌&&◌, ◌∷◌, ◌++◌, List, [], length, Option, Some, None, Result, Ok, Err, nat_eq, refl, sym, ap, ◌∙◌, arith, append-nil}
+use Rattle.std.specs.Map.{lookup}
+use Rattle.std.specs.Prelude.{OnOk}
+use Rattle.std.specs.Cmp.Lexicographic.{pointwise, nat_list_eq_equiv}
+use Rattle.rma_base.specs.RankSet.{has_number}
+use Rattle.rma_call.specs.Call.{Call}
+use Rattle.rma_exposure.specs.declared.side.Side.{Side}
+use Rattle.rma_exposure.specs.declared.side.Side.TheVariants.{Exposure, Access}
+use Rattle.rma_exposure.specs.declared.openings.Openings.{Openings}
+use Rattle.rma_exposure.specs.declared.side_epochs.SideEpochs.{SideEpochs}
+use Rattle.rma_exposure.specs.declared.rank_epochs.RankEpochs.{RankEpochs}
+use Rattle.rma_exposure.specs.Opening.{Opening, posted, started, waited, completed, opened, closed, opens_on, opens_with, closes_on}
+use Rattle.rma_exposure.specs.Closing.{closing_of}
+use Rattle.rma_exposure.specs.Matching.{numbers}
+use Rattle.rma_exposure.specs.inside.Epochs.{kept, numbers_in, pending_in, IsOpened, pending_of, is_pending, AreEpochs, AreOfRank}
+use Rattle.rma_exposure.proofs.CallLemmas.{numbers_from_push, next_pending, pending_after_push, closing_of_push, closing_at_same, closes_is, closes_none}
+
+numbers_push : (side : Side) (window : List ℕ) (other : ℕ) (calls : List Call) (call : Call) →
+    numbers side window other (calls ++ call ∷ []) ≡ numbers side window other calls ++ cond (opens_with side window other call) (length calls ∷ []) []
+numbers_push side window other calls call =
+    numbers_from_push side window other 0 calls call
+    ∙ ap (λ k. numbers side window other calls ++ cond (opens_with side window other call) (k ∷ []) []) (let e : 0 + length calls ≡ length calls = omega arith in e)
+
+pending_push : (side : Side) (window : List ℕ) (calls : List Call) (call : Call) →
+    pending_of side window (calls ++ call ∷ []) ≡ next_pending side window (length calls) (pending_of side window calls) call
+pending_push side window calls call =
+    pending_after_push side window 0 None calls call
+    ∙ ap (λ k. next_pending side window k (pending_of side window calls) call) (let e : 0 + length calls ≡ length calls = omega arith in e)
+
+not_with : (side : Side) (window : List ℕ) (other : ℕ) (call : Call) → opened side call.what ≡ None → opens_with side window other call ≡ false
+not_with side window other call is = rw is refl
+
+not_on : (side : Side) (window : List ℕ) (call : Call) → opened side call.what ≡ None → opens_on side window call ≡ false
+not_on side window call is = rw is refl
+
+-- a call that opens and closes nothing
+pub AreEpochs_same : (side : Side) (calls : List Call) (call : Call) (epochs : SideEpochs) → opened side call.what ≡ None → closed side call.what ≡ None →
+    AreEpochs side calls epochs → AreEpochs side (calls ++ call ∷ []) epochs
+AreEpochs_same side calls call epochs opens closes are = record {
+  numbers_are = λ window other.
+      are.numbers_are window other
+      ∙ sym (append-nil (numbers side window other calls))
+      ∙ ap (λ b. numbers side window other calls ++ cond b (length calls ∷ []) []) (sym (not_with side window other call opens))
+      ∙ sym (numbers_push side window other calls call);
+  pending_are = λ window.
+      are.pending_are window
+      ∙ sym (ap (λ b. cond b (Some (length calls)) (cond (closes_on side window call) None (pending_of side window calls))) (not_on side window call opens)
+      ∙ ap (λ b. cond b None (pending_of side window calls)) (closes_none side window call closes))
+      ∙ sym (pending_push side window calls call);
+  closings_are = λ number. are.closings_are number ∙ sym (closing_at_same side 0 calls call number closes);
+}
+
+-- a call that opens an epoch
+module _ (side : Side) (calls : List Call) (call : Call) (opening : Opening) (old new : SideEpochs) (opens : opened side call.what ≡ Some opening) (closes : closed side call.what ≡ None)
+    (own : (name : List ℕ) → pointwise nat_eq opening.window name ≡ true → IsOpened (length calls) opening.group (kept old.windows.entries name) (kept new.windows.entries name))
+    (others : (name : List ℕ) → pointwise nat_eq opening.window name ≡ false → kept new.windows.entries name ≡ kept old.windows.entries name)
+    (are : AreEpochs side calls old) where
+  with_is : (window : List ℕ) (other : ℕ) → opens_with side window other call ≡ (pointwise nat_eq opening.window window && has_number other opening.group)
+  with_is window other = rw (opens, nat_list_eq_equiv.symm window opening.window) refl
+
+  on_is : (window : List ℕ) → opens_on side window call ≡ pointwise nat_eq opening.window window
+  on_is window = rw (opens, nat_list_eq_equiv.symm window opening.window) refl
+
+  added_numbers : (window : List ℕ) (other : ℕ) → numbers_in (kept new.windows.entries window) other ≡ numbers side window other (calls ++ call ∷ [])
+  added_numbers window other = by (pointwise nat_eq opening.window window) refl
+    where
+      before : List ℕ
+      before = numbers side window other calls
+      by : (b : Bool) → pointwise nat_eq opening.window window ≡ b → numbers_in (kept new.windows.entries window) other ≡ numbers side window other (calls ++ call ∷ [])
+      by true same =
+          (own window same).numbers other
+          ∙ ap (λ ns. ns ++ cond (has_number other opening.group) (length calls ∷ []) []) (are.numbers_are window other)
+          ∙ ap (λ b. before ++ cond b (length calls ∷ []) []) (sym (with_is window other ∙ ap (λ b. b && has_number other opening.group) same))
+          ∙ sym (numbers_push side window other calls call)
+      by false differ =
+          ap (λ o. numbers_in o other) (others window differ)
+          ∙ are.numbers_are window other
+          ∙ sym (append-nil before)
+          ∙ ap (λ b. before ++ cond b (length calls ∷ []) []) (sym (with_is window other ∙ ap (λ b. b && has_number other opening.group) differ))
+          ∙ sym (numbers_push side window other calls call)
+
+  added_pending : (window : List ℕ) → pending_in (kept new.windows.entries window) ≡ pending_of side window (calls ++ call ∷ [])
+  added_pending window = by (pointwise nat_eq opening.window window) refl
+    where
+      before : Option ℕ
+      before = pending_of side window calls
+      by : (b : Bool) → pointwise nat_eq opening.window window ≡ b → pending_in (kept new.windows.entries window) ≡ pending_of side window (calls ++ call ∷ [])
+      by true same =
+          (own window same).pending
+          ∙ ap (λ b. cond b (Some (length calls)) (cond (closes_on side window call) None before)) (sym (on_is window ∙ same))
+          ∙ sym (pending_push side window calls call)
+      by false differ =
+          ap pending_in (others window differ)
+          ∙ are.pending_are window
+          ∙ sym (ap (λ b. cond b (Some (length calls)) (cond (closes_on side window call) None before)) (on_is window ∙ differ)
+          ∙ ap (λ b. cond b None before) (closes_none side window call closes))
+          ∙ sym (pending_push side window calls call)
+
+  pub AreEpochs_added : new.closings ≡ old.closings → AreEpochs side (calls ++ call ∷ []) new
+  AreEpochs_added closings = record {
+    numbers_are = added_numbers;
+    pending_are = added_pending;
+    closings_are = λ number.
+        ap (λ c. lookup (nat_eq number) c.entries) closings
+        ∙ are.closings_are number
+        ∙ sym (closing_at_same side 0 calls call number closes);
+  }
+
+-- a call that closes an epoch, if one is open
+module _ (side : Side) (calls : List Call) (call : Call) (own : List ℕ) (old new : SideEpochs) (opens : opened side call.what ≡ None) (closes : closed side call.what ≡ Some own)
+    (numbers_stay : (name : List ℕ) (other : ℕ) → numbers_in (kept new.windows.entries name) other ≡ numbers_in (kept old.windows.entries name) other)
+    (closed_one : (name : List ℕ) → pending_in (kept new.windows.entries name) ≡ cond (pointwise nat_eq own name) None (pending_in (kept old.windows.entries name)))
+    (noted : (number : ℕ) → lookup (nat_eq number) new.closings.entries ≡ cond (is_pending (pending_in (kept old.windows.entries own)) number) (Some (length calls)) (lookup (nat_eq number) old.closings.entries))
+    (are : AreEpochs side calls old) where
+  pub AreEpochs_closed : AreEpochs side (calls ++ call ∷ []) new
+  AreEpochs_closed = record {
+    numbers_are = λ window other.
+        numbers_stay window other
+        ∙ are.numbers_are window other
+        ∙ sym (append-nil (numbers side window other calls))
+        ∙ ap (λ b. numbers side window other calls ++ cond b (length calls ∷ []) []) (sym (not_with side window other call opens))
+        ∙ sym (numbers_push side window other calls call);
+    pending_are = λ window.
+        closed_one window
+        ∙ ap (λ b. cond b None (pending_in (kept old.windows.entries window))) (sym (closes_is side window own call closes ∙ nat_list_eq_equiv.symm window own))
+        ∙ ap (cond (closes_on side window call) None) (are.pending_are window)
+        ∙ sym (ap (λ b. cond b (Some (length calls)) (cond (closes_on side window call) None (pending_of side window calls))) (not_on side window call opens))
+        ∙ sym (pending_push side window calls call);
+    closings_are = λ number.
+        noted number
+        ∙ ap (λ p. cond (is_pending p number) (Some (length calls)) (lookup (nat_eq number) old.closings.entries)) (are.pending_are own)
+        ∙ ap (cond (is_pending (pending_of side own calls) number) (Some (length calls))) (are.closings_are number)
+        ∙ sym (closing_of_push side own call closes calls number);
+  }
+
+-- ---- both sides
+
+pub OnOk_map : {T E A B : Type 0} (r : Result T E) → (A → B) → OnOk r A → OnOk r B
+OnOk_map (Ok x) f a = f a
+OnOk_map (Err e) f a = tt
+
+-- a call that opens and closes nothing
+pub AreOfRank_same : (calls : List Call) (call : Call) (epochs : RankEpochs) → posted call.what ≡ None → waited call.what ≡ None → started call.what ≡ None → completed call.what ≡ None →
+    AreOfRank calls epochs → AreOfRank (calls ++ call ∷ []) epochs
+AreOfRank_same calls call epochs post wait start complete are = record {
+  posts_are = AreEpochs_same Exposure calls call epochs.posts post wait are.posts_are;
+  starts_are = AreEpochs_same Access calls call epochs.starts start complete are.starts_are;
+}
+
+-- a post or an expwait
+pub AreOfRank_posts : (calls : List Call) (call : Call) (old : RankEpochs) (posts : SideEpochs) → started call.what ≡ None → completed call.what ≡ None →
+    AreOfRank calls old → AreEpochs Exposure (calls ++ call ∷ []) posts → AreOfRank (calls ++ call ∷ []) (record { posts = posts; starts = old.starts })
+AreOfRank_posts calls call old posts start complete are new = record {
+  posts_are = new;
+  starts_are = AreEpochs_same Access calls call old.starts start complete are.starts_are;
+}
+
+-- a start or a complete
+pub AreOfRank_starts : (calls : List Call) (call : Call) (old : RankEpochs) (starts : SideEpochs) → posted call.what ≡ None → waited call.what ≡ None →
+    AreOfRank calls old → AreEpochs Access (calls ++ call ∷ []) starts → AreOfRank (calls ++ call ∷ []) (record { posts = old.posts; starts = starts })
+AreOfRank_starts calls call old starts post wait are new = record {
+  posts_are = AreEpochs_same Exposure calls call old.posts post wait are.posts_are;
+  starts_are = new;
+}

@@ -1,0 +1,77 @@
+-- What is kept of the posts and starts of a run.
+use Rattle.std.specs.Prelude.{◌≡◌, ℕ, ◌+◌, ◌==◌, List, [], ◌∷◌, ◌++◌, Bool, false, Option, Some, None, MatchOption, nat_eq, unwrap_or, if◌then◌else◌}
+use Rattle.std.specs.Option.{option_map_or}
+use Rattle.std.specs.Map.{lookup}
+use Rattle.std.specs.Cmp.Lexicographic.{pointwise}
+use Rattle.rma_base.specs.RankSet.{has_number}
+use Rattle.rma_base.specs.declared.rank.Rank.{Rank}
+use Rattle.rma_call.specs.Call.{Call}
+use Rattle.rma_exposure.specs.declared.side.Side.{Side}
+use Rattle.rma_exposure.specs.declared.side.Side.TheVariants.{Exposure, Access}
+use Rattle.rma_exposure.specs.declared.openings.Openings.{Openings}
+use Rattle.rma_exposure.specs.declared.side_epochs.SideEpochs.{SideEpochs}
+use Rattle.rma_exposure.specs.declared.rank_epochs.RankEpochs.{RankEpochs}
+use Rattle.rma_exposure.specs.declared.exposures.Exposures.{Exposures}
+use Rattle.rma_exposure.specs.Opening.{opens_on, closes_on}
+use Rattle.rma_exposure.specs.Closing.{closing_of}
+use Rattle.rma_exposure.specs.Matching.{numbers}
+
+-- the numbers under a rank, none where there is no such rank
+abbrev pub listed : List (ℕ × List ℕ) → ℕ → List ℕ
+listed entries rank = unwrap_or (lookup (nat_eq rank) entries) []
+
+-- what is kept under a window
+abbrev pub kept : List (List ℕ × Openings) → List ℕ → Option Openings
+kept windows window = lookup (pointwise nat_eq window) windows
+
+-- the numbers that are kept of a window's openings with a rank in their group
+abbrev pub numbers_in : Option Openings → ℕ → List ℕ
+numbers_in None other = []
+numbers_in (Some openings) other = listed openings.numbers.entries other
+
+-- the opening on a window that is kept as not closed yet
+abbrev pub pending_in : Option Openings → Option ℕ
+pending_in None = None
+pending_in (Some openings) = openings.pending
+
+-- a window's openings with one more, of this number and group
+pub record IsOpened (number : ℕ) (group : List ℕ) (old new : Option Openings) : Type 0 where
+  pub numbers : (other : ℕ) → numbers_in new other ≡ numbers_in old other ++ (if has_number other group then number ∷ [] else [])
+  pub pending : pending_in new ≡ Some number
+
+-- the opening that is open after some calls, where this one was before them; the first of the calls has this number
+abbrev pub pending_after : Side → List ℕ → ℕ → Option ℕ → List Call → Option ℕ
+pending_after side window number found [] = found
+pending_after side window number found (call ∷ calls) =
+    pending_after side window (number + 1) (if opens_on side window call then Some number else (if closes_on side window call then None else found)) calls
+
+-- the last of a rank's calls that opens an epoch of the side on the window, where none after it closes it
+abbrev pub pending_of : Side → List ℕ → List Call → Option ℕ
+pending_of side window calls = pending_after side window 0 None calls
+
+-- whether this opening is the open one
+abbrev pub is_pending : Option ℕ → ℕ → Bool
+is_pending found number = option_map_or (λ own. own == number) found false
+
+-- what is kept represents the epochs of one side that these calls of a rank open and close
+pub record AreEpochs (side : Side) (calls : List Call) (epochs : SideEpochs) : Type 0 where
+  pub numbers_are : (window : List ℕ) (other : ℕ) → numbers_in (kept epochs.windows.entries window) other ≡ numbers side window other calls
+  pub pending_are : (window : List ℕ) → pending_in (kept epochs.windows.entries window) ≡ pending_of side window calls
+  pub closings_are : (number : ℕ) → lookup (nat_eq number) epochs.closings.entries ≡ closing_of side calls number
+
+-- what is kept represents the epochs of both sides
+pub record AreOfRank (calls : List Call) (epochs : RankEpochs) : Type 0 where
+  pub posts_are : AreEpochs Exposure calls epochs.posts
+  pub starts_are : AreEpochs Access calls epochs.starts
+
+-- whether a rank has this number
+abbrev pub is_numbered : ℕ → Rank → Bool
+is_numbered number rank = number == rank.0
+
+-- what is kept represents these calls of the ranks: a rank of which nothing is kept makes none
+abbrev pub Represents : (ℕ → List Call) → Exposures → Type 0
+Represents calls exposures = (rank : ℕ) → MatchOption (lookup (is_numbered rank) exposures.ranks.entries) (calls rank ≡ []) (AreOfRank (calls rank))
+
+-- the calls of the ranks, with more of one rank
+abbrev pub with_calls : (ℕ → List Call) → ℕ → List Call → ℕ → List Call
+with_calls calls rank more other = if rank == other then calls other ++ more else calls other

@@ -1,0 +1,10 @@
+//! How the posts and starts of a run match, and which calls close their epochs (MPI 4.0, "One-Sided Communications").
+#![tactic(auto)]
+
+mod exposures;
+mod openings;
+mod rank_epochs;
+mod side;
+mod side_epochs;
+
+pub use exposures::Exposures;

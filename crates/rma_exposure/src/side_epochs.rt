@@ -1,0 +1,113 @@
+//! The exposure epochs of one rank, or its access epochs.
+ghost use Rattle.std.specs.Prelude.{◌≡◌, ◌++◌, ◌∷◌, [], ℕ, List, None, Some, length, nat_eq, true, false, OnOk, if◌then◌else◌};
+ghost use Rattle.std.specs.Cmp.Lexicographic.{pointwise};
+ghost use Rattle.rma_call.specs.Call.{Call};
+ghost use Rattle.rma_exposure.specs.declared.side.Side.{Side};
+ghost use Rattle.rma_exposure.specs.Opening.{opened, closed};
+ghost use Rattle.rma_exposure.specs.Matching.{numbers};
+ghost use Rattle.rma_exposure.specs.Closing.{closing_of};
+ghost use Rattle.rma_exposure.specs.inside.Epochs.{kept, numbers_in, pending_in, IsOpened, AreEpochs};
+
+use crate::openings::Openings;
+use indexmap::IndexMap;
+use rma_base::{Memory, Name, RankSet};
+use std::alloc::Global;
+
+/// The exposure epochs of one rank, or its access epochs.
+#[derive(Drop)]
+pub(crate) struct SideEpochs {
+    /// The calls that open them, by their window.
+    windows: IndexMap<Name, Openings>,
+    /// The number of the call that closes an epoch, by that of the one that opens it.
+    closings: IndexMap<u32, u32>,
+}
+
+impl SideEpochs {
+    /// None.
+    pub(crate) fn new(alloc: Global) -> SideEpochs
+        ensures { (side : Side) → AreEpochs side [] result }
+    {
+        SideEpochs {
+            windows: IndexMap::new(alloc),
+            closings: IndexMap::new(alloc),
+        }
+    }
+
+    /// Takes the next call of the rank, which opens an epoch.
+    pub(crate) fn add(
+        &mut self,
+        alloc: Global,
+        number: u32,
+        window: &Name,
+        group: &RankSet,
+    ) -> Result<(), Memory>
+        ensures { OnOk result ((side : Side) (calls : List Call) (call : Call) → length calls ≡ number
+            → opened side call.what ≡ Some (record { window = window.now; group = group.now }) → closed side call.what ≡ None
+            → AreEpochs side calls self.old → AreEpochs side (calls ++ call ∷ []) self.new) }
+    {
+        add(alloc, &mut self.windows, number, window, group)
+    }
+
+    /// Takes the next call of the rank, which closes an epoch if one is open.
+    pub(crate) fn close(&mut self, number: u32, window: &Name) -> Result<(), Memory>
+        ensures { OnOk result ((side : Side) (calls : List Call) (call : Call) → length calls ≡ number
+            → opened side call.what ≡ None → closed side call.what ≡ Some window.now
+            → AreEpochs side calls self.old → AreEpochs side (calls ++ call ∷ []) self.new) }
+    {
+        let Some(opener) = close(&mut self.windows, window) else {
+            return Ok(());
+        };
+        self.closings.insert(opener, number)?;
+        Ok(())
+    }
+
+    /// The numbers of the calls that open an epoch on the window with the other rank in their group.
+    pub(crate) fn with(&self, window: &Name, other: u32) -> &[u32]
+        ensures { (side : Side) (calls : List Call) → AreEpochs side calls self.now → result.now ≡ numbers side window.now other calls }
+    {
+        match self.windows.get(window) {
+            Some(openings) => openings.with(other),
+            None => &[],
+        }
+    }
+
+    /// The call that closes the epoch of this opening, where there is one.
+    pub(crate) fn closing(&self, number: u32) -> Option<u32>
+        ensures { (side : Side) (calls : List Call) → AreEpochs side calls self.now → result ≡ closing_of side calls number }
+    {
+        self.closings.get(&number).copied()
+    }
+}
+
+/// Takes an opening on the window.
+fn add(
+    alloc: Global,
+    windows: &mut IndexMap<Name, Openings>,
+    number: u32,
+    window: &Name,
+    group: &RankSet,
+) -> Result<(), Memory>
+    ensures own { OnOk result ((name : List ℕ) → pointwise nat_eq window.now name ≡ true → IsOpened number group.now (kept windows.old.entries name) (kept windows.new.entries name)) }
+    ensures others { OnOk result ((name : List ℕ) → pointwise nat_eq window.now name ≡ false → kept windows.new.entries name ≡ kept windows.old.entries name) }
+{
+    if let Some(openings) = windows.get_mut(window) {
+        return openings.add(alloc, number, group);
+    }
+    let mut openings = Openings::new(alloc);
+    openings.add(alloc, number, group)?;
+    let window = window.copy()?;
+    windows.insert(window, openings)?;
+    Ok(())
+}
+
+/// Closes the epoch that is open on the window, and answers the call that opened it.
+fn close(windows: &mut IndexMap<Name, Openings>, window: &Name) -> Option<u32>
+    ensures opener { result ≡ pending_in (kept windows.old.entries window.now) }
+    ensures numbers { (name : List ℕ) (other : ℕ) → numbers_in (kept windows.new.entries name) other ≡ numbers_in (kept windows.old.entries name) other }
+    ensures pending { (name : List ℕ) → pending_in (kept windows.new.entries name) ≡ (if pointwise nat_eq window.now name then None else pending_in (kept windows.old.entries name)) }
+{
+    match windows.get_mut(window) {
+        Some(openings) => openings.pending.take(),
+        None => None,
+    }
+}
