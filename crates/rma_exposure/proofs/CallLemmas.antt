@@ -81,6 +81,7 @@ module _ (side : Side) (window : List ℕ) where
     where
       later : k < n + 1
       later = omega arith
+
       by : (c b : Bool)
           → first_closing side window (n + 1) (xs ++ call ∷ []) ≡ cond (is_pending (pending_after side window (n + 1) (Some k) xs) k) (Some (n + 1 + length xs)) (first_closing side window (n + 1) xs)
           → cond c (Some n) (cond b None (first_closing side window (n + 1) (xs ++ call ∷ [])))
@@ -136,6 +137,7 @@ module _ (side : Side) (window : List ℕ) (call : Call) (closes : closed side c
       not : (c : Bool) → is_pending (pending_after side window (n + 1) (cond c None None) xs) n ≡ false
       not true = pending_before side window (n + 1) n xs (omega arith)
       not false = pending_before side window (n + 1) n xs (omega arith)
+
       by : (b : Bool) → pointwise nat_eq window opening.window ≡ b → first_closing side opening.window (n + 1) (xs ++ call ∷ [])
           ≡ cond (is_pending (pending_after side window (n + 1) (cond b (Some n) (cond (closes_on side window x) None None)) xs) n) (Some (n + 1 + length xs)) (first_closing side opening.window (n + 1) xs)
       by true same =
@@ -161,6 +163,7 @@ module _ (side : Side) (window : List ℕ) (call : Call) (closes : closed side c
     where
       above : is_pending (Some n) (n + 1 + i) ≡ false
       above = grind (arith, nat_tests)
+
       by : (b c : Bool) → is_pending (pending_after side window (n + 1) None xs) (n + 1 + i) ≡ is_pending (pending_after side window (n + 1) (cond b (Some n) (cond c None None)) xs) (n + 1 + i)
       by true c = sym (pending_other side window (n + 1) (n + 1 + i) (Some n) xs above)
       by false true = refl

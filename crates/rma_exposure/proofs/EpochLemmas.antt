@@ -67,6 +67,7 @@ module _ (side : Side) (calls : List Call) (call : Call) (opening : Opening) (ol
     where
       before : List ℕ
       before = numbers side window other calls
+
       by : (b : Bool) → pointwise nat_eq opening.window window ≡ b → numbers_in (kept new.windows.entries window) other ≡ numbers side window other (calls ++ call ∷ [])
       by true same =
           (own window same).numbers other
@@ -85,6 +86,7 @@ module _ (side : Side) (calls : List Call) (call : Call) (opening : Opening) (ol
     where
       before : Option ℕ
       before = pending_of side window calls
+
       by : (b : Bool) → pointwise nat_eq opening.window window ≡ b → pending_in (kept new.windows.entries window) ≡ pending_of side window (calls ++ call ∷ [])
       by true same =
           (own window same).pending

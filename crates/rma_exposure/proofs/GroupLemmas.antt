@@ -42,6 +42,7 @@ member_more xs i rank number before up lt =
   where
     member : ℕ
     member = get_or xs i 0
+
     by : (b : Bool) → nat_eq (get_or xs i 0) rank ≡ b → (before ++ cond (has_number rank (take i xs)) (number ∷ []) []) ++ cond (nat_eq (get_or xs i 0) rank) (number ∷ []) []
         ≡ before ++ cond (has_number rank (take i xs) || (nat_eq (get_or xs i 0) rank || false)) (number ∷ []) []
     by true same =

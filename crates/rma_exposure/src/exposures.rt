@@ -1,11 +1,14 @@
 //! The posts and starts of a run, as its calls come.
-ghost use Rattle.std.specs.Prelude.{◌≡◌, ◌∷◌, [], ℕ, List, length, OnOk};
+ghost use Rattle.std.specs.Prelude.{◌≡◌, ◌==◌, ◌++◌, ◌∷◌, [], ℕ, List, false, length, OnOk};
 ghost use Rattle.rma_call.specs.Call.{Call, call_of};
-ghost use Rattle.rma_exposure.specs.inside.Epochs.{Represents, with_calls};
+ghost use Rattle.rma_exposure.specs.inside.Epochs.{kept_of, IsOfRank, Represents, with_calls};
+ghost use Rattle.rma_exposure.specs.Matching.{numbers, match_of};
+ghost use Rattle.rma_exposure.specs.Closing.{closing_of};
 
 use crate::rank_epochs::RankEpochs;
+use crate::side::{Side, opposite};
 use indexmap::IndexMap;
-use rma_base::{Memory, Rank};
+use rma_base::{Memory, Name, Rank};
 use rma_call::CallRef;
 use std::alloc::Global;
 
@@ -39,12 +42,71 @@ impl Exposures {
         ensures { OnOk result ((calls : ℕ → List Call) → length (calls rank.0) ≡ number → Represents calls self.old
             → Represents (with_calls calls rank.0 (call_of call.entry ∷ [])) self.new) }
     {
-        if let Some(epochs) = self.ranks.get_mut(&rank) {
-            return epochs.take(self.alloc, number, call);
-        }
-        let mut epochs = RankEpochs::new(self.alloc);
-        epochs.take(self.alloc, number, call)?;
-        self.ranks.insert(rank, epochs)?;
-        Ok(())
+        take(self.alloc, &mut self.ranks, rank, number, call)
     }
+
+    /// The numbers of the calls of a rank that open an epoch of the side on the window with the other rank in their group.
+    fn numbers(&self, side: Side, window: &Name, rank: Rank, other: Rank) -> &[u32]
+        ensures { (calls : ℕ → List Call) → Represents calls self.now → result.now ≡ numbers side window.now other.0 (calls rank.0) }
+    {
+        match self.ranks.get(&rank) {
+            Some(epochs) => epochs.of(side).with(window, other.0),
+            None => &[],
+        }
+    }
+
+    /// The call of the other rank that matches the call of this number of a rank, where that opens an epoch of the side on the
+    /// window with the other rank in its group.
+    pub(crate) fn match_of(
+        &self,
+        side: Side,
+        window: &Name,
+        rank: Rank,
+        number: u32,
+        other: Rank,
+    ) -> Option<u32>
+        ensures { (calls : ℕ → List Call) → Represents calls self.now → result ≡ match_of side window.now calls rank.0 number other.0 }
+    {
+        match self
+            .numbers(side, window, rank, other)
+            .binary_search(&number)
+        {
+            Ok(place) => {
+                let numbers = self.numbers(opposite(side), window, other, rank);
+                numbers.get(place).copied()
+            }
+            Err(_) => None,
+        }
+    }
+
+    /// The call of a rank that closes the epoch of the side which its call of this number opens.
+    pub(crate) fn closing_of(&self, side: Side, rank: Rank, number: u32) -> Option<u32>
+        ensures { (calls : ℕ → List Call) → Represents calls self.now → result ≡ closing_of side (calls rank.0) number }
+    {
+        match self.ranks.get(&rank) {
+            Some(epochs) => epochs.of(side).closing(number),
+            None => None,
+        }
+    }
+}
+
+/// Takes the next call of the rank.
+fn take(
+    alloc: Global,
+    ranks: &mut IndexMap<Rank, RankEpochs>,
+    rank: Rank,
+    number: u32,
+    call: CallRef<'_>,
+) -> Result<(), Memory>
+    ensures own { OnOk result ((calls : List Call) → length calls ≡ number → IsOfRank calls (kept_of ranks.old.entries rank.0)
+        → IsOfRank (calls ++ call_of call.entry ∷ []) (kept_of ranks.new.entries rank.0)) }
+    ensures others { OnOk result ((other : Rank) → (rank.0 == other.0) ≡ false → kept_of ranks.new.entries other.0 ≡ kept_of ranks.old.entries other.0) }
+{
+    if let Some(epochs) = ranks.get_mut(&rank) {
+        return epochs.take(alloc, number, call);
+    }
+    let mut epochs = RankEpochs::new(alloc);
+    epochs.take(alloc, number, call)?;
+    ranks.insert(rank, epochs)?;
+    Ok(())
 }

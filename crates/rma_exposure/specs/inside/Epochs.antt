@@ -68,9 +68,17 @@ pub record AreOfRank (calls : List Call) (epochs : RankEpochs) : Type 0 where
 abbrev pub is_numbered : ℕ → Rank → Bool
 is_numbered number rank = number == rank.0
 
--- what is kept represents these calls of the ranks: a rank of which nothing is kept makes none
+-- what is kept under a rank
+abbrev pub kept_of : List (Rank × RankEpochs) → ℕ → Option RankEpochs
+kept_of ranks rank = lookup (is_numbered rank) ranks
+
+-- what is kept of a rank represents its calls: there are none where nothing is kept
+abbrev pub IsOfRank : List Call → Option RankEpochs → Type 0
+IsOfRank calls epochs = MatchOption epochs (calls ≡ []) (AreOfRank calls)
+
+-- what is kept represents these calls of the ranks
 abbrev pub Represents : (ℕ → List Call) → Exposures → Type 0
-Represents calls exposures = (rank : ℕ) → MatchOption (lookup (is_numbered rank) exposures.ranks.entries) (calls rank ≡ []) (AreOfRank (calls rank))
+Represents calls exposures = (rank : ℕ) → IsOfRank (calls rank) (kept_of exposures.ranks.entries rank)
 
 -- the calls of the ranks, with more of one rank
 abbrev pub with_calls : (ℕ → List Call) → ℕ → List Call → ℕ → List Call

@@ -10,7 +10,6 @@ use Rattle.rma_exposure.specs.Opening.{posted, started, waited, completed}
 use Rattle.rma_exposure.proofs.EpochLemmas.{OnOk_map, AreOfRank_same, AreOfRank_posts, AreOfRank_starts}
 use Rattle.rma_exposure.proofs.rank_epochs.RankEpochs.take.Goals as goal
 
-
 pub returns-in_default : goal.returns-in_default
 returns-in_default c = λ calls len are. AreOfRank_same calls (call_of c.args.call) c.args.self.now (search rules) (search rules) (search rules) (search rules) are
 
