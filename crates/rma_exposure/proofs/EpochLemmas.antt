@@ -138,6 +138,10 @@ module _ (side : Side) (calls : List Call) (call : Call) (own : List ℕ) (old n
 
 -- ---- both sides
 
+pub OnOk_both : {T E A B C : Type 0} (r : Result T E) → (A → B → C) → OnOk r A → OnOk r B → OnOk r C
+OnOk_both (Ok x) f a b = f a b
+OnOk_both (Err e) f a b = tt
+
 pub OnOk_map : {T E A B : Type 0} (r : Result T E) → (A → B) → OnOk r A → OnOk r B
 OnOk_map (Ok x) f a = f a
 OnOk_map (Err e) f a = tt

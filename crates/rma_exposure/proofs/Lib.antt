@@ -1,3 +1,6 @@
 pub mod GroupLemmas
 pub mod CallLemmas
 pub mod EpochLemmas
+pub mod PositionLemmas
+pub mod RunLemmas
+pub mod WalkLemmas

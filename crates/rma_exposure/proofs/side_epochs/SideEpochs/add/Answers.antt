@@ -6,16 +6,12 @@ use Rattle.rma_exposure.specs.declared.side.Side.{Side}
 use Rattle.rma_exposure.specs.declared.side_epochs.SideEpochs.{SideEpochs}
 use Rattle.rma_exposure.specs.Opening.{Opening, opened, closed}
 use Rattle.rma_exposure.specs.inside.Epochs.{kept, IsOpened, AreEpochs}
-use Rattle.rma_exposure.proofs.EpochLemmas.{AreEpochs_added}
+use Rattle.rma_exposure.proofs.EpochLemmas.{AreEpochs_added, OnOk_both}
 use Rattle.rma_exposure.proofs.side_epochs.SideEpochs.add.Goals as goal
-
-on_ok : {T E A B C : Type 0} (r : Result T E) → (A → B → C) → OnOk r A → OnOk r B → OnOk r C
-on_ok (Ok x) f a b = f a b
-on_ok (Err e) f a b = tt
 
 pub returns : goal.returns
 returns c =
-    on_ok c.add.result
+    OnOk_both c.add.result
     (λ own others side calls call len opens closes are.
     let old = c.args.self.now in
     let opening : Opening = record { window = c.args.window.now; group = c.args.group.now } in

@@ -1,0 +1,147 @@
+-- What is kept of a run, with more calls of a rank.
+use Rattle.std.proofs.Common.{◌≡◌, ℕ, zero, suc, ◌+◌, ◌<◌, ◌≤◌, Bool, true, false, cond, ◌∷◌, ◌++◌, List, [], length, Option, Some, None, nat_eq, take, refl, sym, ap, subst, ◌∙◌, arith, append_assoc, append-nil, ◌^◌}
+use Rattle.std.specs.Prelude.{slice_get, IfSome}
+use Rattle.std.specs.Option.{option_and_then}
+use Rattle.std.proofs.lemmas.Bool.Decides.{nat_tests}
+use Rattle.std.proofs.lemmas.Bool.{false≢true}
+use Rattle.rma_base.specs.Limits.{fed_limit}
+use Rattle.std.proofs.lemmas.Bool.{eqb-true}
+use Rattle.rma_base.specs.declared.rank.Rank.{Rank}
+use Rattle.rma_call.specs.Call.{Call, RankCalls}
+use Rattle.rma_exposure.specs.declared.rank_epochs.RankEpochs.{RankEpochs}
+use Rattle.rma_exposure.specs.inside.Epochs.{kept_of, IsOfRank, Represents, with_calls}
+use Rattle.rma_exposure.specs.declared.side.Side.{Side}
+use Rattle.rma_exposure.specs.declared.exposures.Exposures.{Exposures}
+use Rattle.rma_exposure.specs.Opening.{Opening, opened, opens_on, closes_on}
+use Rattle.rma_exposure.specs.Closing.{first_closing, closing_at, closing_of}
+use Rattle.rma_exposure.specs.Matching.{calls_of}
+use Rattle.rma_exposure.specs.Run.{IsRun}
+use Rattle.rma_exposure.proofs.WalkLemmas.{taken_there, taken_length}
+
+-- more calls of a rank, of which alone something changes
+pub more_of_rank : (calls : ℕ → List Call) (rank : Rank) (more : List Call) (old new : List (Rank × RankEpochs)) →
+    IsOfRank (calls rank.0 ++ more) (kept_of new rank.0) → ((other : Rank) → nat_eq rank.0 other.0 ≡ false → kept_of new other.0 ≡ kept_of old other.0) →
+    ((other : ℕ) → IsOfRank (calls other) (kept_of old other)) → (other : ℕ) → IsOfRank (with_calls calls rank.0 more other) (kept_of new other)
+more_of_rank calls rank more old new own others are other = by (nat_eq rank.0 other) refl
+  where
+    by : (b : Bool) → nat_eq rank.0 other ≡ b → IsOfRank (with_calls calls rank.0 more other) (kept_of new other)
+    by true same = rw same (subst (λ r. IsOfRank (calls r ++ more) (kept_of new r)) (eqb-true rank.0 other same) own)
+    by false differ = rw differ (subst (IsOfRank (calls other)) (sym (others (record { 0 = other }) differ)) (are other))
+
+-- the same calls of each rank
+pub Represents_along : (f g : ℕ → List Call) (exposures : Exposures) → ((rank : ℕ) → f rank ≡ g rank) → Represents f exposures → Represents g exposures
+Represents_along f g exposures same are = λ rank. subst (λ calls. IsOfRank calls (kept_of exposures.ranks.entries rank)) (same rank) (are rank)
+
+none_more : (calls : ℕ → List Call) (rank other : ℕ) → calls other ≡ with_calls calls rank [] other
+none_more calls rank other = by (nat_eq rank other)
+  where
+    by : (b : Bool) → calls other ≡ cond b (calls other ++ []) (calls other)
+    by true = sym (append-nil (calls other))
+    by false = refl
+
+-- before the calls of a rank are taken
+pub Represents_begun : (calls : ℕ → List Call) (rank : ℕ) (exposures : Exposures) → Represents calls exposures → Represents (with_calls calls rank []) exposures
+Represents_begun calls rank exposures are = Represents_along calls (with_calls calls rank []) exposures (none_more calls rank) are
+
+one_more : (calls : ℕ → List Call) (rank other i : ℕ) (own : List Call) (call : Call) → slice_get own i ≡ Some call →
+    with_calls (with_calls calls rank (take i own)) rank (call ∷ []) other ≡ with_calls calls rank (take (i + 1) own) other
+one_more calls rank other i own call there = by (nat_eq rank other)
+  where
+    by : (b : Bool) → cond b (cond b (calls other ++ take i own) (calls other) ++ call ∷ []) (cond b (calls other ++ take i own) (calls other)) ≡ cond b (calls other ++ take (i + 1) own) (calls other)
+    by true = append_assoc (calls other) (take i own) (call ∷ []) ∙ ap (λ l. calls other ++ l) (sym (taken_there own i call there))
+    by false = refl
+
+-- with one more call of the rank
+pub Represents_more : (calls : ℕ → List Call) (rank i : ℕ) (own : List Call) (call : Call) (exposures : Exposures) → slice_get own i ≡ Some call →
+    Represents (with_calls (with_calls calls rank (take i own)) rank (call ∷ [])) exposures → Represents (with_calls calls rank (take (i + 1) own)) exposures
+Represents_more calls rank i own call exposures there are =
+    Represents_along (with_calls (with_calls calls rank (take i own)) rank (call ∷ [])) (with_calls calls rank (take (i + 1) own)) exposures (λ other. one_more calls rank other i own call there) are
+
+itself : (n : ℕ) → nat_eq n n ≡ true
+itself n = grind (arith, nat_tests)
+
+-- how many calls of the rank are taken
+pub begun_length : (calls : ℕ → List Call) (rank i : ℕ) (own : List Call) (call : Call) → calls rank ≡ [] → slice_get own i ≡ Some call → length (with_calls calls rank (take i own) rank) ≡ i
+begun_length calls rank i own call none there = rw (itself rank, none) (taken_length own i call there)
+
+-- ---- the calls of a run
+
+next_same : (a b : ℕ) → nat_eq (suc a) (suc b) ≡ nat_eq a b
+next_same a b = grind (arith, nat_tests)
+
+zero_next : (n : ℕ) → nat_eq 0 (suc n) ≡ false
+zero_next n = grind (arith, nat_tests)
+
+next_zero : (n : ℕ) → nat_eq (suc n) 0 ≡ false
+next_zero n = grind (arith, nat_tests)
+
+calls_at_end : (done : List RankCalls) (own : RankCalls) (other : ℕ) → cond (nat_eq (length done) other) (calls_of done other ++ own.calls) (calls_of done other) ≡ calls_of (done ++ own ∷ []) other
+calls_at_end [] own zero = refl
+calls_at_end [] own (suc m) = rw zero_next refl
+calls_at_end (d ∷ ds) own zero = rw next_zero refl
+calls_at_end (d ∷ ds) own (suc m) = rw next_same (calls_at_end ds own m)
+
+none_yet : (done : List RankCalls) → calls_of done (length done) ≡ []
+none_yet [] = refl
+none_yet (d ∷ ds) = none_yet ds
+
+-- the next rank has no calls yet
+pub next_has_none : (ranks : List RankCalls) (i : ℕ) (own : RankCalls) → slice_get ranks i ≡ Some own → own.rank.0 ≡ i → calls_of (take i ranks) own.rank.0 ≡ []
+next_has_none ranks i own there is =
+    ap (calls_of (take i ranks)) (is ∙ sym (taken_length ranks i own there)) ∙ none_yet (take i ranks)
+
+-- the calls of one more rank
+pub Represents_next : (ranks : List RankCalls) (i : ℕ) (own : RankCalls) (exposures : Exposures) → slice_get ranks i ≡ Some own → own.rank.0 ≡ i →
+    Represents (with_calls (calls_of (take i ranks)) own.rank.0 own.calls) exposures → Represents (calls_of (take (i + 1) ranks)) exposures
+Represents_next ranks i own exposures there is are =
+    Represents_along (with_calls (calls_of (take i ranks)) own.rank.0 own.calls) (calls_of (take (i + 1) ranks)) exposures
+    (λ other.
+    ap (λ n. with_calls (calls_of (take i ranks)) n own.calls other) (is ∙ sym (taken_length ranks i own there))
+    ∙ calls_at_end (take i ranks) own other
+    ∙ ap (λ l. calls_of l other) (sym (taken_there ranks i own there)))
+    are
+
+-- no rank has more calls than there may be
+pub calls_are_few : (ranks : List RankCalls) (rank : ℕ) → IsRun ranks → length (calls_of ranks rank) ≤ fed_limit
+calls_are_few ranks rank run = by (slice_get ranks rank) refl
+  where
+    by : (o : Option RankCalls) → slice_get ranks rank ≡ o → length (calls_of ranks rank) ≤ fed_limit
+    by None is = rw is (omega arith)
+    by (Some own) is = rw is (run.few rank own is)
+
+-- ---- closing calls are calls of the rank
+
+first_below : (side : Side) (window : List ℕ) (n : ℕ) (calls : List Call) → IfSome (first_closing side window n calls) (λ j. j < n + length calls)
+first_below side window n [] = tt
+first_below side window n (c ∷ cs) = by (closes_on side window c) (opens_on side window c) (first_below side window (n + 1) cs)
+  where
+    later : (o : Option ℕ) → IfSome o (λ j. j < n + 1 + length cs) → IfSome o (λ j. j < n + suc (length cs))
+    later None lt = tt
+    later (Some j) lt = omega arith
+    by : (a b : Bool) → IfSome (first_closing side window (n + 1) cs) (λ j. j < n + 1 + length cs) → IfSome (cond a (Some n) (cond b None (first_closing side window (n + 1) cs))) (λ j. j < n + suc (length cs))
+    by true b rest = omega arith
+    by false true rest = tt
+    by false false rest = later (first_closing side window (n + 1) cs) rest
+
+closing_at_below : (side : Side) (n : ℕ) (calls : List Call) (i : ℕ) → IfSome (closing_at side n calls i) (λ j. j < n + length calls)
+closing_at_below side n [] i = tt
+closing_at_below side n (c ∷ cs) zero = by (opened side c.what)
+  where
+    later : (o : Option ℕ) → IfSome o (λ j. j < n + 1 + length cs) → IfSome o (λ j. j < n + suc (length cs))
+    later None lt = tt
+    later (Some j) lt = omega arith
+    by : (o : Option Opening) → IfSome (option_and_then (λ (opening : Opening). first_closing side opening.window (n + 1) cs) o) (λ j. j < n + suc (length cs))
+    by None = tt
+    by (Some opening) = later (first_closing side opening.window (n + 1) cs) (first_below side opening.window (n + 1) cs)
+closing_at_below side n (c ∷ cs) (suc i) = later (closing_at side (n + 1) cs i) (closing_at_below side (n + 1) cs i)
+  where
+    later : (o : Option ℕ) → IfSome o (λ j. j < n + 1 + length cs) → IfSome o (λ j. j < n + suc (length cs))
+    later None lt = tt
+    later (Some j) lt = omega arith
+
+pub closing_below : (side : Side) (calls : List Call) (i : ℕ) (found : Option ℕ) → found ≡ closing_of side calls i → length calls ≤ fed_limit → IfSome found (λ j. j < 2 ^ 31)
+closing_below side calls i found is few = by found (subst (λ o. IfSome o (λ j. j < 0 + length calls)) (sym is) (closing_at_below side 0 calls i))
+  where
+    by : (o : Option ℕ) → IfSome o (λ j. j < 0 + length calls) → IfSome o (λ j. j < 2 ^ 31)
+    by None lt = tt
+    by (Some j) lt = omega arith

@@ -1,0 +1,12 @@
+use Rattle.std.proofs.Common.{◌≡◌, ◌++◌, take}
+use Rattle.rma_exposure.specs.Matching.{calls_of}
+use Rattle.rma_exposure.specs.Fault.{by_rank}
+use Rattle.rma_exposure.specs.Edge.{edges_at}
+use Rattle.rma_exposure.proofs.exposures.Exposures.push_edges.Given as goal
+
+-- the edges to the calls of the ranks before are there
+abbrev pub invariant-loop-rank : goal.invariant-loop-rank
+invariant-loop-rank l = record {
+  edges : l.links.edges ≡ l.initial.links.edges ++ by_rank (edges_at (calls_of l.ranks)) (take l.rank-index l.ranks);
+  meets : l.links.meets ≡ l.initial.links.meets;
+}

@@ -1,0 +1,12 @@
+use Rattle.std.proofs.Common.{◌≡◌, ◌++◌, take}
+use Rattle.rma_exposure.specs.Matching.{calls_of}
+use Rattle.rma_exposure.specs.Fault.{by_number}
+use Rattle.rma_exposure.specs.Edge.{edges_at}
+use Rattle.rma_exposure.proofs.exposures.Exposures.push_rank_edges.Given as goal
+
+-- the edges to the calls before are there
+abbrev pub invariant-loop-i : goal.invariant-loop-i
+invariant-loop-i l = record {
+  edges : l.links.edges ≡ l.initial.links.edges ++ by_number (edges_at (calls_of l.ranks) l.rank.rank) 0 (take l.i l.rank.calls);
+  meets : l.links.meets ≡ l.initial.links.meets;
+}

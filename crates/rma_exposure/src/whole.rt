@@ -1,0 +1,43 @@
+//! The posts and starts of whole logs.
+ghost use Rattle.std.specs.Prelude.{◌≡◌, ◌≤◌, [], ℕ, List, length, IfOk, OnOk};
+ghost use Rattle.rma_base.specs.Limits.{fed_limit};
+ghost use Rattle.rma_call.specs.Call.{Call};
+ghost use Rattle.rma_exposure.specs.Matching.{calls_of};
+ghost use Rattle.rma_exposure.specs.Run.{IsRun};
+ghost use Rattle.rma_exposure.specs.inside.Epochs.{Represents, with_calls};
+
+use crate::exposures::Exposures;
+use rma_base::Memory;
+use rma_call::RankCalls;
+use std::alloc::Global;
+
+impl Exposures {
+    /// The posts and starts of whole logs: all calls are taken, rank by rank. The i-th log is that of rank i.
+    ///
+    /// # Errors
+    ///
+    /// `Memory` where there is none left.
+    pub fn of_calls(alloc: Global, ranks: &[RankCalls]) -> Result<Exposures, Memory>
+        requires { IsRun ranks.now }
+        ensures { IfOk result (λ exposures. Represents (calls_of ranks.now) exposures) }
+    {
+        let mut exposures = Exposures::new(alloc);
+        for rank in ranks {
+            exposures.take_all(rank)?;
+        }
+        Ok(exposures)
+    }
+
+    /// Takes the calls of a rank of which none is taken yet.
+    fn take_all(&mut self, rank: &RankCalls) -> Result<(), Memory>
+        requires { length rank.now.calls ≤ fed_limit }
+        ensures { OnOk result ((calls : ℕ → List Call) → calls rank.now.rank.0 ≡ [] → Represents calls self.old
+            → Represents (with_calls calls rank.now.rank.0 rank.now.calls) self.new) }
+    {
+        let calls = rank.calls();
+        for i in 0..calls.len() {
+            self.take(rank.rank(), i as u32, calls.get(i))?;
+        }
+        Ok(())
+    }
+}
