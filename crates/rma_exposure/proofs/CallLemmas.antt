@@ -7,7 +7,7 @@ use Rattle.std.proofs.lemmas.Bool.Decides.{nat_tests}
 use Rattle.rma_call.specs.Call.{Call}
 use Rattle.rma_call.specs.declared.what.What.{What}
 use Rattle.rma_exposure.specs.declared.side.Side.{Side}
-use Rattle.rma_exposure.specs.Opening.{Opening, opened, closed, opens_on, opens_with, closes_on}
+use Rattle.rma_exposure.specs.Opening.{Opening, opening_at, opened, closed, opens_on, opens_with, closes_on}
 use Rattle.rma_exposure.specs.Closing.{first_closing, closing_at, closing_of}
 use Rattle.rma_exposure.specs.Matching.{numbers_from, numbers}
 use Rattle.rma_exposure.specs.inside.Epochs.{pending_after, is_pending}
@@ -186,3 +186,26 @@ closing_at_same side n (x ∷ xs) call zero not = by (opened side x.what)
     by None = refl
     by (Some opening) = first_closing_same side opening.window (n + 1) xs call (closes_none side opening.window call not)
 closing_at_same side n (x ∷ xs) call (suc i) not = closing_at_same side (n + 1) xs call i not
+
+-- ---- what a call of a number states
+
+next_same : (a b : ℕ) → nat_eq (suc a) (suc b) ≡ nat_eq a b
+next_same a b = grind (arith, nat_tests)
+
+zero_next : (n : ℕ) → nat_eq 0 (suc n) ≡ false
+zero_next n = grind (arith, nat_tests)
+
+next_zero : (n : ℕ) → nat_eq (suc n) 0 ≡ false
+next_zero n = grind (arith, nat_tests)
+
+pub opening_at_push : (side : Side) (calls : List Call) (call : Call) (i : ℕ) → opening_at side (calls ++ call ∷ []) i ≡ cond (nat_eq (length calls) i) (opened side call.what) (opening_at side calls i)
+opening_at_push side [] call zero = refl
+opening_at_push side [] call (suc i) = rw zero_next refl
+opening_at_push side (x ∷ xs) call zero = rw next_zero refl
+opening_at_push side (x ∷ xs) call (suc i) = rw next_same (opening_at_push side xs call i)
+
+pub opening_at_same : (side : Side) (calls : List Call) (call : Call) (i : ℕ) → opened side call.what ≡ None → opening_at side (calls ++ call ∷ []) i ≡ opening_at side calls i
+opening_at_same side [] call zero not = not
+opening_at_same side [] call (suc i) not = refl
+opening_at_same side (x ∷ xs) call zero not = refl
+opening_at_same side (x ∷ xs) call (suc i) not = opening_at_same side xs call i not

@@ -1,7 +1,7 @@
 -- What is kept of the epochs of a rank, with one more call.
 use Rattle.std.proofs.Common.{◌≡◌, ℕ, zero, suc, ◌+◌, ◌<◌, ◌≤◌, Bool, true, false, cond, ◌&&◌, ◌∷◌, ◌++◌, List, [], length, Option, Some, None, Result, Ok, Err, nat_eq, refl, sym, ap, ◌∙◌, arith, append-nil}
 use Rattle.std.specs.Map.{lookup}
-use Rattle.std.specs.Prelude.{OnOk}
+use Rattle.std.specs.Prelude.{OnOk, option_map}
 use Rattle.std.specs.Cmp.Lexicographic.{pointwise, nat_list_eq_equiv}
 use Rattle.rma_base.specs.RankSet.{has_number}
 use Rattle.rma_call.specs.Call.{Call}
@@ -10,11 +10,11 @@ use Rattle.rma_exposure.specs.declared.side.Side.TheVariants.{Exposure, Access}
 use Rattle.rma_exposure.specs.declared.openings.Openings.{Openings}
 use Rattle.rma_exposure.specs.declared.side_epochs.SideEpochs.{SideEpochs}
 use Rattle.rma_exposure.specs.declared.rank_epochs.RankEpochs.{RankEpochs}
-use Rattle.rma_exposure.specs.Opening.{Opening, posted, started, waited, completed, opened, closed, opens_on, opens_with, closes_on}
+use Rattle.rma_exposure.specs.Opening.{Opening, posted, started, waited, completed, opening_at, opened, closed, opens_on, opens_with, closes_on}
 use Rattle.rma_exposure.specs.Closing.{closing_of}
 use Rattle.rma_exposure.specs.Matching.{numbers}
 use Rattle.rma_exposure.specs.inside.Epochs.{kept, numbers_in, pending_in, IsOpened, pending_of, is_pending, AreEpochs, AreOfRank}
-use Rattle.rma_exposure.proofs.CallLemmas.{numbers_from_push, next_pending, pending_after_push, closing_of_push, closing_at_same, closes_is, closes_none}
+use Rattle.rma_exposure.proofs.CallLemmas.{numbers_from_push, next_pending, pending_after_push, closing_of_push, closing_at_same, opening_at_push, opening_at_same, closes_is, closes_none}
 
 numbers_push : (side : Side) (window : List ℕ) (other : ℕ) (calls : List Call) (call : Call) →
     numbers side window other (calls ++ call ∷ []) ≡ numbers side window other calls ++ cond (opens_with side window other call) (length calls ∷ []) []
@@ -48,6 +48,7 @@ AreEpochs_same side calls call epochs opens closes are = record {
       ∙ sym (ap (λ b. cond b (Some (length calls)) (cond (closes_on side window call) None (pending_of side window calls))) (not_on side window call opens)
       ∙ ap (λ b. cond b None (pending_of side window calls)) (closes_none side window call closes))
       ∙ sym (pending_push side window calls call);
+  openers_are = λ number. are.openers_are number ∙ ap (option_map (λ (o : Opening). o.window)) (sym (opening_at_same side calls call number opens));
   closings_are = λ number. are.closings_are number ∙ sym (closing_at_same side 0 calls call number closes);
 }
 
@@ -55,7 +56,18 @@ AreEpochs_same side calls call epochs opens closes are = record {
 module _ (side : Side) (calls : List Call) (call : Call) (opening : Opening) (old new : SideEpochs) (opens : opened side call.what ≡ Some opening) (closes : closed side call.what ≡ None)
     (own : (name : List ℕ) → pointwise nat_eq opening.window name ≡ true → IsOpened (length calls) opening.group (kept old.windows.entries name) (kept new.windows.entries name))
     (others : (name : List ℕ) → pointwise nat_eq opening.window name ≡ false → kept new.windows.entries name ≡ kept old.windows.entries name)
+    (noted : (number : ℕ) → lookup (nat_eq number) new.openers.entries ≡ cond (nat_eq (length calls) number) (Some opening.window) (lookup (nat_eq number) old.openers.entries))
     (are : AreEpochs side calls old) where
+  added_openers : (number : ℕ) → lookup (nat_eq number) new.openers.entries ≡ option_map (λ (o : Opening). o.window) (opening_at side (calls ++ call ∷ []) number)
+  added_openers number =
+      noted number
+      ∙ by (nat_eq (length calls) number)
+      ∙ ap (option_map (λ (o : Opening). o.window)) (sym (opening_at_push side calls call number))
+    where
+      by : (b : Bool) → cond b (Some opening.window) (lookup (nat_eq number) old.openers.entries) ≡ option_map (λ (o : Opening). o.window) (cond b (opened side call.what) (opening_at side calls number))
+      by true = sym (ap (option_map (λ (o : Opening). o.window)) opens)
+      by false = are.openers_are number
+
   with_is : (window : List ℕ) (other : ℕ) → opens_with side window other call ≡ (pointwise nat_eq opening.window window && has_number other opening.group)
   with_is window other = rw (opens, nat_list_eq_equiv.symm window opening.window) refl
 
@@ -103,6 +115,7 @@ module _ (side : Side) (calls : List Call) (call : Call) (opening : Opening) (ol
   AreEpochs_added closings = record {
     numbers_are = added_numbers;
     pending_are = added_pending;
+    openers_are = added_openers;
     closings_are = λ number.
         ap (λ c. lookup (nat_eq number) c.entries) closings
         ∙ are.closings_are number
@@ -113,6 +126,7 @@ module _ (side : Side) (calls : List Call) (call : Call) (opening : Opening) (ol
 module _ (side : Side) (calls : List Call) (call : Call) (own : List ℕ) (old new : SideEpochs) (opens : opened side call.what ≡ None) (closes : closed side call.what ≡ Some own)
     (numbers_stay : (name : List ℕ) (other : ℕ) → numbers_in (kept new.windows.entries name) other ≡ numbers_in (kept old.windows.entries name) other)
     (closed_one : (name : List ℕ) → pending_in (kept new.windows.entries name) ≡ cond (pointwise nat_eq own name) None (pending_in (kept old.windows.entries name)))
+    (openers_stay : new.openers ≡ old.openers)
     (noted : (number : ℕ) → lookup (nat_eq number) new.closings.entries ≡ cond (is_pending (pending_in (kept old.windows.entries own)) number) (Some (length calls)) (lookup (nat_eq number) old.closings.entries))
     (are : AreEpochs side calls old) where
   pub AreEpochs_closed : AreEpochs side (calls ++ call ∷ []) new
@@ -129,6 +143,7 @@ module _ (side : Side) (calls : List Call) (call : Call) (own : List ℕ) (old n
         ∙ ap (cond (closes_on side window call) None) (are.pending_are window)
         ∙ sym (ap (λ b. cond b (Some (length calls)) (cond (closes_on side window call) None (pending_of side window calls))) (not_on side window call opens))
         ∙ sym (pending_push side window calls call);
+    openers_are = λ number. ap (λ o. lookup (nat_eq number) o.entries) openers_stay ∙ are.openers_are number ∙ ap (option_map (λ (o : Opening). o.window)) (sym (opening_at_same side calls call number opens));
     closings_are = λ number.
         noted number
         ∙ ap (λ p. cond (is_pending p number) (Some (length calls)) (lookup (nat_eq number) old.closings.entries)) (are.pending_are own)

@@ -118,6 +118,7 @@ first_below side window n (c ∷ cs) = by (closes_on side window c) (opens_on si
     later : (o : Option ℕ) → IfSome o (λ j. j < n + 1 + length cs) → IfSome o (λ j. j < n + suc (length cs))
     later None lt = tt
     later (Some j) lt = omega arith
+
     by : (a b : Bool) → IfSome (first_closing side window (n + 1) cs) (λ j. j < n + 1 + length cs) → IfSome (cond a (Some n) (cond b None (first_closing side window (n + 1) cs))) (λ j. j < n + suc (length cs))
     by true b rest = omega arith
     by false true rest = tt
@@ -130,6 +131,7 @@ closing_at_below side n (c ∷ cs) zero = by (opened side c.what)
     later : (o : Option ℕ) → IfSome o (λ j. j < n + 1 + length cs) → IfSome o (λ j. j < n + suc (length cs))
     later None lt = tt
     later (Some j) lt = omega arith
+
     by : (o : Option Opening) → IfSome (option_and_then (λ (opening : Opening). first_closing side opening.window (n + 1) cs) o) (λ j. j < n + suc (length cs))
     by None = tt
     by (Some opening) = later (first_closing side opening.window (n + 1) cs) (first_below side opening.window (n + 1) cs)

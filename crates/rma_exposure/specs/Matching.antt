@@ -1,9 +1,10 @@
 -- Which posts and starts match (MPI 4.0, "One-Sided Communications").
 use Rattle.std.specs.Prelude.{ℕ, ◌+◌, ◌==◌, List, [], ◌∷◌, Option, slice_get, position, if◌then◌else◌}
-use Rattle.std.specs.Option.{option_and_then, option_map_or}
+use Rattle.std.specs.Option.{option_and_then, option_map_or, option_or}
 use Rattle.rma_call.specs.Call.{Call, RankCalls}
 use Rattle.rma_exposure.specs.declared.side.Side.{Side}
-use Rattle.rma_exposure.specs.Opening.{opens_with, opposite}
+use Rattle.rma_exposure.specs.declared.side.Side.TheVariants.{Exposure, Access}
+use Rattle.rma_exposure.specs.Opening.{opening_at, opens_with, opposite}
 
 -- the numbers of those of a rank's calls that open an epoch of the side on the window, with another rank in its group; the
 -- first of the calls has this number
@@ -25,3 +26,11 @@ calls_of ranks rank = option_map_or (λ r. r.calls) (slice_get ranks rank) []
 abbrev pub match_of : Side → List ℕ → (ℕ → List Call) → ℕ → ℕ → ℕ → Option ℕ
 match_of side window calls rank number other =
     option_and_then (slice_get (numbers (opposite side) window rank (calls other))) (position (λ m. m == number) (numbers side window other (calls rank)))
+
+-- the same of a call that opens an epoch of the side, on its own window
+abbrev pub matched_at : Side → (ℕ → List Call) → ℕ → ℕ → ℕ → Option ℕ
+matched_at side calls rank number other = option_and_then (λ opening. match_of side opening.window calls rank number other) (opening_at side (calls rank) number)
+
+-- the call of another rank that matches the call of this number of a rank, which is a post or a start
+abbrev pub partner_of : (ℕ → List Call) → ℕ → ℕ → ℕ → Option ℕ
+partner_of calls rank number other = option_or (matched_at Exposure calls rank number other) (matched_at Access calls rank number other)

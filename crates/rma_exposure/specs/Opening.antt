@@ -1,7 +1,7 @@
 -- The calls that open and close exposure and access epochs of general active target synchronisation (MPI 4.0,
 -- "One-Sided Communications").
-use Rattle.std.specs.Prelude.{ℕ, List, Bool, false, Option, Some, None, nat_eq, ◌&&◌}
-use Rattle.std.specs.Option.{option_map_or}
+use Rattle.std.specs.Prelude.{ℕ, List, Bool, false, Option, Some, None, nat_eq, slice_get, ◌&&◌}
+use Rattle.std.specs.Option.{option_and_then, option_map_or}
 use Rattle.std.specs.Cmp.Lexicographic.{pointwise}
 use Rattle.rma_base.specs.RankSet.{has_number}
 use Rattle.rma_call.specs.Call.{Call}
@@ -46,6 +46,10 @@ completed _ = None
 abbrev pub closed : Side → What → Option (List ℕ)
 closed Exposure what = waited what
 closed Access what = completed what
+
+-- what the call of this number of a rank states, where it opens an epoch
+abbrev pub opening_at : Side → List Call → ℕ → Option Opening
+opening_at side calls number = option_and_then (λ call. opened side call.what) (slice_get calls number)
 
 -- the other side: that of the epochs that match those of a side
 abbrev pub opposite : Side → Side

@@ -1,8 +1,10 @@
 //! The posts and starts of a run, as its calls come.
-ghost use Rattle.std.specs.Prelude.{◌≡◌, ◌==◌, ◌++◌, ◌∷◌, [], ℕ, List, false, length, OnOk};
+ghost use Rattle.std.specs.Prelude.{◌≡◌, ◌==◌, ◌++◌, ◌∷◌, [], ℕ, List, false, length, OnOk, option_copied, option_map};
 ghost use Rattle.rma_call.specs.Call.{Call, call_of};
+ghost use Rattle.rma_exposure.specs.declared.side.Side.TheVariants.{Exposure, Access};
 ghost use Rattle.rma_exposure.specs.inside.Epochs.{kept_of, IsOfRank, Represents, with_calls};
-ghost use Rattle.rma_exposure.specs.Matching.{numbers, match_of};
+ghost use Rattle.rma_exposure.specs.Opening.{opening_at};
+ghost use Rattle.rma_exposure.specs.Matching.{numbers, match_of, matched_at, partner_of};
 ghost use Rattle.rma_exposure.specs.Closing.{closing_of};
 
 use crate::rank_epochs::RankEpochs;
@@ -43,6 +45,48 @@ impl Exposures {
             → Represents (with_calls calls rank.0 (call_of call.entry ∷ [])) self.new) }
     {
         take(self.alloc, &mut self.ranks, rank, number, call)
+    }
+
+    /// The call of the other rank that matches the call of this number of a rank, where that is a post or a start.
+    pub fn partner(&self, rank: Rank, number: u32, other: Rank) -> Option<u32>
+        ensures { (calls : ℕ → List Call) → Represents calls self.now → result ≡ partner_of calls rank.0 number other.0 }
+    {
+        let matched = self.matched(Side::Exposure, rank, number, other);
+        matched.or(self.matched(Side::Access, rank, number, other))
+    }
+
+    /// The expwait that closes the exposure epoch of the post of this number of a rank.
+    pub fn expwait_of(&self, rank: Rank, post: u32) -> Option<u32>
+        ensures { (calls : ℕ → List Call) → Represents calls self.now → result ≡ closing_of Exposure (calls rank.0) post }
+    {
+        self.closing_of(Side::Exposure, rank, post)
+    }
+
+    /// The complete that closes the access epoch of the start of this number of a rank.
+    pub fn complete_of(&self, rank: Rank, start: u32) -> Option<u32>
+        ensures { (calls : ℕ → List Call) → Represents calls self.now → result ≡ closing_of Access (calls rank.0) start }
+    {
+        self.closing_of(Side::Access, rank, start)
+    }
+
+    /// The call of the other rank that matches the call of this number of a rank, where that opens an epoch of the side.
+    fn matched(&self, side: Side, rank: Rank, number: u32, other: Rank) -> Option<u32>
+        ensures { (calls : ℕ → List Call) → Represents calls self.now → result ≡ matched_at side calls rank.0 number other.0 }
+    {
+        match self.window_of(side, rank, number) {
+            Some(window) => self.match_of(side, window, rank, number, other),
+            None => None,
+        }
+    }
+
+    /// The window of the epoch of the side that the call of this number of a rank opens.
+    fn window_of(&self, side: Side, rank: Rank, number: u32) -> Option<&Name>
+        ensures { (calls : ℕ → List Call) → Represents calls self.now → option_copied result ≡ option_map (λ opening. opening.window) (opening_at side (calls rank.0) number) }
+    {
+        match self.ranks.get(&rank) {
+            Some(epochs) => epochs.of(side).window_of(number),
+            None => None,
+        }
     }
 
     /// The numbers of the calls of a rank that open an epoch of the side on the window with the other rank in their group.

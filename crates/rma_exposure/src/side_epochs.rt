@@ -1,9 +1,9 @@
 //! The exposure epochs of one rank, or its access epochs.
-ghost use Rattle.std.specs.Prelude.{◌≡◌, ◌++◌, ◌∷◌, [], ℕ, List, None, Some, length, nat_eq, true, false, OnOk, if◌then◌else◌};
+ghost use Rattle.std.specs.Prelude.{◌≡◌, ◌++◌, ◌∷◌, [], ℕ, List, None, Some, length, nat_eq, true, false, OnOk, option_copied, option_map, if◌then◌else◌};
 ghost use Rattle.std.specs.Cmp.Lexicographic.{pointwise};
 ghost use Rattle.rma_call.specs.Call.{Call};
 ghost use Rattle.rma_exposure.specs.declared.side.Side.{Side};
-ghost use Rattle.rma_exposure.specs.Opening.{opened, closed};
+ghost use Rattle.rma_exposure.specs.Opening.{opened, closed, opening_at};
 ghost use Rattle.rma_exposure.specs.Matching.{numbers};
 ghost use Rattle.rma_exposure.specs.Closing.{closing_of};
 ghost use Rattle.rma_exposure.specs.inside.Epochs.{kept, numbers_in, pending_in, IsOpened, AreEpochs};
@@ -18,6 +18,8 @@ use std::alloc::Global;
 pub(crate) struct SideEpochs {
     /// The calls that open them, by their window.
     windows: IndexMap<Name, Openings>,
+    /// The window of each, by the number of the call that opens it.
+    openers: IndexMap<u32, Name>,
     /// The number of the call that closes an epoch, by that of the one that opens it.
     closings: IndexMap<u32, u32>,
 }
@@ -29,6 +31,7 @@ impl SideEpochs {
     {
         SideEpochs {
             windows: IndexMap::new(alloc),
+            openers: IndexMap::new(alloc),
             closings: IndexMap::new(alloc),
         }
     }
@@ -45,7 +48,10 @@ impl SideEpochs {
             → opened side call.what ≡ Some (record { window = window.now; group = group.now }) → closed side call.what ≡ None
             → AreEpochs side calls self.old → AreEpochs side (calls ++ call ∷ []) self.new) }
     {
-        add(alloc, &mut self.windows, number, window, group)
+        add(alloc, &mut self.windows, number, window, group)?;
+        let window = window.copy()?;
+        self.openers.insert(number, window)?;
+        Ok(())
     }
 
     /// Takes the next call of the rank, which closes an epoch if one is open.
@@ -69,6 +75,13 @@ impl SideEpochs {
             Some(openings) => openings.with(other),
             None => &[],
         }
+    }
+
+    /// The window of the epoch that the call of this number opens, if it opens one.
+    pub(crate) fn window_of(&self, number: u32) -> Option<&Name>
+        ensures { (side : Side) (calls : List Call) → AreEpochs side calls self.now → option_copied result ≡ option_map (λ opening. opening.window) (opening_at side calls number) }
+    {
+        self.openers.get(&number)
     }
 
     /// The call that closes the epoch of this opening, where there is one.

@@ -1,5 +1,5 @@
 -- What is kept of the posts and starts of a run.
-use Rattle.std.specs.Prelude.{◌≡◌, ℕ, ◌+◌, ◌==◌, List, [], ◌∷◌, ◌++◌, Bool, false, Option, Some, None, MatchOption, nat_eq, unwrap_or, if◌then◌else◌}
+use Rattle.std.specs.Prelude.{◌≡◌, ℕ, ◌+◌, ◌==◌, List, [], ◌∷◌, ◌++◌, Bool, false, Option, Some, None, option_map, MatchOption, nat_eq, unwrap_or, if◌then◌else◌}
 use Rattle.std.specs.Option.{option_map_or}
 use Rattle.std.specs.Map.{lookup}
 use Rattle.std.specs.Cmp.Lexicographic.{pointwise}
@@ -12,7 +12,7 @@ use Rattle.rma_exposure.specs.declared.openings.Openings.{Openings}
 use Rattle.rma_exposure.specs.declared.side_epochs.SideEpochs.{SideEpochs}
 use Rattle.rma_exposure.specs.declared.rank_epochs.RankEpochs.{RankEpochs}
 use Rattle.rma_exposure.specs.declared.exposures.Exposures.{Exposures}
-use Rattle.rma_exposure.specs.Opening.{opens_on, closes_on}
+use Rattle.rma_exposure.specs.Opening.{opening_at, opens_on, closes_on}
 use Rattle.rma_exposure.specs.Closing.{closing_of}
 use Rattle.rma_exposure.specs.Matching.{numbers}
 
@@ -57,6 +57,7 @@ is_pending found number = option_map_or (λ own. own == number) found false
 pub record AreEpochs (side : Side) (calls : List Call) (epochs : SideEpochs) : Type 0 where
   pub numbers_are : (window : List ℕ) (other : ℕ) → numbers_in (kept epochs.windows.entries window) other ≡ numbers side window other calls
   pub pending_are : (window : List ℕ) → pending_in (kept epochs.windows.entries window) ≡ pending_of side window calls
+  pub openers_are : (number : ℕ) → lookup (nat_eq number) epochs.openers.entries ≡ option_map (λ opening. opening.window) (opening_at side calls number)
   pub closings_are : (number : ℕ) → lookup (nat_eq number) epochs.closings.entries ≡ closing_of side calls number
 
 -- what is kept represents the epochs of both sides

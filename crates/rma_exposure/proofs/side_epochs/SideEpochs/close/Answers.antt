@@ -1,4 +1,4 @@
-use Rattle.std.proofs.Common.{◌≡◌, ℕ, length, Some, cond, nat_eq, sym, ap, ◌∙◌}
+use Rattle.std.proofs.Common.{◌≡◌, ℕ, length, Some, cond, nat_eq, refl, sym, ap, ◌∙◌}
 use Rattle.std.specs.Map.{lookup}
 use Rattle.rma_exposure.specs.inside.Epochs.{is_pending}
 use Rattle.rma_exposure.proofs.EpochLemmas.{AreEpochs_closed}
@@ -7,14 +7,14 @@ use Rattle.rma_exposure.proofs.side_epochs.SideEpochs.close.Goals as goal
 pub returns-in_default : goal.returns-in_default
 returns-in_default c = λ side calls call len opens closes are.
     let old = c.args.self.now in
-    AreEpochs_closed side calls call c.args.window.now old (record old { windows = c.close.new.windows }) opens closes c.close.ensures.numbers c.close.ensures.pending
+    AreEpochs_closed side calls call c.args.window.now old (record old { windows = c.close.new.windows }) opens closes c.close.ensures.numbers c.close.ensures.pending refl
     (λ number. sym (ap (λ p. cond (is_pending p number) (Some (length calls)) (lookup (nat_eq number) old.closings.entries)) (sym c.close.ensures.opener ∙ c.in_default.is)))
     are
 
 pub returns : goal.returns
 returns c = λ side calls call len opens closes are.
     let old = c.args.self.now in
-    AreEpochs_closed side calls call c.args.window.now old (record { windows = c.close.new.windows; closings = c.insert.new.self }) opens closes c.close.ensures.numbers c.close.ensures.pending
+    AreEpochs_closed side calls call c.args.window.now old (record old { windows = c.close.new.windows; closings = c.insert.new.self }) opens closes c.close.ensures.numbers c.close.ensures.pending refl
     (λ number.
     c.in_ok-insert.ensures.updates.0 number
     ∙ ap (λ n. cond (nat_eq c.in-Some.opener number) (Some n) (lookup (nat_eq number) old.closings.entries)) (sym len)
