@@ -1,15 +1,13 @@
 -- What one more call of a rank adds.
-use Rattle.std.proofs.Common.{◌≡◌, ℕ, zero, suc, ◌+◌, ◌<◌, ◌≤◌, Bool, true, false, cond, ◌&&◌, ◌∷◌, ◌++◌, List, [], length, Option, Some, None, nat_eq, eqb, refl, sym, ap, ◌∙◌, arith}
+use Rattle.std.proofs.Common.{◌≡◌, ℕ, zero, suc, ◌+◌, ◌<◌, Bool, true, false, cond, ◌∷◌, ◌++◌, List, [], length, Option, Some, None, nat_eq, refl, sym, ap, ◌∙◌, arith}
 use Rattle.std.specs.Option.{option_and_then}
 use Rattle.std.specs.Cmp.Lexicographic.{pointwise, same_text, nat_list_eq_equiv}
-use Rattle.std.proofs.lemmas.Bool.{false≢true}
 use Rattle.std.proofs.lemmas.Bool.Decides.{nat_tests}
 use Rattle.rma_call.specs.Call.{Call}
-use Rattle.rma_call.specs.declared.what.What.{What}
 use Rattle.rma_exposure.specs.declared.side.Side.{Side}
 use Rattle.rma_exposure.specs.Opening.{Opening, opening_at, opened, closed, opens_on, opens_with, closes_on}
 use Rattle.rma_exposure.specs.Closing.{first_closing, closing_at, closing_of}
-use Rattle.rma_exposure.specs.Matching.{numbers_from, numbers}
+use Rattle.rma_exposure.specs.Matching.{numbers_from}
 use Rattle.rma_exposure.specs.inside.Epochs.{pending_after, is_pending}
 
 -- ---- numbers
@@ -189,13 +187,13 @@ closing_at_same side n (x ∷ xs) call (suc i) not = closing_at_same side (n + 1
 
 -- ---- what a call of a number states
 
-next_same : (a b : ℕ) → nat_eq (suc a) (suc b) ≡ nat_eq a b
+pub next_same : (a b : ℕ) → nat_eq (suc a) (suc b) ≡ nat_eq a b
 next_same a b = grind (arith, nat_tests)
 
-zero_next : (n : ℕ) → nat_eq 0 (suc n) ≡ false
+pub zero_next : (n : ℕ) → nat_eq 0 (suc n) ≡ false
 zero_next n = grind (arith, nat_tests)
 
-next_zero : (n : ℕ) → nat_eq (suc n) 0 ≡ false
+pub next_zero : (n : ℕ) → nat_eq (suc n) 0 ≡ false
 next_zero n = grind (arith, nat_tests)
 
 pub opening_at_push : (side : Side) (calls : List Call) (call : Call) (i : ℕ) → opening_at side (calls ++ call ∷ []) i ≡ cond (nat_eq (length calls) i) (opened side call.what) (opening_at side calls i)

@@ -1,5 +1,5 @@
 -- Where a number stands among ascending ones.
-use Rattle.std.proofs.Common.{◌≡◌, ◌≢◌, ℕ, zero, suc, ◌+◌, ◌<◌, ◌≤◌, Bool, true, false, cond, not, ◌∷◌, ◌++◌, List, [], length, Option, Some, None, nat_eq, eqb, get_or, slice_get, position, IfSome, Bor, refl, sym, ap, subst, ◌∙◌, arith, ⊎_elim}
+use Rattle.std.proofs.Common.{◌≡◌, ◌≢◌, ℕ, zero, suc, ◌+◌, ◌<◌, ◌≤◌, Bool, true, false, cond, ◌∷◌, List, [], length, Option, Some, None, eqb, get_or, slice_get, position, IfSome, Bor, refl, sym, subst, arith, ⊎_elim}
 use Rattle.std.specs.Prelude.{MatchOption}
 use Rattle.std.specs.List.{position_or_len, HoldsAt}
 use Rattle.std.specs.Option.{option_copied}

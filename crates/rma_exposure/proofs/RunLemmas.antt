@@ -3,7 +3,6 @@ use Rattle.std.proofs.Common.{◌≡◌, ℕ, zero, suc, ◌+◌, ◌<◌, ◌�
 use Rattle.std.specs.Prelude.{slice_get, IfSome}
 use Rattle.std.specs.Option.{option_and_then}
 use Rattle.std.proofs.lemmas.Bool.Decides.{nat_tests}
-use Rattle.std.proofs.lemmas.Bool.{false≢true}
 use Rattle.rma_base.specs.Limits.{fed_limit}
 use Rattle.std.proofs.lemmas.Bool.{eqb-true}
 use Rattle.rma_base.specs.declared.rank.Rank.{Rank}
@@ -16,6 +15,7 @@ use Rattle.rma_exposure.specs.Opening.{Opening, opened, opens_on, closes_on}
 use Rattle.rma_exposure.specs.Closing.{first_closing, closing_at, closing_of}
 use Rattle.rma_exposure.specs.Matching.{calls_of}
 use Rattle.rma_exposure.specs.Run.{IsRun}
+use Rattle.rma_exposure.proofs.CallLemmas.{next_same, zero_next, next_zero}
 use Rattle.rma_exposure.proofs.WalkLemmas.{taken_there, taken_length}
 
 -- more calls of a rank, of which alone something changes
@@ -66,15 +66,6 @@ begun_length calls rank i own call none there = rw (itself rank, none) (taken_le
 
 -- ---- the calls of a run
 
-next_same : (a b : ℕ) → nat_eq (suc a) (suc b) ≡ nat_eq a b
-next_same a b = grind (arith, nat_tests)
-
-zero_next : (n : ℕ) → nat_eq 0 (suc n) ≡ false
-zero_next n = grind (arith, nat_tests)
-
-next_zero : (n : ℕ) → nat_eq (suc n) 0 ≡ false
-next_zero n = grind (arith, nat_tests)
-
 calls_at_end : (done : List RankCalls) (own : RankCalls) (other : ℕ) → cond (nat_eq (length done) other) (calls_of done other ++ own.calls) (calls_of done other) ≡ calls_of (done ++ own ∷ []) other
 calls_at_end [] own zero = refl
 calls_at_end [] own (suc m) = rw zero_next refl
@@ -111,35 +102,27 @@ calls_are_few ranks rank run = by (slice_get ranks rank) refl
 
 -- ---- closing calls are calls of the rank
 
+below_more : (n m : ℕ) (o : Option ℕ) → IfSome o (λ j. j < n + 1 + m) → IfSome o (λ j. j < n + suc m)
+below_more n m None lt = tt
+below_more n m (Some j) lt = omega arith
+
 first_below : (side : Side) (window : List ℕ) (n : ℕ) (calls : List Call) → IfSome (first_closing side window n calls) (λ j. j < n + length calls)
 first_below side window n [] = tt
 first_below side window n (c ∷ cs) = by (closes_on side window c) (opens_on side window c) (first_below side window (n + 1) cs)
   where
-    later : (o : Option ℕ) → IfSome o (λ j. j < n + 1 + length cs) → IfSome o (λ j. j < n + suc (length cs))
-    later None lt = tt
-    later (Some j) lt = omega arith
-
     by : (a b : Bool) → IfSome (first_closing side window (n + 1) cs) (λ j. j < n + 1 + length cs) → IfSome (cond a (Some n) (cond b None (first_closing side window (n + 1) cs))) (λ j. j < n + suc (length cs))
     by true b rest = omega arith
     by false true rest = tt
-    by false false rest = later (first_closing side window (n + 1) cs) rest
+    by false false rest = below_more n (length cs) (first_closing side window (n + 1) cs) rest
 
 closing_at_below : (side : Side) (n : ℕ) (calls : List Call) (i : ℕ) → IfSome (closing_at side n calls i) (λ j. j < n + length calls)
 closing_at_below side n [] i = tt
 closing_at_below side n (c ∷ cs) zero = by (opened side c.what)
   where
-    later : (o : Option ℕ) → IfSome o (λ j. j < n + 1 + length cs) → IfSome o (λ j. j < n + suc (length cs))
-    later None lt = tt
-    later (Some j) lt = omega arith
-
     by : (o : Option Opening) → IfSome (option_and_then (λ (opening : Opening). first_closing side opening.window (n + 1) cs) o) (λ j. j < n + suc (length cs))
     by None = tt
-    by (Some opening) = later (first_closing side opening.window (n + 1) cs) (first_below side opening.window (n + 1) cs)
-closing_at_below side n (c ∷ cs) (suc i) = later (closing_at side (n + 1) cs i) (closing_at_below side (n + 1) cs i)
-  where
-    later : (o : Option ℕ) → IfSome o (λ j. j < n + 1 + length cs) → IfSome o (λ j. j < n + suc (length cs))
-    later None lt = tt
-    later (Some j) lt = omega arith
+    by (Some opening) = below_more n (length cs) (first_closing side opening.window (n + 1) cs) (first_below side opening.window (n + 1) cs)
+closing_at_below side n (c ∷ cs) (suc i) = below_more n (length cs) (closing_at side (n + 1) cs i) (closing_at_below side (n + 1) cs i)
 
 pub closing_below : (side : Side) (calls : List Call) (i : ℕ) (found : Option ℕ) → found ≡ closing_of side calls i → length calls ≤ fed_limit → IfSome found (λ j. j < 2 ^ 31)
 closing_below side calls i found is few = by found (subst (λ o. IfSome o (λ j. j < 0 + length calls)) (sym is) (closing_at_below side 0 calls i))

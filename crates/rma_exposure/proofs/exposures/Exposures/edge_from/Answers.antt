@@ -1,8 +1,4 @@
-use Rattle.std.proofs.Common.{◌≡◌, ℕ, Option, Some, None, refl, sym, ap, ◌∙◌}
-use Rattle.std.specs.Prelude.{option_map}
-use Rattle.std.specs.Option.{option_and_then}
-use Rattle.rma_link.specs.Point.{entry, return_of}
-use Rattle.rma_link.specs.declared.edge.Edge.{Edge}
+use Rattle.std.proofs.Common.{◌≡◌, Some, None, refl, sym, ◌∙◌}
 use Rattle.rma_exposure.specs.declared.side.Side.TheVariants.{Exposure, Access}
 use Rattle.rma_exposure.specs.Closing.{closing_of}
 use Rattle.rma_exposure.specs.Matching.{calls_of, match_of}

@@ -1,9 +1,8 @@
-use Rattle.std.proofs.Common.{◌≡◌, ℕ, List, Bool, false, not, ◌||◌, ◌∷◌, [], get_or, take, sym, ap, ◌∙◌}
+use Rattle.std.proofs.Common.{◌≡◌, ℕ, Bool, false, not, ◌||◌, ◌∷◌, [], get_or, take, sym, ap, ◌∙◌}
 use Rattle.std.specs.Prelude.{is_none}
 use Rattle.std.specs.List.{list_any}
 use Rattle.std.proofs.lemmas.List.{take_more, take_all}
 use Rattle.std.proofs.lemmas.List.Folds.{list_any-append}
-use Rattle.rma_call.specs.Call.{Call}
 use Rattle.rma_exposure.specs.Matching.{match_of}
 use Rattle.rma_exposure.proofs.exposures.Exposures.lacks_match.Goals as goal
 

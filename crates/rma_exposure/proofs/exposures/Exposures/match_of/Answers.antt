@@ -1,7 +1,5 @@
-use Rattle.std.proofs.Common.{◌≡◌, ◌≢◌, ℕ, ◌<◌, ◌≤◌, List, length, Some, None, Ok, Err, get_or, slice_get, position, sym, ap, subst, ◌∙◌, arith, eqb}
+use Rattle.std.proofs.Common.{◌≡◌, Some, None, Ok, Err, slice_get, position, sym, ap, subst, ◌∙◌, eqb}
 use Rattle.std.specs.Option.{option_and_then}
-use Rattle.std.specs.List.Sorted.{IsBinarySearchResult}
-use Rattle.std.specs.Ordering.{nat_cmp}
 use Rattle.std.proofs.lemmas.List.Sorted.{searched}
 use Rattle.rma_exposure.specs.Opening.{opposite}
 use Rattle.rma_exposure.specs.Matching.{numbers}

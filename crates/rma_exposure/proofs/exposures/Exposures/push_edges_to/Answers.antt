@@ -1,4 +1,4 @@
-use Rattle.std.proofs.Common.{◌≡◌, ℕ, [], ◌++◌, Some, Option, get_or, slice_get, ap, ◌∙◌}
+use Rattle.std.proofs.Common.{ℕ, [], ◌++◌, Option, get_or, ap, ◌∙◌}
 use Rattle.std.specs.List.{cons_option}
 use Rattle.std.proofs.lemmas.Option.{slice_get-get_or}
 use Rattle.rma_link.specs.declared.edge.Edge.{Edge}

@@ -1,6 +1,6 @@
-use Rattle.std.proofs.Common.{◌≡◌, ◌<◌, ◌≤◌, ℕ, List, ◌∷◌, [], length, Some, slice_get, take, sym, ap, subst, ◌∙◌, arith}
+use Rattle.std.proofs.Common.{◌≡◌, ◌∷◌, [], length, Some, slice_get, take, ap, subst, ◌∙◌, arith}
 use Rattle.std.proofs.lemmas.List.{take_all}
-use Rattle.rma_call.specs.Call.{Call, call_of}
+use Rattle.rma_call.specs.Call.{call_of}
 use Rattle.rma_exposure.specs.inside.Epochs.{Represents, with_calls}
 use Rattle.rma_exposure.proofs.RunLemmas.{Represents_begun, Represents_more, begun_length}
 use Rattle.rma_exposure.proofs.exposures.Exposures.take_all.Goals as goal

@@ -1,4 +1,4 @@
-use Rattle.std.proofs.Common.{◌≡◌, ◌++◌, ◌∷◌, [], ℕ, Some, cond, nat_eq, take, refl, get_or, sym, ap, subst, ◌∙◌, append-nil}
+use Rattle.std.proofs.Common.{◌++◌, ◌∷◌, [], cond, nat_eq, refl, get_or, sym, ap, subst, ◌∙◌, append-nil}
 use Rattle.std.proofs.lemmas.List.{take_all}
 use Rattle.std.specs.List.Sorted.{IsStrictlyIncreasing}
 use Rattle.rma_base.specs.RankSet.{has_number}

@@ -1,6 +1,5 @@
-use Rattle.std.proofs.Common.{◌≡◌, ℕ, List, length, rules, ap, ◌∙◌}
-use Rattle.rma_call.specs.Call.{Call, call_of, what_of}
-use Rattle.rma_call.specs.declared.what.What.{What}
+use Rattle.std.proofs.Common.{◌≡◌, rules, ap, ◌∙◌}
+use Rattle.rma_call.specs.Call.{call_of, what_of}
 use Rattle.rma_call.specs.declared.what.What.TheVariants.{Sync}
 use Rattle.rma_call.specs.declared.what.SyncCall.TheVariants.{Epoch}
 use Rattle.rma_call.specs.declared.epoch.EpochCall.{EpochCall}

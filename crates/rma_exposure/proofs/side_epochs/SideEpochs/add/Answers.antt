@@ -1,12 +1,8 @@
-use Rattle.std.proofs.Common.{◌≡◌, ℕ, List, ◌++◌, ◌∷◌, [], Some, None, length, true, false, cond, ap, ◌∙◌, refl, subst, sym}
+use Rattle.std.proofs.Common.{Some, cond, ap, ◌∙◌, refl, subst, sym}
 use Rattle.std.specs.Prelude.{nat_eq}
 use Rattle.std.specs.Map.{lookup}
-use Rattle.std.specs.Cmp.Lexicographic.{pointwise}
-use Rattle.rma_call.specs.Call.{Call}
-use Rattle.rma_exposure.specs.declared.side.Side.{Side}
-use Rattle.rma_exposure.specs.declared.side_epochs.SideEpochs.{SideEpochs}
-use Rattle.rma_exposure.specs.Opening.{Opening, opened, closed}
-use Rattle.rma_exposure.specs.inside.Epochs.{kept, IsOpened, AreEpochs}
+use Rattle.rma_exposure.specs.Opening.{Opening}
+use Rattle.rma_exposure.specs.inside.Epochs.{kept, IsOpened}
 use Rattle.rma_exposure.proofs.EpochLemmas.{AreEpochs_added}
 use Rattle.rma_exposure.proofs.side_epochs.SideEpochs.add.Goals as goal
 

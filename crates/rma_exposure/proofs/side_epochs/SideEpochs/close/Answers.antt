@@ -1,4 +1,4 @@
-use Rattle.std.proofs.Common.{◌≡◌, ℕ, length, Some, cond, nat_eq, refl, sym, ap, ◌∙◌}
+use Rattle.std.proofs.Common.{length, Some, cond, nat_eq, refl, sym, ap, ◌∙◌}
 use Rattle.std.specs.Map.{lookup}
 use Rattle.rma_exposure.specs.inside.Epochs.{is_pending}
 use Rattle.rma_exposure.proofs.EpochLemmas.{AreEpochs_closed}
