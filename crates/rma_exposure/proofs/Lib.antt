@@ -1,3 +1,4 @@
+mod CheckLemmas
 pub mod GroupLemmas
 pub mod CallLemmas
 pub mod EpochLemmas

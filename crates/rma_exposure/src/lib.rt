@@ -15,8 +15,10 @@ mod exposures;
 mod fault;
 mod openings;
 mod rank_epochs;
+mod run;
 mod side;
 mod side_epochs;
 mod whole;
 
 pub use exposures::Exposures;
+pub use run::is_run;
