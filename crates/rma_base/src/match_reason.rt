@@ -23,6 +23,11 @@ pub enum MatchReason {
     WindowDiffers,
     /// A communicator that is declared with other ranks than by the first rank.
     CommDiffers,
+    /// A collective call that moves data, and differs from that of the first member at the same place: another call, root or
+    /// number of bytes, or after another number of barriers and window creations.
+    DataDiffers,
+    /// A collective call that moves data, and that some member does not make.
+    DataMissing,
 }
 
 impl MatchReason {
@@ -40,6 +45,8 @@ impl MatchReason {
             MatchReason::StartUnmatched => "start_unmatched",
             MatchReason::WindowDiffers => "window_differs",
             MatchReason::CommDiffers => "comm_differs",
+            MatchReason::DataDiffers => "data_differs",
+            MatchReason::DataMissing => "data_missing",
         }
     }
 }

@@ -1,6 +1,9 @@
 //! Calls of a few ranks, and what the rules of MPI 4.0 say of how they match.
 use rma_base::{AccOps, LineNo, MatchReason, Name, Rank, RankSet, Sequence, WinModel};
-use rma_call::{CallList, FrameCall, MatchFault, RankCalls, SyncCall, What, WindowCall};
+use rma_call::{
+    Assertion, Assertions, CallList, EpochCall, FrameCall, MatchFault, MovingCall, RankCalls, SyncCall,
+    What, WindowCall,
+};
 use rma_sync::match_faults;
 use std::alloc::Global;
 use std::process::Abort;
@@ -13,10 +16,19 @@ enum Short<'a> {
     Comm(&'a str, u32),
     Barrier(&'a str),
     Create(&'a str, &'a str, WinModel, AccOps),
+    /// A dynamic window on `world`.
+    Dynamic(&'a str),
     Free(&'a str),
+    Fence(&'a str, &'a [Assertion]),
+    /// From this root, so many bytes, on `world`.
+    Bcast(u32, u64),
+    /// To this root, so many bytes, on `world`.
+    Reduce(u32, u64),
+    /// So many bytes, on `world`.
+    Allreduce(u64),
 }
 
-use Short::{Barrier, Comm, Create, Free};
+use Short::{Allreduce, Barrier, Bcast, Comm, Create, Dynamic, Fence, Free, Reduce};
 
 fn what(alloc: Global, short: &Short<'_>) -> Result<SyncCall, Fail> {
     let call = match short {
@@ -37,11 +49,53 @@ fn what(alloc: Global, short: &Short<'_>) -> Result<SyncCall, Fail> {
             ops: *ops,
             dynamic: false,
         }),
+        Dynamic(window) => SyncCall::Window(WindowCall::Create {
+            window: Name::new(alloc, window.as_bytes())?,
+            comm: world(alloc)?,
+            base: 0,
+            size: 281_474_976_710_656,
+            unit: 1,
+            model: WinModel::Unified,
+            ops: AccOps::SameOp,
+            dynamic: true,
+        }),
         Free(window) => SyncCall::Window(WindowCall::Free {
             window: Name::new(alloc, window.as_bytes())?,
         }),
+        Fence(window, words) => SyncCall::Epoch(EpochCall::Fence {
+            window: Name::new(alloc, window.as_bytes())?,
+            assertions: all(words),
+        }),
+        Bcast(root, bytes) => SyncCall::Moving(MovingCall::Bcast {
+            root: Rank(*root),
+            bytes: *bytes,
+            comm: world(alloc)?,
+        }),
+        Reduce(root, bytes) => SyncCall::Moving(MovingCall::Reduce {
+            root: Rank(*root),
+            bytes: *bytes,
+            comm: world(alloc)?,
+        }),
+        Allreduce(bytes) => SyncCall::Moving(MovingCall::Allreduce {
+            bytes: *bytes,
+            comm: world(alloc)?,
+        }),
     };
     Ok(call)
+}
+
+/// The communicator of all ranks.
+fn world(alloc: Global) -> Result<Name, Fail> {
+    Ok(Name::new(alloc, b"world")?)
+}
+
+/// All these words.
+fn all(words: &[Assertion]) -> Assertions {
+    let mut assertions = Assertions::none();
+    for word in words {
+        assertions = assertions.with(*word);
+    }
+    assertions
 }
 
 /// The ranks below this one.
@@ -85,8 +139,13 @@ fn check(
 
 /// A call that some member does not make.
 fn missing(rank: u32, line: u32) -> MatchFault {
+    lacks(MatchReason::CollectiveMissing, rank, line)
+}
+
+/// A call of which this reason says that some member does not make it.
+fn lacks(reason: MatchReason, rank: u32, line: u32) -> MatchFault {
     MatchFault {
-        reason: MatchReason::CollectiveMissing,
+        reason,
         rank: Rank(rank),
         line: LineNo(line),
         other: None,
@@ -183,5 +242,87 @@ fn windows_and_communicators_are_the_same_on_all_ranks(rt: HostRuntime) -> Resul
             &[Barrier("c"), Barrier("c")],
         ],
         &[missing(2, 3)],
+    )
+}
+
+#[test]
+fn a_dynamic_window_is_created_as_one_by_all_ranks(rt: HostRuntime) -> Result<(), Fail> {
+    let alloc = rt.alloc();
+    let w = Create("w", "world", WinModel::Unified, AccOps::SameOp);
+    check(
+        &rt,
+        alloc,
+        &[&[w], &[Dynamic("w")], &[w]],
+        &[differs(MatchReason::WindowDiffers, 1, 2, (0, 2))],
+    )
+}
+
+#[test]
+fn fences_of_one_round_have_the_same_two_words(rt: HostRuntime) -> Result<(), Fail> {
+    let alloc = rt.alloc();
+    let v = Create("v", "world", WinModel::Unified, AccOps::SameOp);
+    let w = Create("w", "world", WinModel::Unified, AccOps::SameOp);
+    let noprecede = Fence("w", &[Assertion::Noprecede]);
+    let plain = Fence("w", &[]);
+    check(
+        &rt,
+        alloc,
+        &[&[w, noprecede], &[w, plain]],
+        &[differs(MatchReason::AssertDiffers, 1, 3, (0, 3))],
+    )?;
+    check(
+        &rt,
+        alloc,
+        &[
+            &[w, Fence("w", &[Assertion::Nostore])],
+            &[w, Fence("w", &[Assertion::Noput])],
+        ],
+        &[],
+    )?;
+    check(
+        &rt,
+        alloc,
+        &[
+            &[v, w, Fence("v", &[]), noprecede],
+            &[v, w, noprecede, Fence("v", &[])],
+        ],
+        &[],
+    )?;
+    check(
+        &rt,
+        alloc,
+        &[&[w, plain, plain], &[w, plain]],
+        &[missing(0, 4)],
+    )
+}
+
+#[test]
+fn calls_that_move_data_agree(rt: HostRuntime) -> Result<(), Fail> {
+    let alloc = rt.alloc();
+    let reason = MatchReason::DataDiffers;
+    check(
+        &rt,
+        alloc,
+        &[&[Bcast(0, 4)], &[Bcast(0, 8)], &[Bcast(1, 4)], &[Reduce(0, 4)]],
+        &[
+            differs(reason, 1, 2, (0, 2)),
+            differs(reason, 2, 2, (0, 2)),
+            differs(reason, 3, 2, (0, 2)),
+        ],
+    )?;
+    check(
+        &rt,
+        alloc,
+        &[
+            &[Barrier("world"), Allreduce(8)],
+            &[Allreduce(8), Barrier("world")],
+        ],
+        &[differs(reason, 1, 2, (0, 3))],
+    )?;
+    check(
+        &rt,
+        alloc,
+        &[&[Bcast(0, 4), Barrier("world"), Bcast(0, 4)], &[Bcast(0, 4)]],
+        &[missing(0, 3), lacks(MatchReason::DataMissing, 0, 4)],
     )
 }

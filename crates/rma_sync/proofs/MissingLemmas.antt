@@ -18,7 +18,8 @@ use Rattle.rma_sync.specs.Collective.{made, named, is_on, count_of, walked, walk
 use Rattle.rma_sync.specs.inside.Scan.{IsBalanced, AreBalanced}
 use Rattle.rma_sync.specs.Member.{members}
 use Rattle.rma_sync.specs.inside.ByRank.{Numbers, AreCountsByRank, count_in_rank, is_reached}
-use Rattle.rma_sync.specs.Missing.{lacks, fault_if, missing_of, missing_at, missing_calls}
+use Rattle.rma_call.specs.declared.match_fault.MatchFault.{MatchFault}
+use Rattle.rma_sync.specs.Missing.{lacks, missing_reason, fault_if, missing_of, missing_at, missing_calls, missing_data}
 use Rattle.rma_sync.specs.inside.Missing.{IsMissingOfKind, Tells}
 use Rattle.rma_sync.proofs.SoFarLemmas.{is_on_some}
 use Rattle.rma_sync.proofs.ByRankLemmas.{count_in_rank_made}
@@ -91,39 +92,58 @@ module _ (ranks : List RankCalls) (balanced : (kind : Kind) (name : List ℕ) �
   missing_of_none kind rank before after call few = by (named kind call.what) refl
     where
       by : (o : Option (List ℕ)) → named kind call.what ≡ o →
-          option_and_then (λ (n : List ℕ). fault_if (lacks kind ranks n (count_of kind n before)) rank call) o ≡ None
+          option_and_then (λ (n : List ℕ). fault_if (lacks kind ranks n (count_of kind n before)) (missing_reason kind) rank call) o ≡ None
       by None e = refl
       by (Some name) e =
           let on : is_on kind name call ≡ true = is_on_some kind name name call e ∙ nat_list_eq_equiv.refl name in
           let split = count_of_split kind name before after call on in
           let enough = few name in
           let lt : count_of kind name before < (balanced kind name).0 = omega arith in
-          ap (λ b. fault_if b rank call)
+          ap (λ b. fault_if b (missing_reason kind) rank call)
           (none_lacks (λ m. made kind ranks m name) (balanced kind name).0 (count_of kind name before) lt (members kind ranks name) (balanced kind name).2)
 
-  walked_none : (rank : Rank) (before calls : List Call) → ((kind : Kind) (name : List ℕ) → count_of kind name (before ++ calls) ≤ (balanced kind name).0) →
-      walked (missing_at ranks) rank before calls ≡ []
-  walked_none rank before [] few = refl
-  walked_none rank before (call ∷ calls) few =
-      let collective = missing_of_none kind.Collective rank before calls call (few kind.Collective) in
-      let free = missing_of_none kind.Free rank before calls call (few kind.Free) in
-      ap (λ o. cons_option (option_or o (missing_of kind.Free ranks rank before call)) (walked (missing_at ranks) rank (before ++ call ∷ []) calls)) collective
-      ∙ ap (λ o. cons_option o (walked (missing_at ranks) rank (before ++ call ∷ []) calls)) free
-      ∙ walked_none rank (before ++ call ∷ []) calls
+  -- nothing is told of the calls of a rank, where nothing is told of any
+  walked_none : (f : Rank → List Call → Call → Option MatchFault) →
+      ((rank : Rank) (before after : List Call) (call : Call) → ((kind : Kind) (name : List ℕ) → count_of kind name (before ++ call ∷ after) ≤ (balanced kind name).0) →
+      f rank before call ≡ None) →
+      (rank : Rank) (before calls : List Call) → ((kind : Kind) (name : List ℕ) → count_of kind name (before ++ calls) ≤ (balanced kind name).0) →
+      walked f rank before calls ≡ []
+  walked_none f none rank before [] few = refl
+  walked_none f none rank before (call ∷ calls) few =
+      ap (λ o. cons_option o (walked f rank (before ++ call ∷ []) calls)) (none rank before calls call few)
+      ∙ walked_none f none rank (before ++ call ∷ []) calls
       (λ kind name. subst (λ l. count_of kind name l ≤ (balanced kind name).0) (sym (append_assoc before (call ∷ []) calls)) (few kind name))
 
-  all_none : (some : List RankCalls) → ((kind : Kind) (name : List ℕ) (m : ℕ) → made kind some m name ≤ (balanced kind name).0) → walked_all (missing_at ranks) some ≡ []
-  all_none [] few = refl
-  all_none (r ∷ some) few =
-      ap (λ l. l ++ walked_all (missing_at ranks) some) (walked_none r.rank [] r.calls (λ kind name. few kind name 0))
-      ∙ all_none some (λ kind name m. few kind name (suc m))
+  all_none : (f : Rank → List Call → Call → Option MatchFault) →
+      ((rank : Rank) (before after : List Call) (call : Call) → ((kind : Kind) (name : List ℕ) → count_of kind name (before ++ call ∷ after) ≤ (balanced kind name).0) →
+      f rank before call ≡ None) →
+      (some : List RankCalls) → ((kind : Kind) (name : List ℕ) (m : ℕ) → made kind some m name ≤ (balanced kind name).0) → walked_all f some ≡ []
+  all_none f none [] few = refl
+  all_none f none (r ∷ some) few =
+      ap (λ l. l ++ walked_all f some) (walked_none f none r.rank [] r.calls (λ kind name. few kind name 0))
+      ∙ all_none f none some (λ kind name m. few kind name (suc m))
 
-by_kind : (ranks : List RankCalls) → AreBalanced kind.Collective ranks → AreBalanced kind.Free ranks → (k : Kind) (name : List ℕ) → IsBalanced k ranks name
-by_kind ranks collectives frees kind.Collective name = collectives name
-by_kind ranks collectives frees kind.Free name = frees name
+  missing_at_none : (rank : Rank) (before after : List Call) (call : Call) →
+      ((kind : Kind) (name : List ℕ) → count_of kind name (before ++ call ∷ after) ≤ (balanced kind name).0) → missing_at ranks rank before call ≡ None
+  missing_at_none rank before after call few =
+      let none = λ (k : Kind). missing_of_none k rank before after call (few k) in
+      ap (λ o. option_or (option_or o (missing_of kind.Free ranks rank before call)) (missing_of kind.Fence ranks rank before call)) (none kind.Collective)
+      ∙ ap (λ o. option_or o (missing_of kind.Fence ranks rank before call)) (none kind.Free)
+      ∙ none kind.Fence
 
--- no call is missing
-pub missing_calls_none : (ranks : List RankCalls) → AreBalanced kind.Collective ranks → AreBalanced kind.Free ranks → missing_calls ranks ≡ []
-missing_calls_none ranks collectives frees =
-    let balanced = by_kind ranks collectives frees in
-    all_none ranks balanced ranks (λ kind name m. (balanced kind name).1 m)
+  -- no call is missing
+  pub missing_calls_none : missing_calls ranks ≡ []
+  missing_calls_none = all_none (missing_at ranks) missing_at_none ranks (λ kind name m. (balanced kind name).1 m)
+
+  pub missing_data_none : missing_data ranks ≡ []
+  missing_data_none =
+      all_none (missing_of kind.Moving ranks) (λ rank before after call few. missing_of_none kind.Moving rank before after call (few kind.Moving)) ranks
+      (λ kind name m. (balanced kind name).1 m)
+
+-- the same of each kind
+pub by_kind : (ranks : List RankCalls) → AreBalanced kind.Collective ranks → AreBalanced kind.Free ranks → AreBalanced kind.Fence ranks → AreBalanced kind.Moving ranks →
+    (k : Kind) (name : List ℕ) → IsBalanced k ranks name
+by_kind ranks collectives frees fences movings kind.Collective name = collectives name
+by_kind ranks collectives frees fences movings kind.Free name = frees name
+by_kind ranks collectives frees fences movings kind.Fence name = fences name
+by_kind ranks collectives frees fences movings kind.Moving name = movings name

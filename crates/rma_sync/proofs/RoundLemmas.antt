@@ -1,8 +1,9 @@
--- Collective calls that join, one after the other.
+-- Calls of a kind that join, one after the other.
 use Rattle.std.proofs.Common.{◌≡◌, ℕ, zero, suc, ◌+◌, ◌<◌, ◌≤◌, ◌≢◌, max, length, nat_lt, arith, subst, Bool, true, false, cond, List, [], ◌∷◌, ◌++◌, Option, Some, None, nat_eq, ◌&&◌, eqb, refl, sym, ap, ◌∙◌, append_assoc, append-nil, eq-eqb}
 use Rattle.std.specs.Prelude.{find, option_map, slice_get, ◌==◌}
 use Rattle.std.specs.List.{filter_map, cons_option}
 use Rattle.std.specs.Option.{option_or, option_and_then}
+use Rattle.std.specs.Bool.{beq}
 use Rattle.std.specs.Cmp.Lexicographic.{pointwise, nat_list_eq_equiv, same_text}
 use Rattle.std.proofs.lemmas.Bool.{eqb-true}
 use Rattle.std.proofs.lemmas.Bool.Decides.{nat_tests}
@@ -12,108 +13,142 @@ use Rattle.std.proofs.lemmas.List.Elements.{filter_map-append}
 use Rattle.std.proofs.lemmas.List.Folds.{find-append}
 use Rattle.rma_call.specs.Call.{Call, RankCalls}
 use Rattle.rma_call.specs.declared.match_fault.MatchFault.{MatchFault}
-use Rattle.rma_sync.specs.declared.round.CommRounds.{CommRounds}
-use Rattle.rma_sync.specs.declared.kind.Kind.TheVariants as kind
+use Rattle.rma_sync.specs.declared.round.NameRounds.{NameRounds}
+use Rattle.rma_sync.specs.declared.kind.Kind.{Kind}
+use Rattle.rma_sync.specs.declared.argument.Movement.{Movement}
+use Rattle.rma_sync.specs.declared.argument.Movement.TheVariants.{Bcast, Scatter, Gather, Reduce, Allreduce, Allgather, Alltoall}
+use Rattle.rma_sync.specs.declared.argument.Transfer.{Transfer}
+use Rattle.rma_sync.specs.declared.argument.Arguments.{Arguments}
+use Rattle.rma_sync.specs.declared.argument.Arguments.TheVariants.{Barrier, Creation, Fence, Moving, Nothing}
 use Rattle.rma_sync.specs.declared.call_count.CallCounts.{CallCounts}
 use Rattle.rma_sync.specs.declared.round.First.{First}
 use Rattle.rma_sync.specs.declared.round.Rounds.{Rounds}
-use Rattle.rma_sync.specs.Collective.{Collective, collectives, collective_at, comm_of, window_of, count_of, made_on, is_on, so_far}
+use Rattle.rma_sync.specs.Argument.{arguments_of, same_movement, same_transfer, same_arguments}
+use Rattle.rma_sync.specs.Collective.{RoundCall, round_calls, round_call_at, named, count_of, place_of, made_on, is_on, so_far}
 use Rattle.rma_sync.specs.inside.CallCount.{with_current, number_in, counted}
-use Rattle.rma_sync.specs.Round.{is_at, same_window, kept, differs, collective_difference, collective_differences}
-use Rattle.rma_sync.specs.inside.Round.{first_at, own_of, with_first, joined, rounds_of, IsJoined, HaveJoined, AreCommRounds, AreRounds}
+use Rattle.rma_sync.specs.Round.{is_at, kept, differs, round_difference, round_differences}
+use Rattle.rma_sync.specs.inside.Round.{first_at, own_of, with_first, joined, rounds_of, IsJoined, HaveJoined, AreNameRounds, AreRounds}
 use Rattle.rma_sync.proofs.CallCountLemmas.{number_in_is}
-use Rattle.rma_sync.proofs.SoFarLemmas.{collectives_more, made_now, AreCallCounts_scanned, is_on_none, is_on_some}
+use Rattle.rma_sync.proofs.SoFarLemmas.{round_calls_more, made_now, AreCallCounts_scanned, is_on_none, is_on_some}
 
 abbrev Firsts : Type 0
-Firsts = List (List ℕ × CommRounds)
+Firsts = List (List ℕ × NameRounds)
 
 -- ---- one more fault
 
 same_text_refl : (xs : List ℕ) → pointwise nat_eq xs xs ≡ true
 same_text_refl xs = nat_list_eq_equiv.refl xs
 
-is_at_refl : (c : Collective) → is_at c.comm c.number c ≡ true
-is_at_refl c = ap (λ b. b && c.number == c.number) (same_text_refl c.comm) ∙ eq-eqb c.number c.number refl
+is_at_refl : (c : RoundCall) → is_at c.name c.number c ≡ true
+is_at_refl c = ap (λ b. b && c.number == c.number) (same_text_refl c.name) ∙ eq-eqb c.number c.number refl
 
-same_window_refl : (w : Option (List ℕ)) → same_window w w ≡ true
-same_window_refl None = refl
-same_window_refl (Some w) = same_text_refl w
+same_movement_refl : (m : Movement) → same_movement m m ≡ true
+same_movement_refl (Bcast root) = eq-eqb root.0 root.0 refl
+same_movement_refl (Scatter root) = eq-eqb root.0 root.0 refl
+same_movement_refl (Gather root) = eq-eqb root.0 root.0 refl
+same_movement_refl (Reduce root) = eq-eqb root.0 root.0 refl
+same_movement_refl Allreduce = refl
+same_movement_refl Allgather = refl
+same_movement_refl Alltoall = refl
 
-differs_refl : (c : Collective) → differs (kept c) (kept c) ≡ None
-differs_refl c = rw (same_window_refl c.window) refl
+same_transfer_refl : (t : Transfer) → same_transfer t t ≡ true
+same_transfer_refl t =
+    rw (same_movement_refl t.movement) (ap (λ b. b && t.place == t.place) (eq-eqb t.bytes t.bytes refl) ∙ eq-eqb t.place t.place refl)
 
--- what a call is found to be in its round, or one before it
-here : (own : Collective) (before after : List Collective) →
-    find (is_at own.comm own.number) (before ++ own ∷ after) ≡ option_or (find (is_at own.comm own.number) before) (Some own)
-here own before after =
-    let p = is_at own.comm own.number in
-    find-append p before (own ∷ after) ∙ ap (λ b. option_or (find p before) (cond b (Some own) (find p after))) (is_at_refl own)
+same_words_refl : (noprecede nosucceed : Bool) → (beq noprecede noprecede && beq nosucceed nosucceed) ≡ true
+same_words_refl true true = refl
+same_words_refl true false = refl
+same_words_refl false true = refl
+same_words_refl false false = refl
 
-some_or : {X : Type 0} (a : Option X) (x : X) (b : Option X) → option_or (option_or a (Some x)) b ≡ option_or a (Some x)
-some_or None x b = refl
-some_or (Some y) x b = refl
+same_arguments_refl : (a : Arguments) → same_arguments a a ≡ true
+same_arguments_refl Barrier = refl
+same_arguments_refl (Creation window) = same_text_refl window
+same_arguments_refl (Fence noprecede nosucceed) = same_words_refl noprecede nosucceed
+same_arguments_refl (Moving transfer) = same_transfer_refl transfer
+same_arguments_refl Nothing = refl
 
--- the first call of a round stays the first when further calls come
-found : (own : Collective) (before after more : List Collective) →
-    collective_difference ((before ++ own ∷ after) ++ more) own ≡ collective_difference (before ++ own ∷ after) own
-found own before after more =
-    let p = is_at own.comm own.number in
-    let at = here own before after in
-    ap (λ o. option_and_then (λ f. differs (kept f) (kept own)) o)
-    (find-append p (before ++ own ∷ after) more ∙ ap (λ o. option_or o (find p more)) at ∙ some_or (find p before) own (find p more) ∙ sym at)
+module _ (kind : Kind) where
+  differs_refl : (c : RoundCall) → differs kind (kept c) (kept c) ≡ None
+  differs_refl c = rw (same_arguments_refl c.arguments) refl
 
--- later calls change no fault of those before
-earlier : (before xs more : List Collective) → filter_map (collective_difference ((before ++ xs) ++ more)) xs ≡ filter_map (collective_difference (before ++ xs)) xs
-earlier before [] more = refl
-earlier before (x ∷ xs) more =
-    let shift = append_assoc before (x ∷ []) xs in
-    ap (λ d. cons_option d (filter_map (collective_difference ((before ++ x ∷ xs) ++ more)) xs)) (found x before xs more)
-    ∙ ap (cons_option (collective_difference (before ++ x ∷ xs) x))
-    (ap (λ l. filter_map (collective_difference (l ++ more)) xs) (sym shift) ∙ earlier (before ++ x ∷ []) xs more ∙ ap (λ l. filter_map (collective_difference l) xs) shift)
+  -- what a call is found to be in its round, or one before it
+  here : (own : RoundCall) (before after : List RoundCall) →
+      find (is_at own.name own.number) (before ++ own ∷ after) ≡ option_or (find (is_at own.name own.number) before) (Some own)
+  here own before after =
+      let p = is_at own.name own.number in
+      find-append p before (own ∷ after) ∙ ap (λ b. option_or (find p before) (cond b (Some own) (find p after))) (is_at_refl own)
 
-last : (seen : List Collective) (own : Collective) → collective_difference (seen ++ own ∷ []) own ≡ collective_difference seen own
-last seen own = ap (λ o. option_and_then (λ f. differs (kept f) (kept own)) o) (here own seen []) ∙ by (find (is_at own.comm own.number) seen)
-  where
-    by : (o : Option Collective) → option_and_then (λ f. differs (kept f) (kept own)) (option_or o (Some own)) ≡ option_and_then (λ f. differs (kept f) (kept own)) o
-    by None = differs_refl own
-    by (Some f) = refl
+  some_or : {X : Type 0} (a : Option X) (x : X) (b : Option X) → option_or (option_or a (Some x)) b ≡ option_or a (Some x)
+  some_or None x b = refl
+  some_or (Some y) x b = refl
 
-collective_differences_push : (seen : List Collective) (own : Collective) →
-    collective_differences (seen ++ own ∷ []) ≡ collective_differences seen ++ cons_option (collective_difference seen own) []
-collective_differences_push seen own =
-    filter_map-append (collective_difference (seen ++ own ∷ [])) seen (own ∷ [])
-    ∙ ap (λ l. l ++ cons_option (collective_difference (seen ++ own ∷ []) own) []) (earlier [] seen (own ∷ []))
-    ∙ ap (λ d. collective_differences seen ++ cons_option d []) (last seen own)
+  -- the first call of a round stays the first when further calls come
+  found : (own : RoundCall) (before after more : List RoundCall) →
+      round_difference kind ((before ++ own ∷ after) ++ more) own ≡ round_difference kind (before ++ own ∷ after) own
+  found own before after more =
+      let p = is_at own.name own.number in
+      let at = here own before after in
+      ap (λ o. option_and_then (λ f. differs kind (kept f) (kept own)) o)
+      (find-append p (before ++ own ∷ after) more ∙ ap (λ o. option_or o (find p more)) at ∙ some_or (find p before) own (find p more) ∙ sym at)
 
-mapped : (own : Collective) (o : Option Collective) (t : Bool) → option_or (option_map kept o) (cond t (Some (kept own)) None) ≡ option_map kept (option_or o (cond t (Some own) None))
-mapped own None true = refl
-mapped own None false = refl
-mapped own (Some x) t = refl
+  -- later calls change no fault of those before
+  earlier : (before xs more : List RoundCall) → filter_map (round_difference kind ((before ++ xs) ++ more)) xs ≡ filter_map (round_difference kind (before ++ xs)) xs
+  earlier before [] more = refl
+  earlier before (x ∷ xs) more =
+      let shift = append_assoc before (x ∷ []) xs in
+      ap (λ d. cons_option d (filter_map (round_difference kind ((before ++ x ∷ xs) ++ more)) xs)) (found x before xs more)
+      ∙ ap (cons_option (round_difference kind (before ++ x ∷ xs) x))
+      (ap (λ l. filter_map (round_difference kind (l ++ more)) xs) (sym shift) ∙ earlier (before ++ x ∷ []) xs more ∙ ap (λ l. filter_map (round_difference kind l) xs) shift)
 
-fused : (own : Collective) (o : Option Collective) → option_and_then (λ first. differs first (kept own)) (option_map kept o) ≡ option_and_then (λ f. differs (kept f) (kept own)) o
-fused own None = refl
-fused own (Some x) = refl
+  last : (seen : List RoundCall) (own : RoundCall) → round_difference kind (seen ++ own ∷ []) own ≡ round_difference kind seen own
+  last seen own = ap (λ o. option_and_then (λ f. differs kind (kept f) (kept own)) o) (here own seen []) ∙ by (find (is_at own.name own.number) seen)
+    where
+      by : (o : Option RoundCall) → option_and_then (λ f. differs kind (kept f) (kept own)) (option_or o (Some own)) ≡ option_and_then (λ f. differs kind (kept f) (kept own)) o
+      by None = differs_refl own
+      by (Some f) = refl
 
--- the rounds with one more call
-pub HaveJoined_push : (seen : List Collective) (own : Collective) (old new : Firsts) (faults more : List MatchFault) →
-    HaveJoined seen old faults → IsJoined old new own.comm own.number (kept own) →
-    more ≡ faults ++ cons_option (option_and_then (λ first. differs first (kept own)) (first_at old own.comm own.number)) [] →
-    HaveJoined (seen ++ own ∷ []) new more
-HaveJoined_push seen own old new faults more joined noted is = record {
-  firsts_are = λ comm number.
-      let t = is_at comm number own in
-      noted comm number
-      ∙ ap (λ o. option_or o (cond t (Some (kept own)) None)) (joined.firsts_are comm number)
-      ∙ mapped own (find (is_at comm number) seen) t
-      ∙ ap (option_map kept) (sym (find-append (is_at comm number) seen (own ∷ [])));
-  faults_are = is
-      ∙ ap (λ l. l ++ cons_option (option_and_then (λ first. differs first (kept own)) (first_at old own.comm own.number)) []) joined.faults_are
-      ∙ ap (λ d. collective_differences seen ++ cons_option d [])
-      (ap (option_and_then (λ first. differs first (kept own))) (joined.firsts_are own.comm own.number) ∙ fused own (find (is_at own.comm own.number) seen))
-      ∙ sym (collective_differences_push seen own);
-}
+  round_differences_push : (seen : List RoundCall) (own : RoundCall) →
+      round_differences kind (seen ++ own ∷ []) ≡ round_differences kind seen ++ cons_option (round_difference kind seen own) []
+  round_differences_push seen own =
+      filter_map-append (round_difference kind (seen ++ own ∷ [])) seen (own ∷ [])
+      ∙ ap (λ l. l ++ cons_option (round_difference kind (seen ++ own ∷ []) own) []) (earlier [] seen (own ∷ []))
+      ∙ ap (λ d. round_differences kind seen ++ cons_option d []) (last seen own)
+
+  mapped : (own : RoundCall) (o : Option RoundCall) (t : Bool) → option_or (option_map kept o) (cond t (Some (kept own)) None) ≡ option_map kept (option_or o (cond t (Some own) None))
+  mapped own None true = refl
+  mapped own None false = refl
+  mapped own (Some x) t = refl
+
+  fused : (own : RoundCall) (o : Option RoundCall) → option_and_then (λ first. differs kind first (kept own)) (option_map kept o) ≡ option_and_then (λ f. differs kind (kept f) (kept own)) o
+  fused own None = refl
+  fused own (Some x) = refl
+
+  -- the rounds with one more call
+  pub HaveJoined_push : (seen : List RoundCall) (own : RoundCall) (old new : Firsts) (faults more : List MatchFault) →
+      HaveJoined kind seen old faults → IsJoined old new own.name own.number (kept own) →
+      more ≡ faults ++ cons_option (option_and_then (λ first. differs kind first (kept own)) (first_at old own.name own.number)) [] →
+      HaveJoined kind (seen ++ own ∷ []) new more
+  HaveJoined_push seen own old new faults more joined noted is = record {
+    firsts_are = λ name number.
+        let t = is_at name number own in
+        noted name number
+        ∙ ap (λ o. option_or o (cond t (Some (kept own)) None)) (joined.firsts_are name number)
+        ∙ mapped own (find (is_at name number) seen) t
+        ∙ ap (option_map kept) (sym (find-append (is_at name number) seen (own ∷ [])));
+    faults_are = is
+        ∙ ap (λ l. l ++ cons_option (option_and_then (λ first. differs kind first (kept own)) (first_at old own.name own.number)) []) joined.faults_are
+        ∙ ap (λ d. round_differences kind seen ++ cons_option d [])
+        (ap (option_and_then (λ first. differs kind first (kept own))) (joined.firsts_are own.name own.number) ∙ fused own (find (is_at own.name own.number) seen))
+        ∙ sym (round_differences_push seen own);
+  }
 
 -- ---- one more call
+
+-- a call of the kind that is on a name
+abbrev call_on : Kind → RankCalls → List Call → Call → List ℕ → RoundCall
+call_on kind own before call name =
+    record { rank = own.rank; line = call.line; name = name; number = count_of kind name before; arguments = arguments_of (place_of before call.what) call.what }
 
 module _ {X : Type 0} where
   slice_get_here : (xs : List X) (x : X) → slice_get (xs ++ x ∷ []) (length xs) ≡ Some x
@@ -165,109 +200,112 @@ with_current_largest t index = by (eqb t.last.rank index)
     by false = refl
 
 -- what is kept of a communicator after a call that is not on it
-AreCommRounds_same : (done : List RankCalls) (own : RankCalls) (before : List Call) (call : Call) (index : ℕ) (comm : List ℕ) (m : CommRounds) →
-    length done ≡ index → is_on kind.Collective comm call ≡ false →
-    AreCommRounds (so_far done own before) index comm m → AreCommRounds (so_far done own (before ++ call ∷ [])) index comm m
-AreCommRounds_same done own before call index comm m at off is = record {
-  call_counts_are = AreCallCounts_scanned kind.Collective comm done own before call index at m.call_counts m.call_counts is.call_counts_are
+AreNameRounds_same : (kind : Kind) (done : List RankCalls) (own : RankCalls) (before : List Call) (call : Call) (index : ℕ) (name : List ℕ) (m : NameRounds) →
+    length done ≡ index → is_on kind name call ≡ false →
+    AreNameRounds kind (so_far done own before) index name m → AreNameRounds kind (so_far done own (before ++ call ∷ [])) index name m
+AreNameRounds_same kind done own before call index name m at off is = record {
+  call_counts_are = AreCallCounts_scanned kind name done own before call index at m.call_counts m.call_counts is.call_counts_are
       (sym (ap (λ b. cond b (counted m.call_counts index) m.call_counts) off));
   firsts_are_as_many = is.firsts_are_as_many;
 }
 
 -- what is kept of a communicator after a call on it
-AreCommRounds_joined : (done : List RankCalls) (own : RankCalls) (before : List Call) (call : Call) (index : ℕ) (comm : List ℕ) (m : CommRounds) (first : First) →
-    length done ≡ index → is_on kind.Collective comm call ≡ true →
-    AreCommRounds (so_far done own before) index comm m → AreCommRounds (so_far done own (before ++ call ∷ [])) index comm (joined m index first)
-AreCommRounds_joined done own before call index comm m first at on is =
+AreNameRounds_joined : (kind : Kind) (done : List RankCalls) (own : RankCalls) (before : List Call) (call : Call) (index : ℕ) (name : List ℕ) (m : NameRounds) (first : First) →
+    length done ≡ index → is_on kind name call ≡ true →
+    AreNameRounds kind (so_far done own before) index name m → AreNameRounds kind (so_far done own (before ++ call ∷ [])) index name (joined m index first)
+AreNameRounds_joined kind done own before call index name m first at on is =
     let k = number_in m.call_counts index in
     let short : k ≤ length m.firsts =
-    let n = number_in_is (made_on kind.Collective (so_far done own before) comm) index m.call_counts is.call_counts_are in
+    let n = number_in_is (made_on kind (so_far done own before) name) index m.call_counts is.call_counts_are in
     let l = is.call_counts_are.largest_is index in
     let e = is.firsts_are_as_many in omega arith in
     record {
-      call_counts_are = AreCallCounts_scanned kind.Collective comm done own before call index at m.call_counts (counted m.call_counts index) is.call_counts_are
+      call_counts_are = AreCallCounts_scanned kind name done own before call index at m.call_counts (counted m.call_counts index) is.call_counts_are
           (sym (ap (λ b. cond b (counted m.call_counts index) m.call_counts) on));
       firsts_are_as_many = ap (λ n. max n (k + 1)) (with_current_largest m.call_counts index ∙ is.firsts_are_as_many) ∙ length_with_first m.firsts k first short;
     }
 
 -- no call of this kind
-pub AreRounds_none : (done : List RankCalls) (own : RankCalls) (before : List Call) (call : Call) (index : ℕ) (m : Rounds) →
-    length done ≡ index → comm_of call.what ≡ None →
-    AreRounds (so_far done own before) index m → AreRounds (so_far done own (before ++ call ∷ [])) index m
-AreRounds_none done own before call index m at none are = record {
-  have_joined = subst (λ seen. HaveJoined seen m.comms.entries m.faults) longer are.have_joined;
-  rounds_are = λ comm. AreCommRounds_same done own before call index comm (rounds_of m.comms.entries comm) at (is_on_none kind.Collective comm call none) (are.rounds_are comm);
+pub AreRounds_none : (kind : Kind) (done : List RankCalls) (own : RankCalls) (before : List Call) (call : Call) (index : ℕ) (m : Rounds) →
+    length done ≡ index → named kind call.what ≡ None →
+    AreRounds kind (so_far done own before) index m → AreRounds kind (so_far done own (before ++ call ∷ [])) index m
+AreRounds_none kind done own before call index m at none are = record {
+  kind_is = are.kind_is;
+  have_joined = subst (λ seen. HaveJoined kind seen m.names.entries m.faults) longer are.have_joined;
+  rounds_are = λ name. AreNameRounds_same kind done own before call index name (rounds_of m.names.entries name) at (is_on_none kind name call none) (are.rounds_are name);
 }
   where
-    at_none : collective_at own.rank before call ≡ None
-    at_none = ap (option_map (λ (comm : List ℕ). let it : Collective = record { rank = own.rank; line = call.line; comm = comm; number = count_of kind.Collective comm before; window = window_of call.what } in it)) none
+    at_none : round_call_at kind own.rank before call ≡ None
+    at_none = ap (option_map (call_on kind own before call)) none
 
-    longer : collectives (so_far done own before) ≡ collectives (so_far done own (before ++ call ∷ []))
+    longer : round_calls kind (so_far done own before) ≡ round_calls kind (so_far done own (before ++ call ∷ []))
     longer =
-        sym (append-nil (collectives (so_far done own before)))
-        ∙ ap (λ o. collectives (so_far done own before) ++ cons_option o []) (sym at_none)
-        ∙ sym (collectives_more done own before call)
+        sym (append-nil (round_calls kind (so_far done own before)))
+        ∙ ap (λ o. round_calls kind (so_far done own before) ++ cons_option o []) (sym at_none)
+        ∙ sym (round_calls_more kind done own before call)
 
-module _ (done : List RankCalls) (own : RankCalls) (before : List Call) (call : Call) (index : ℕ) (comm : List ℕ) (old new : Firsts)
-    (at : length done ≡ index) (on : comm_of call.what ≡ Some comm)
-    (kept_is : (name : List ℕ) → rounds_of new name
-    ≡ cond (pointwise nat_eq comm name) (joined (rounds_of old comm) index (own_of own.rank call)) (rounds_of old name))
-    (are : (name : List ℕ) → AreCommRounds (so_far done own before) index name (rounds_of old name)) where
-  -- the collective call
-  abbrev it : Collective
-  it = record { rank = own.rank; line = call.line; comm = comm; number = count_of kind.Collective comm before; window = window_of call.what }
+module _ (kind : Kind) (done : List RankCalls) (own : RankCalls) (before : List Call) (call : Call) (index : ℕ) (name : List ℕ) (old new : Firsts)
+    (at : length done ≡ index) (on : named kind call.what ≡ Some name)
+    (kept_is : (other : List ℕ) → rounds_of new other
+    ≡ cond (pointwise nat_eq name other) (joined (rounds_of old name) index (own_of own.rank (place_of before call.what) call)) (rounds_of old other))
+    (are : (other : List ℕ) → AreNameRounds kind (so_far done own before) index other (rounds_of old other)) where
+  -- the call, and what is kept of it
+  abbrev it : RoundCall
+  it = call_on kind own before call name
 
-  number_is : number_in (rounds_of old comm).call_counts index ≡ it.number
+  abbrev first : First
+  first = own_of own.rank (place_of before call.what) call
+
+  number_is : number_in (rounds_of old name).call_counts index ≡ it.number
   number_is =
-      number_in_is (made_on kind.Collective (so_far done own before) comm) index (rounds_of old comm).call_counts (are comm).call_counts_are
-      ∙ made_now kind.Collective comm done own before index at
+      number_in_is (made_on kind (so_far done own before) name) index (rounds_of old name).call_counts (are name).call_counts_are
+      ∙ made_now kind name done own before index at
 
-  short : it.number ≤ length (rounds_of old comm).firsts
+  short : it.number ≤ length (rounds_of old name).firsts
   short =
-      let l = (are comm).call_counts_are.largest_is index in
-      let n = made_now kind.Collective comm done own before index at in
-      let e = (are comm).firsts_are_as_many in omega arith
+      let l = (are name).call_counts_are.largest_is index in
+      let n = made_now kind name done own before index at in
+      let e = (are name).firsts_are_as_many in omega arith
 
-  has_joined : IsJoined old new comm it.number (own_of own.rank call)
-  has_joined name number = by (pointwise nat_eq comm name) refl
+  has_joined : IsJoined old new name it.number first
+  has_joined other number = by (pointwise nat_eq name other) refl
     where
-      by : (b : Bool) → pointwise nat_eq comm name ≡ b →
-          first_at new name number ≡ option_or (first_at old name number) (cond (b && it.number == number) (Some (own_of own.rank call)) None)
+      by : (b : Bool) → pointwise nat_eq name other ≡ b →
+          first_at new other number ≡ option_or (first_at old other number) (cond (b && it.number == number) (Some first) None)
       by true e =
-          let there : comm ≡ name = same_text comm name (sym e) in
-          ap (λ (m : CommRounds). slice_get m.firsts number) (kept_is name ∙ ap (λ b. cond b (joined (rounds_of old comm) index (own_of own.rank call)) (rounds_of old name)) e)
-          ∙ ap (λ k. slice_get (with_first (rounds_of old comm).firsts k (own_of own.rank call)) number) number_is
-          ∙ first_with_first (rounds_of old comm).firsts it.number number (own_of own.rank call) short
-          ∙ ap (λ n. option_or (first_at old n number) (cond (it.number == number) (Some (own_of own.rank call)) None)) there
+          let there : name ≡ other = same_text name other (sym e) in
+          ap (λ (m : NameRounds). slice_get m.firsts number) (kept_is other ∙ ap (λ b. cond b (joined (rounds_of old name) index first) (rounds_of old other)) e)
+          ∙ ap (λ k. slice_get (with_first (rounds_of old name).firsts k first) number) number_is
+          ∙ first_with_first (rounds_of old name).firsts it.number number first short
+          ∙ ap (λ n. option_or (first_at old n number) (cond (it.number == number) (Some first) None)) there
       by false e =
-          ap (λ (m : CommRounds). slice_get m.firsts number) (kept_is name ∙ ap (λ b. cond b (joined (rounds_of old comm) index (own_of own.rank call)) (rounds_of old name)) e)
-          ∙ or_none (first_at old name number)
+          ap (λ (m : NameRounds). slice_get m.firsts number) (kept_is other ∙ ap (λ b. cond b (joined (rounds_of old name) index first) (rounds_of old other)) e)
+          ∙ or_none (first_at old other number)
 
-  pub comm_rounds_are : (name : List ℕ) → AreCommRounds (so_far done own (before ++ call ∷ [])) index name (rounds_of new name)
-  comm_rounds_are name = by (pointwise nat_eq comm name) refl
+  pub name_rounds_are : (other : List ℕ) → AreNameRounds kind (so_far done own (before ++ call ∷ [])) index other (rounds_of new other)
+  name_rounds_are other = by (pointwise nat_eq name other) refl
     where
-      by : (b : Bool) → pointwise nat_eq comm name ≡ b → AreCommRounds (so_far done own (before ++ call ∷ [])) index name (rounds_of new name)
+      by : (b : Bool) → pointwise nat_eq name other ≡ b → AreNameRounds kind (so_far done own (before ++ call ∷ [])) index other (rounds_of new other)
       by true e =
-          let there : comm ≡ name = same_text comm name (sym e) in
-          let is : rounds_of new name ≡ joined (rounds_of old name) index (own_of own.rank call) =
-          kept_is name ∙ ap (λ b. cond b (joined (rounds_of old comm) index (own_of own.rank call)) (rounds_of old name)) e
-          ∙ ap (λ n. joined (rounds_of old n) index (own_of own.rank call)) there in
-          subst (λ m. AreCommRounds (so_far done own (before ++ call ∷ [])) index name m) (sym is)
-          (AreCommRounds_joined done own before call index name (rounds_of old name) (own_of own.rank call) at (is_on_some kind.Collective name comm call on ∙ e) (are name))
+          let there : name ≡ other = same_text name other (sym e) in
+          let is : rounds_of new other ≡ joined (rounds_of old other) index first =
+          kept_is other ∙ ap (λ b. cond b (joined (rounds_of old name) index first) (rounds_of old other)) e
+          ∙ ap (λ n. joined (rounds_of old n) index first) there in
+          subst (λ m. AreNameRounds kind (so_far done own (before ++ call ∷ [])) index other m) (sym is)
+          (AreNameRounds_joined kind done own before call index other (rounds_of old other) first at (is_on_some kind other name call on ∙ e) (are other))
       by false e =
-          let is : rounds_of new name ≡ rounds_of old name =
-          kept_is name ∙ ap (λ b. cond b (joined (rounds_of old comm) index (own_of own.rank call)) (rounds_of old name)) e in
-          subst (λ m. AreCommRounds (so_far done own (before ++ call ∷ [])) index name m) (sym is)
-          (AreCommRounds_same done own before call index name (rounds_of old name) at (is_on_some kind.Collective name comm call on ∙ e) (are name))
+          let is : rounds_of new other ≡ rounds_of old other =
+          kept_is other ∙ ap (λ b. cond b (joined (rounds_of old name) index first) (rounds_of old other)) e in
+          subst (λ m. AreNameRounds kind (so_far done own (before ++ call ∷ [])) index other m) (sym is)
+          (AreNameRounds_same kind done own before call index other (rounds_of old other) at (is_on_some kind other name call on ∙ e) (are other))
 
-  pub HaveJoined_more : (faults more : List MatchFault) → HaveJoined (collectives (so_far done own before)) old faults →
-      more ≡ faults ++ cons_option (option_and_then (λ first. differs first (own_of own.rank call)) (first_at old comm (number_in (rounds_of old comm).call_counts index))) [] →
-      HaveJoined (collectives (so_far done own (before ++ call ∷ []))) new more
+  pub HaveJoined_more : (faults more : List MatchFault) → HaveJoined kind (round_calls kind (so_far done own before)) old faults →
+      more ≡ faults ++ cons_option (option_and_then (λ f. differs kind f first) (first_at old name (number_in (rounds_of old name).call_counts index))) [] →
+      HaveJoined kind (round_calls kind (so_far done own (before ++ call ∷ []))) new more
   HaveJoined_more faults more have is =
-      let at_some : collective_at own.rank before call ≡ Some it =
-      ap (option_map (λ (name : List ℕ). let one : Collective = record { rank = own.rank; line = call.line; comm = name; number = count_of kind.Collective name before; window = window_of call.what } in one)) on in
-      let longer : collectives (so_far done own before) ++ it ∷ [] ≡ collectives (so_far done own (before ++ call ∷ [])) =
-      ap (λ o. collectives (so_far done own before) ++ cons_option o []) (sym at_some) ∙ sym (collectives_more done own before call) in
-      subst (λ seen. HaveJoined seen new more) longer
-      (HaveJoined_push (collectives (so_far done own before)) it old new faults more have has_joined
-      (is ∙ ap (λ k. faults ++ cons_option (option_and_then (λ first. differs first (own_of own.rank call)) (first_at old comm k)) []) number_is))
+      let at_some : round_call_at kind own.rank before call ≡ Some it = ap (option_map (call_on kind own before call)) on in
+      let longer : round_calls kind (so_far done own before) ++ it ∷ [] ≡ round_calls kind (so_far done own (before ++ call ∷ [])) =
+      ap (λ o. round_calls kind (so_far done own before) ++ cons_option o []) (sym at_some) ∙ sym (round_calls_more kind done own before call) in
+      subst (λ seen. HaveJoined kind seen new more) longer
+      (HaveJoined_push kind (round_calls kind (so_far done own before)) it old new faults more have has_joined
+      (is ∙ ap (λ k. faults ++ cons_option (option_and_then (λ f. differs kind f first) (first_at old name k)) []) number_is))

@@ -13,7 +13,7 @@ use Rattle.rma_call.specs.Call.{Call, RankCalls}
 use Rattle.rma_call.specs.declared.what.What.{What}
 use Rattle.rma_sync.specs.declared.kind.Kind.{Kind}
 use Rattle.rma_sync.specs.declared.call_count.CallCounts.{CallCounts}
-use Rattle.rma_sync.specs.Collective.{named, is_on, count_of, made, made_on, so_far, walked, walked_all, collective_at, collectives}
+use Rattle.rma_sync.specs.Collective.{named, is_on, count_of, made, made_on, so_far, walked, walked_all, round_call_at, round_calls}
 use Rattle.rma_sync.specs.Declaration.{declaration_of, declarations_of, declarations}
 use Rattle.rma_sync.specs.inside.CallCount.{counted, AreCallCounts}
 use Rattle.rma_sync.specs.inside.NameCount.{AreCounts, IsCounted}
@@ -26,14 +26,15 @@ pub walked_all_push : {Y : Type 0} (f : Rank → List Call → Call → Option Y
     walked_all f (done ++ own ∷ []) ≡ walked_all f done ++ walked f own.rank [] own.calls
 walked_all_push f done own = sym (flat_map_more (λ (r : RankCalls). walked f r.rank [] r.calls) [] done own)
 
-pub collectives_more : (done : List RankCalls) (own : RankCalls) (before : List Call) (call : Call) →
-    collectives (so_far done own (before ++ call ∷ [])) ≡ collectives (so_far done own before) ++ cons_option (collective_at own.rank before call) []
-collectives_more done own before call =
-    let last = cons_option (collective_at own.rank before call) [] in
-    walked_all_push collective_at done (record own { calls = before ++ call ∷ [] })
-    ∙ ap (λ l. collectives done ++ l) (walked_push collective_at own.rank [] before call)
-    ∙ sym (append_assoc (collectives done) (walked collective_at own.rank [] before) last)
-    ∙ ap (λ l. l ++ last) (sym (walked_all_push collective_at done (record own { calls = before })))
+pub round_calls_more : (kind : Kind) (done : List RankCalls) (own : RankCalls) (before : List Call) (call : Call) →
+    round_calls kind (so_far done own (before ++ call ∷ [])) ≡ round_calls kind (so_far done own before) ++ cons_option (round_call_at kind own.rank before call) []
+round_calls_more kind done own before call =
+    let f = round_call_at kind in
+    let last = cons_option (f own.rank before call) [] in
+    walked_all_push f done (record own { calls = before ++ call ∷ [] })
+    ∙ ap (λ l. round_calls kind done ++ l) (walked_push f own.rank [] before call)
+    ∙ sym (append_assoc (round_calls kind done) (walked f own.rank [] before) last)
+    ∙ ap (λ l. l ++ last) (sym (walked_all_push f done (record own { calls = before })))
 
 module _ {T : Type 0} (stated : What → Option (List ℕ × T)) where
   pub declarations_push : (done : List RankCalls) (own : RankCalls) → declarations stated (done ++ own ∷ []) ≡ declarations stated done ++ declarations_of stated own.rank own.calls
@@ -74,14 +75,17 @@ count_of_push kind name before call =
     let one = λ (c : Call). cond (is_on kind name c) 1 0 in
     sum_by-append one before (call ∷ []) ∙ ap (λ n. count_of kind name before + n) (sum_by-cons one call [] ∙ omega arith)
 
+-- the numbers with one more call
+pub AreCounts_push : (kind : Kind) (before : List Call) (call : Call) (old new : List (List ℕ × ℕ)) →
+    AreCounts kind before old → IsCounted kind old new call → AreCounts kind (before ++ call ∷ []) new
+AreCounts_push kind before call old new are counted = λ name.
+    counted name ∙ ap (λ n. n + cond (is_on kind name call) 1 0) (are name) ∙ sym (count_of_push kind name before call)
+
 -- the numbers with the next call
 pub AreCounts_counted : (kind : Kind) (calls : List Call) (i : ℕ) (call : Call) (old new : List (List ℕ × ℕ)) → slice_get calls i ≡ Some call →
     AreCounts kind (take i calls) old → IsCounted kind old new call → AreCounts kind (take (i + 1) calls) new
 AreCounts_counted kind calls i call old new there are counted = λ name.
-    counted name
-    ∙ ap (λ n. n + cond (is_on kind name call) 1 0) (are name)
-    ∙ sym (count_of_push kind name (take i calls) call)
-    ∙ ap (count_of kind name) (sym (taken_there calls i call there))
+    AreCounts_push kind (take i calls) call old new are counted name ∙ ap (count_of kind name) (sym (taken_there calls i call there))
 
 module _ (kind : Kind) (name : List ℕ) (done : List RankCalls) (own : RankCalls) (before : List Call) (index : ℕ) (at : length done ≡ index) where
   pub made_now : made kind (so_far done own before) index name ≡ count_of kind name before

@@ -29,12 +29,13 @@ module _ {X Y : Type 0} where
       flat_map f (take i xs) ++ f x ≡ flat_map f (take (i + 1) xs)
   flat_map_taken f xs i x lt is = flat_map_more f [] (take i xs) x ∙ ap (flat_map f) (sym (taken xs i x lt is))
 
--- four lists, one after another
-pub joined : {X : Type 0} (a b c d l b' c' d' l1 l2 l3 : List X) → l ≡ a → b' ≡ b → c' ≡ c → d' ≡ d →
-    l1 ≡ l ++ b' → l2 ≡ l1 ++ c' → l3 ≡ l2 ++ d' → l3 ≡ a ++ (b ++ (c ++ (d ++ [])))
-joined a b c d l b' c' d' l1 l2 l3 at_a at_b at_c at_d e1 e2 e3 =
-    let e : l3 ≡ ((a ++ b) ++ c) ++ d = cc in
-    e ∙ simp (append_assoc, append-nil)
+-- one more list at the end of others
+pub appended : {X : Type 0} {a b l more new : List X} → new ≡ l ++ more → l ≡ a → more ≡ b → new ≡ a ++ b
+appended is same_list same_more = cc
+
+-- lists, one after another
+pub joined : {X : Type 0} (a b c d e f g : List X) → (((((a ++ b) ++ c) ++ d) ++ e) ++ f) ++ g ≡ a ++ (b ++ (c ++ (d ++ (e ++ (f ++ (g ++ []))))))
+joined a b c d e f g = simp (append_assoc, append-nil)
 
 cons_option_append : {Y : Type 0} (o : Option Y) (xs ys : List Y) → cons_option o (xs ++ ys) ≡ cons_option o xs ++ ys
 cons_option_append None xs ys = refl
@@ -47,3 +48,14 @@ walked_push f rank before (y ∷ ys) x =
     ap (cons_option (f rank before y)) (walked_push f rank (before ++ y ∷ []) ys x)
     ∙ cons_option_append (f rank before y) (walked f rank (before ++ y ∷ []) ys) (cons_option (f rank ((before ++ y ∷ []) ++ ys) x) [])
     ∙ ap (λ l. cons_option (f rank before y) (walked f rank (before ++ y ∷ []) ys) ++ cons_option (f rank l x) []) (append_assoc before (y ∷ []) ys)
+
+-- what is had of the calls so far, with the next one
+pub walked_next : {Y : Type 0} (f : Rank → List Call → Call → Option Y) (rank : Rank) (calls : List Call) (i : ℕ) (call : Call) (start old new : List Y) →
+    slice_get calls i ≡ Some call → old ≡ start ++ walked f rank [] (take i calls) → new ≡ old ++ cons_option (f rank (take i calls) call) [] →
+    new ≡ start ++ walked f rank [] (take (i + 1) calls)
+walked_next f rank calls i call start old new there so_far is =
+    let own = cons_option (f rank (take i calls) call) [] in
+    is
+    ∙ ap (λ l. l ++ own) so_far
+    ∙ append_assoc start (walked f rank [] (take i calls)) own
+    ∙ ap (λ l. start ++ l) (sym (walked_push f rank [] (take i calls) call) ∙ ap (walked f rank []) (sym (taken_there calls i call there)))

@@ -1,6 +1,7 @@
 -- What communicators and windows are declared with (MPI 4.0, "Groups, Contexts, Communicators, and Caching" and
 -- "One-Sided Communications").
 use Rattle.std.specs.Prelude.{ℕ, List, Bool, true, false, Option, Some, None, nat_eq, ◌&&◌}
+use Rattle.std.specs.Bool.{beq}
 use Rattle.std.specs.Cmp.Lexicographic.{pointwise}
 use Rattle.rma_base.specs.declared.window.WinModel.{WinModel}
 use Rattle.rma_base.specs.declared.window.WinModel.TheVariants.{Separate, Unified}
@@ -24,7 +25,7 @@ same_ranks first own = pointwise nat_eq own first
 
 -- the window that a call creates, and what it is created with
 abbrev pub created : What → Option (List ℕ × WindowAttributes)
-created (Sync (Window (Create window comm base size unit model ops dynamic))) = Some (window, record { comm = comm; model = model; ops = ops })
+created (Sync (Window (Create window comm base size unit model ops dynamic))) = Some (window, record { comm = comm; model = model; ops = ops; dynamic = dynamic })
 created _ = None
 
 -- whether two memory models are the same
@@ -41,6 +42,6 @@ same_ops SameOp SameOpNoOp = false
 same_ops SameOpNoOp SameOp = false
 same_ops SameOpNoOp SameOpNoOp = true
 
--- whether two creations have the same communicator, memory model and accumulate operations
+-- whether two creations have the same communicator, memory model and accumulate operations, and both or none is dynamic
 abbrev pub same_attributes : WindowAttributes → WindowAttributes → Bool
-same_attributes first own = pointwise nat_eq own.comm first.comm && same_model first.model own.model && same_ops first.ops own.ops
+same_attributes first own = pointwise nat_eq own.comm first.comm && same_model first.model own.model && same_ops first.ops own.ops && beq own.dynamic first.dynamic

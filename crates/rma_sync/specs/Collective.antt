@@ -1,5 +1,5 @@
--- Which calls are collective on a communicator, and the round that each has a part in (MPI 4.0, "Collective
--- Communication").
+-- Which calls every member has to make, and the round that each has a part in (MPI 4.0, "Collective Communication" and
+-- "One-Sided Communications").
 use Rattle.std.specs.Prelude.{ℕ, List, [], ◌∷◌, ◌++◌, Bool, false, Option, Some, None, option_map, nat_eq, count_by, slice_get}
 use Rattle.std.specs.List.{cons_option, flat_map}
 use Rattle.std.specs.Option.{option_map_or}
@@ -9,32 +9,54 @@ use Rattle.rma_base.specs.declared.line.LineNo.{LineNo}
 use Rattle.rma_call.specs.Call.{Call, RankCalls}
 use Rattle.rma_call.specs.declared.what.What.{What}
 use Rattle.rma_call.specs.declared.what.What.TheVariants.{Sync}
-use Rattle.rma_call.specs.declared.what.SyncCall.TheVariants.{Frame, Window}
+use Rattle.rma_call.specs.declared.what.SyncCall.TheVariants.{Frame, Window, Epoch, Moving}
 use Rattle.rma_call.specs.declared.frame.FrameCall.TheVariants.{Barrier}
 use Rattle.rma_call.specs.declared.window.WindowCall.TheVariants.{Create, Free}
+use Rattle.rma_call.specs.declared.epoch.EpochCall.TheVariants.{Fence}
+use Rattle.rma_call.specs.declared.moving.MovingCall.{MovingCall}
+use Rattle.rma_call.specs.declared.moving.MovingCall.TheVariants.{Bcast, Scatter, Gather, Reduce, Allreduce, Allgather, Alltoall}
 use Rattle.rma_sync.specs.declared.kind.Kind.{Kind}
 use Rattle.rma_sync.specs.declared.kind.Kind.TheVariants as kind
+use Rattle.rma_sync.specs.declared.argument.Arguments.{Arguments}
+use Rattle.rma_sync.specs.Argument.{arguments_of}
 
--- the communicator of a collective call
+-- the communicator of a barrier or of a creation of a window
 abbrev pub comm_of : What → Option (List ℕ)
 comm_of (Sync (Frame (Barrier comm))) = Some comm
 comm_of (Sync (Window (Create window comm base size unit model ops dynamic))) = Some comm
 comm_of _ = None
-
--- the window that a collective call creates: a barrier creates none
-abbrev pub window_of : What → Option (List ℕ)
-window_of (Sync (Window (Create window comm base size unit model ops dynamic))) = Some window
-window_of _ = None
 
 -- the window that a call frees
 abbrev pub freed : What → Option (List ℕ)
 freed (Sync (Window (Free window))) = Some window
 freed _ = None
 
+-- the window of a fence
+abbrev pub fenced : What → Option (List ℕ)
+fenced (Sync (Epoch (Fence window assertions))) = Some window
+fenced _ = None
+
+-- the communicator of a call that moves data
+abbrev pub comm_of_moving : MovingCall → List ℕ
+comm_of_moving (Bcast root bytes comm) = comm
+comm_of_moving (Scatter root bytes comm) = comm
+comm_of_moving (Gather root bytes comm) = comm
+comm_of_moving (Reduce root bytes comm) = comm
+comm_of_moving (Allreduce bytes comm) = comm
+comm_of_moving (Allgather bytes comm) = comm
+comm_of_moving (Alltoall bytes comm) = comm
+
+-- the communicator on which a call moves data
+abbrev pub moved_on : What → Option (List ℕ)
+moved_on (Sync (Moving call)) = Some (comm_of_moving call)
+moved_on _ = None
+
 -- what a call of each kind is on
 abbrev pub named : Kind → What → Option (List ℕ)
 named kind.Collective what = comm_of what
 named kind.Free what = freed what
+named kind.Fence what = fenced what
+named kind.Moving what = moved_on what
 
 -- whether a call of this kind is on this name
 abbrev pub is_on : Kind → List ℕ → Call → Bool
@@ -43,6 +65,10 @@ is_on kind name call = option_map_or (λ own. pointwise nat_eq own name) (named 
 -- the number of calls of this kind on this name
 abbrev pub count_of : Kind → List ℕ → List Call → ℕ
 count_of kind name calls = count_by (is_on kind name) calls
+
+-- how many barriers and window creations stand before a call on the communicator on which it moves data
+abbrev pub place_of : List Call → What → ℕ
+place_of before what = option_map_or (λ comm. count_of kind.Collective comm before) (moved_on what) 0
 
 -- what is had of the calls of a rank after some others, each with all those before it
 abbrev pub walked : {Y : Type 0} → (Rank → List Call → Call → Option Y) → Rank → List Call → List Call → List Y
@@ -53,23 +79,25 @@ walked f rank before (c ∷ cs) = cons_option (f rank before c) (walked f rank (
 abbrev pub walked_all : {Y : Type 0} → (Rank → List Call → Call → Option Y) → List RankCalls → List Y
 walked_all f ranks = flat_map (λ r. walked f r.rank [] r.calls) ranks
 
--- a collective call: its rank and line, its communicator, the number of its round, which is its number among the
--- collectives of the rank on that communicator, from 0, and the window that it creates
-pub record Collective : Type 0 where
+-- a call of a kind: its rank and line, what it is on, the number of its round, which is its number among the calls of this
+-- kind of the rank on that name, from 0, and what it has to agree on with the others of its round
+pub record RoundCall : Type 0 where
   pub rank : Rank
   pub line : LineNo
-  pub comm : List ℕ
+  pub name : List ℕ
   pub number : ℕ
-  pub window : Option (List ℕ)
+  pub arguments : Arguments
 
--- a call of a rank after others, where it is collective
-abbrev pub collective_at : Rank → List Call → Call → Option Collective
-collective_at rank before call =
-    option_map (λ comm. record { rank = rank; line = call.line; comm = comm; number = count_of kind.Collective comm before; window = window_of call.what }) (comm_of call.what)
+-- a call of a rank after others, where it is of the kind
+abbrev pub round_call_at : Kind → Rank → List Call → Call → Option RoundCall
+round_call_at kind rank before call =
+    option_map
+    (λ name. record { rank = rank; line = call.line; name = name; number = count_of kind name before; arguments = arguments_of (place_of before call.what) call.what })
+    (named kind call.what)
 
--- the collective calls of a run
-abbrev pub collectives : List RankCalls → List Collective
-collectives ranks = walked_all collective_at ranks
+-- the calls of the kind of a run
+abbrev pub round_calls : Kind → List RankCalls → List RoundCall
+round_calls kind ranks = walked_all (round_call_at kind) ranks
 
 -- how many calls of this kind a rank makes on the name
 abbrev pub made : Kind → List RankCalls → ℕ → List ℕ → ℕ

@@ -1,5 +1,6 @@
 pub mod Declaration
 pub mod Attribute
+pub mod Argument
 pub mod Collective
 pub mod Member
 pub mod Difference

@@ -3,28 +3,32 @@
 use Rattle.std.specs.Prelude.{List, [], ◌∷◌}
 use Rattle.std.specs.List.{flat_map}
 use Rattle.rma_base.specs.declared.match_reason.MatchReason.{MatchReason}
-use Rattle.rma_base.specs.declared.match_reason.MatchReason.TheVariants.{SendUnreceived, ReceiveUnsent, CollectiveDiffers, CollectiveMissing, AssertDiffers, PostUnmatched, StartUnmatched, WindowDiffers, CommDiffers}
+use Rattle.rma_base.specs.declared.match_reason.MatchReason.TheVariants.{SendUnreceived, ReceiveUnsent, CollectiveDiffers, CollectiveMissing, AssertDiffers, PostUnmatched, StartUnmatched, WindowDiffers, CommDiffers, DataDiffers, DataMissing}
 use Rattle.rma_call.specs.Call.{RankCalls}
 use Rattle.rma_call.specs.declared.match_fault.MatchFault.{MatchFault}
 use Rattle.rma_sync.specs.Declaration.{declarations}
 use Rattle.rma_sync.specs.Attribute.{declared, same_ranks, created, same_attributes}
 use Rattle.rma_sync.specs.Difference.{differences}
-use Rattle.rma_sync.specs.Collective.{collectives}
-use Rattle.rma_sync.specs.Round.{collective_differences}
-use Rattle.rma_sync.specs.Missing.{missing_calls}
+use Rattle.rma_sync.specs.declared.kind.Kind.TheVariants as kind
+use Rattle.rma_sync.specs.Collective.{round_calls}
+use Rattle.rma_sync.specs.Round.{round_differences}
+use Rattle.rma_sync.specs.Missing.{missing_calls, missing_data}
 
 -- the faults of one reason, by rank and then by line
 abbrev pub faults_of : List RankCalls → MatchReason → List MatchFault
 faults_of ranks SendUnreceived = []
 faults_of ranks ReceiveUnsent = []
-faults_of ranks CollectiveDiffers = collective_differences (collectives ranks)
+faults_of ranks CollectiveDiffers = round_differences kind.Collective (round_calls kind.Collective ranks)
 faults_of ranks CollectiveMissing = missing_calls ranks
-faults_of ranks AssertDiffers = []
+faults_of ranks AssertDiffers = round_differences kind.Fence (round_calls kind.Fence ranks)
 faults_of ranks PostUnmatched = []
 faults_of ranks StartUnmatched = []
 faults_of ranks WindowDiffers = differences same_attributes WindowDiffers (declarations created ranks)
 faults_of ranks CommDiffers = differences same_ranks CommDiffers (declarations declared ranks)
+faults_of ranks DataDiffers = round_differences kind.Moving (round_calls kind.Moving ranks)
+faults_of ranks DataMissing = missing_data ranks
 
--- the faults of all reasons, in the order of the reasons
+-- the faults of all these reasons, in the order of the reasons; messages, posts and starts are matched elsewhere
 abbrev pub match_faults : List RankCalls → List MatchFault
-match_faults ranks = flat_map (faults_of ranks) (CollectiveDiffers ∷ CollectiveMissing ∷ WindowDiffers ∷ CommDiffers ∷ [])
+match_faults ranks =
+    flat_map (faults_of ranks) (CollectiveDiffers ∷ CollectiveMissing ∷ AssertDiffers ∷ WindowDiffers ∷ CommDiffers ∷ DataDiffers ∷ DataMissing ∷ [])

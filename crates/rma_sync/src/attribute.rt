@@ -15,6 +15,8 @@ pub struct WindowAttributes {
     pub model: WinModel,
     /// Which accumulate operations may overlap.
     pub ops: AccOps,
+    /// Whether memory is attached to it later.
+    pub dynamic: bool,
 }
 
 /// A communicator is declared with its ranks.
@@ -53,6 +55,7 @@ impl Attributes for WindowAttributes {
                     comm,
                     model,
                     ops,
+                    dynamic,
                     ..
                 },
             ) => {
@@ -62,6 +65,7 @@ impl Attributes for WindowAttributes {
                     comm,
                     model: *model,
                     ops: *ops,
+                    dynamic: *dynamic,
                 };
                 Ok(Some((name, attributes)))
             }
@@ -73,6 +77,7 @@ impl Attributes for WindowAttributes {
         self.comm == first.comm
             && is_same_model(self.model, first.model)
             && are_same_ops(self.ops, first.ops)
+            && self.dynamic == first.dynamic
     }
 }
 

@@ -53,6 +53,17 @@ impl CallCounts {
         Ok(number)
     }
 
+    /// How many calls the rank makes so far, if it is the current one or a later one.
+    pub(crate) fn number(&self, rank: usize) -> usize
+        ensures { result ≡ number_in self.now rank }
+    {
+        if self.last.rank == rank {
+            self.last.number
+        } else {
+            0
+        }
+    }
+
     /// Makes the rank the current one, if it is not.
     fn make_current(&mut self, rank: usize) -> Result<(), Memory>
         ensures { OnOk result (self.new ≡ with_current self.old rank) }

@@ -48,8 +48,8 @@ impl Members {
         ensures { (ranks : List RankCalls) → AreMembers ranks self.now → result.now ≡ members kind ranks name.now }
     {
         match kind {
-            Kind::Collective => self.of_comm(name),
-            Kind::Free => match self.creations.first(name) {
+            Kind::Collective | Kind::Moving => self.of_comm(name),
+            Kind::Free | Kind::Fence => match self.creations.first(name) {
                 Some(creation) => self.of_comm(&creation.attributes.comm),
                 None => &[],
             },

@@ -1,19 +1,20 @@
 //! Calls that some member does not make.
 ghost use Rattle.std.specs.Prelude.{◌≡◌, ◌+◌, ◌<◌, ◌^◌, ◌++◌, ◌∷◌, [], ℕ, List, IfOk, OnOk};
-ghost use Rattle.std.specs.Option.{option_or};
+ghost use Rattle.std.specs.List.{cons_option};
 ghost use Rattle.rma_call.specs.Call.{Call, RankCalls, call_of};
 ghost use Rattle.rma_sync.specs.declared.kind.Kind.{Kind};
 ghost use Rattle.rma_sync.specs.declared.kind.Kind.TheVariants as kind;
 ghost use Rattle.rma_sync.specs.Collective.{walked};
-ghost use Rattle.rma_sync.specs.inside.NameCount.{AreCounts};
+ghost use Rattle.rma_sync.specs.inside.NameCount.{AreCounts, AreAllCounts};
 ghost use Rattle.rma_sync.specs.inside.Member.{AreMembers};
 ghost use Rattle.rma_sync.specs.inside.ByRank.{is_reached};
-ghost use Rattle.rma_sync.specs.Missing.{fault_if, missing_of, missing_at, missing_calls};
+ghost use Rattle.rma_sync.specs.Missing.{missing_reason, fault_if, missing_of, missing_at, missing_calls, missing_data};
 ghost use Rattle.rma_sync.specs.inside.Missing.{IsMissingOfKind, AreMissingCalls, Tells};
 
 use crate::difference::push_some;
 use crate::kind::{self, Kind};
 use crate::member::Members;
+use crate::name_count::AllCounts;
 use crate::{by_rank, name_count};
 use indexmap::IndexMap;
 use rma_base::{MatchReason, Memory, Name, Rank, Sequence};
@@ -31,15 +32,24 @@ pub(crate) struct MissingOfKind {
     known: IndexMap<Name, Option<usize>>,
 }
 
-/// What tells the missing calls of both kinds.
+/// What tells the missing calls of each kind.
 #[derive(Drop)]
 pub(crate) struct MissingCalls {
     /// Who has to make a call.
     members: Members,
-    /// What tells the missing collective calls.
     collectives: MissingOfKind,
-    /// What tells the missing frees of windows.
     frees: MissingOfKind,
+    fences: MissingOfKind,
+    movings: MissingOfKind,
+}
+
+/// The faults of the calls that some member does not make, by rank and then by line.
+#[derive(Drop)]
+pub(crate) struct MissingFaults {
+    /// Those of calls that move no data.
+    pub(crate) calls: Sequence<MatchFault>,
+    /// Those of calls that move data.
+    pub(crate) movings: Sequence<MatchFault>,
 }
 
 impl MissingOfKind {
@@ -93,43 +103,71 @@ impl MissingOfKind {
         };
         let number = name_count::count(counts, name);
         let fewest = self.fewest(members, name)?;
-        Ok(fault_if(reaches(fewest, number), rank, call))
+        Ok(fault_if(
+            reaches(fewest, number),
+            missing_reason(self.kind),
+            rank,
+            call,
+        ))
     }
 }
 
 impl MissingCalls {
-    /// Both kinds in a run.
+    /// Each kind in a run.
     fn new(alloc: Global, ranks: &[RankCalls], members: Members) -> Result<MissingCalls, Memory>
         requires { AreMembers ranks.now members }
         ensures { IfOk result (λ missing. AreMissingCalls ranks.now missing) }
     {
         let collectives = MissingOfKind::new(alloc, Kind::Collective, ranks)?;
         let frees = MissingOfKind::new(alloc, Kind::Free, ranks)?;
+        let fences = MissingOfKind::new(alloc, Kind::Fence, ranks)?;
+        let movings = MissingOfKind::new(alloc, Kind::Moving, ranks)?;
         Ok(MissingCalls {
             members,
             collectives,
             frees,
+            fences,
+            movings,
         })
     }
 
-    /// The fault of a call that some member does not make.
+    /// Adds the fault of a call that some member does not make, after others of its rank that are counted.
     fn judge(
         &mut self,
-        collectives: &IndexMap<Name, usize>,
-        frees: &IndexMap<Name, usize>,
+        counts: &AllCounts,
         rank: Rank,
         call: CallRef<'_>,
-    ) -> Result<Option<MatchFault>, Memory>
-        ensures fault { IfOk result (λ fault. (ranks : List RankCalls) (before : List Call) → AreMissingCalls ranks self.old
-            → AreCounts kind.Collective before collectives.now.entries → AreCounts kind.Free before frees.now.entries
-            → fault ≡ missing_at ranks rank before (call_of call.entry)) }
+        faults: &mut MissingFaults,
+    ) -> Result<(), Memory>
+        ensures calls { OnOk result ((ranks : List RankCalls) (before : List Call) → AreMissingCalls ranks self.old → AreAllCounts before counts.now
+            → faults.new.calls ≡ faults.old.calls ++ cons_option (missing_at ranks rank before (call_of call.entry)) []) }
+        ensures movings { OnOk result ((ranks : List RankCalls) (before : List Call) → AreMissingCalls ranks self.old → AreAllCounts before counts.now
+            → faults.new.movings ≡ faults.old.movings ++ cons_option (missing_of kind.Moving ranks rank before (call_of call.entry)) []) }
         ensures missing { OnOk result ((ranks : List RankCalls) → AreMissingCalls ranks self.old → AreMissingCalls ranks self.new) }
     {
+        let members = &self.members;
         let collective = self
             .collectives
-            .judge(&self.members, collectives, rank, call)?;
-        let free = self.frees.judge(&self.members, frees, rank, call)?;
-        Ok(collective.or(free))
+            .judge(members, &counts.collectives, rank, call)?;
+        let free = self.frees.judge(members, &counts.frees, rank, call)?;
+        let fence = self.fences.judge(members, &counts.fences, rank, call)?;
+        let moving = self.movings.judge(members, &counts.movings, rank, call)?;
+        push_some(&mut faults.calls, collective.or(free).or(fence))?;
+        push_some(&mut faults.movings, moving)?;
+        Ok(())
+    }
+}
+
+impl MissingFaults {
+    /// No faults.
+    pub(crate) fn new(alloc: Global) -> MissingFaults
+        ensures calls { result.calls ≡ [] }
+        ensures movings { result.movings ≡ [] }
+    {
+        MissingFaults {
+            calls: Sequence::new(alloc),
+            movings: Sequence::new(alloc),
+        }
     }
 }
 
@@ -138,37 +176,38 @@ pub(crate) fn missing_calls(
     alloc: Global,
     ranks: &[RankCalls],
     members: Members,
-) -> Result<Sequence<MatchFault>, Memory>
+) -> Result<MissingFaults, Memory>
     requires { AreMembers ranks.now members }
-    ensures { IfOk result (λ faults. faults ≡ missing_calls ranks.now) }
+    ensures calls { IfOk result (λ faults. faults.calls ≡ missing_calls ranks.now) }
+    ensures movings { IfOk result (λ faults. faults.movings ≡ missing_data ranks.now) }
 {
     let mut missing = MissingCalls::new(alloc, ranks, members)?;
-    let mut faults = Sequence::new(alloc);
+    let mut faults = MissingFaults::new(alloc);
     for rank in ranks {
         judge_rank(alloc, rank, &mut missing, &mut faults)?;
     }
     Ok(faults)
 }
 
-/// Puts the faults of the calls of a rank at the end of a list.
+/// Adds the faults of the calls of a rank.
 fn judge_rank(
     alloc: Global,
     rank: &RankCalls,
     missing: &mut MissingCalls,
-    faults: &mut Sequence<MatchFault>,
+    faults: &mut MissingFaults,
 ) -> Result<(), Memory>
-    ensures { OnOk result ((ranks : List RankCalls) → AreMissingCalls ranks missing.old
-        → AreMissingCalls ranks missing.new × (faults.new ≡ faults.old ++ walked (missing_at ranks) rank.now.rank [] rank.now.calls)) }
+    ensures missing { OnOk result ((ranks : List RankCalls) → AreMissingCalls ranks missing.old → AreMissingCalls ranks missing.new) }
+    ensures calls { OnOk result ((ranks : List RankCalls) → AreMissingCalls ranks missing.old
+        → faults.new.calls ≡ faults.old.calls ++ walked (missing_at ranks) rank.now.rank [] rank.now.calls) }
+    ensures movings { OnOk result ((ranks : List RankCalls) → AreMissingCalls ranks missing.old
+        → faults.new.movings ≡ faults.old.movings ++ walked (missing_of kind.Moving ranks) rank.now.rank [] rank.now.calls) }
 {
-    let mut collectives = IndexMap::new(alloc);
-    let mut frees = IndexMap::new(alloc);
+    let mut counts = AllCounts::new(alloc);
     let calls = rank.calls();
     for i in 0..calls.len() {
         let call = calls.get(i);
-        let fault = missing.judge(&collectives, &frees, rank.rank(), call)?;
-        push_some(faults, fault)?;
-        name_count::note(Kind::Collective, &mut collectives, call)?;
-        name_count::note(Kind::Free, &mut frees, call)?;
+        missing.judge(&counts, rank.rank(), call, faults)?;
+        counts.note(call)?;
     }
     Ok(())
 }
@@ -183,15 +222,25 @@ fn reaches(fewest: Option<usize>, number: usize) -> bool
     }
 }
 
+/// The reason for which a call of the kind is reported that some member does not make.
+fn missing_reason(kind: Kind) -> MatchReason
+    ensures { result ≡ missing_reason kind }
+{
+    match kind {
+        Kind::Collective | Kind::Free | Kind::Fence => MatchReason::CollectiveMissing,
+        Kind::Moving => MatchReason::DataMissing,
+    }
+}
+
 /// The fault of a call, if some member does not make it.
-fn fault_if(lacking: bool, rank: Rank, call: CallRef<'_>) -> Option<MatchFault>
-    ensures { result ≡ fault_if lacking rank (call_of call.entry) }
+fn fault_if(lacking: bool, reason: MatchReason, rank: Rank, call: CallRef<'_>) -> Option<MatchFault>
+    ensures { result ≡ fault_if lacking reason rank (call_of call.entry) }
 {
     if !lacking {
         return None;
     }
     Some(MatchFault {
-        reason: MatchReason::CollectiveMissing,
+        reason,
         rank,
         line: call.line,
         other: None,

@@ -1,13 +1,47 @@
 //! How many calls of a kind a rank makes on each name.
-ghost use Rattle.std.specs.Prelude.{◌≡◌, ℕ, ◌+◌, ◌<◌, ◌^◌, List, OnOk, IfOk};
-ghost use Rattle.rma_call.specs.Call.{call_of};
-ghost use Rattle.rma_sync.specs.inside.NameCount.{count_in, IsCounted, AreCounts};
+ghost use Rattle.std.specs.Prelude.{◌≡◌, ◌++◌, [], ◌∷◌, List, OnOk, IfOk};
+ghost use Rattle.rma_call.specs.Call.{Call, call_of};
+ghost use Rattle.rma_sync.specs.inside.NameCount.{count_in, IsCounted, AreCounts, AreAllCounts};
 
 use crate::kind::{self, Kind};
 use indexmap::IndexMap;
 use rma_base::{Memory, Name};
 use rma_call::{CallList, CallRef};
 use std::alloc::Global;
+
+/// How many calls of each kind a rank makes on each name.
+#[derive(Drop)]
+pub(crate) struct AllCounts {
+    pub(crate) collectives: IndexMap<Name, usize>,
+    pub(crate) frees: IndexMap<Name, usize>,
+    pub(crate) fences: IndexMap<Name, usize>,
+    pub(crate) movings: IndexMap<Name, usize>,
+}
+
+impl AllCounts {
+    /// No calls.
+    pub(crate) fn new(alloc: Global) -> AllCounts
+        ensures { AreAllCounts [] result }
+    {
+        AllCounts {
+            collectives: IndexMap::new(alloc),
+            frees: IndexMap::new(alloc),
+            fences: IndexMap::new(alloc),
+            movings: IndexMap::new(alloc),
+        }
+    }
+
+    /// Counts a call, if it is of a kind.
+    pub(crate) fn note(&mut self, call: CallRef<'_>) -> Result<(), Memory>
+        ensures { OnOk result ((before : List Call) → AreAllCounts before self.old → AreAllCounts (before ++ call_of call.entry ∷ []) self.new) }
+    {
+        note(Kind::Collective, &mut self.collectives, call)?;
+        note(Kind::Free, &mut self.frees, call)?;
+        note(Kind::Fence, &mut self.fences, call)?;
+        note(Kind::Moving, &mut self.movings, call)?;
+        Ok(())
+    }
+}
 
 /// The number of calls on the name.
 pub(crate) fn count(counts: &IndexMap<Name, usize>, name: &Name) -> usize
@@ -25,14 +59,16 @@ pub(crate) fn note(
     counts: &mut IndexMap<Name, usize>,
     call: CallRef<'_>,
 ) -> Result<(), Memory>
-    requires { (name : List ℕ) → count_in counts.old.entries name + 1 < 2 ^ 64 }
     ensures { OnOk result (IsCounted kind counts.old.entries counts.new.entries (call_of call.entry)) }
 {
     let Some(name) = kind::named(kind, call.what) else {
         return Ok(());
     };
     if let Some(number) = counts.get_mut(name) {
-        *number += 1;
+        let Some(more) = number.checked_add(1) else {
+            return Err(Memory);
+        };
+        *number = more;
         return Ok(());
     }
     let name = name.copy()?;

@@ -1,17 +1,18 @@
-//! The collective calls of all ranks, round by round of each communicator.
-ghost use Rattle.std.specs.Prelude.{◌≡◌, ◌++◌, [], ◌∷◌, ℕ, List, true, length, slice_get, nat_eq, OnOk, IfOk, option_copied, if◌then◌else◌};
+//! The calls of a kind of all ranks, round by round of each name.
+ghost use Rattle.std.specs.Prelude.{◌≡◌, ◌++◌, [], ◌∷◌, ℕ, List, true, length, slice_get, nat_eq, OnOk, IfOk, if◌then◌else◌};
 ghost use Rattle.std.specs.List.{cons_option};
 ghost use Rattle.std.specs.Option.{option_and_then};
 ghost use Rattle.std.specs.Cmp.Lexicographic.{pointwise};
 ghost use Rattle.rma_call.specs.Call.{Call, RankCalls, call_of};
-ghost use Rattle.rma_sync.specs.Collective.{so_far};
-ghost use Rattle.rma_sync.specs.declared.kind.Kind.TheVariants as kind;
+ghost use Rattle.rma_sync.specs.declared.kind.Kind.{Kind};
+ghost use Rattle.rma_sync.specs.Collective.{place_of, so_far};
 ghost use Rattle.rma_sync.specs.inside.Member.{AreMembers};
 ghost use Rattle.rma_sync.specs.inside.Scan.{AreBalanced};
 ghost use Rattle.rma_sync.specs.inside.CallCount.{number_in};
-ghost use Rattle.rma_sync.specs.Round.{differs};
+ghost use Rattle.rma_sync.specs.Round.{difference_reason, differs};
 ghost use Rattle.rma_sync.specs.inside.Round.{own_of, no_rounds, joined, rounds_of, first_at, AreRounds};
 
+use crate::argument::Arguments;
 use crate::call_count::CallCounts;
 use crate::difference::push_some;
 use crate::kind::{self, Kind};
@@ -21,141 +22,160 @@ use rma_base::{LineNo, MatchReason, Memory, Name, Rank, Sequence};
 use rma_call::{CallRef, MatchFault};
 use std::alloc::Global;
 
-/// The first collective call of a round.
+/// The first call of a round.
 #[derive(Drop)]
 pub(crate) struct First {
     /// The rank that makes it.
     rank: Rank,
     /// Its line in the log of that rank.
     line: LineNo,
-    /// The window that it creates: a barrier creates none.
-    window: Option<Name>,
+    /// What the others of the round have to agree on with it.
+    arguments: Arguments,
 }
 
-/// The rounds of a communicator.
+/// The rounds of a name.
 #[derive(Drop)]
-pub(crate) struct CommRounds {
+pub(crate) struct NameRounds {
     /// The first call of each round.
     firsts: Sequence<First>,
-    /// How many collective calls each rank makes.
+    /// How many calls each rank makes.
     call_counts: CallCounts,
 }
 
-/// The rounds of all communicators.
+/// The rounds of a kind, of all names.
 #[derive(Drop)]
 pub(crate) struct Rounds {
-    /// The rounds of each communicator.
-    comms: IndexMap<Name, CommRounds>,
-    /// The faults of the calls that differ from the first of their round.
+    /// The kind.
+    kind: Kind,
+    /// The rounds of each name.
+    names: IndexMap<Name, NameRounds>,
+    /// The faults of the calls that do not agree with the first of their round.
     faults: Sequence<MatchFault>,
 }
 
-impl CommRounds {
+impl First {
+    /// A call of a rank, before which so many barriers and creations of windows stand on its communicator.
+    fn new(rank: Rank, place: usize, call: CallRef<'_>) -> Result<First, Memory>
+        ensures { IfOk result (λ own. own ≡ own_of rank place (call_of call.entry)) }
+    {
+        let arguments = Arguments::of(call.what, place)?;
+        Ok(First {
+            rank,
+            line: call.line,
+            arguments,
+        })
+    }
+}
+
+impl NameRounds {
     /// No calls.
-    fn new(alloc: Global) -> CommRounds
+    fn new(alloc: Global) -> NameRounds
         ensures { result ≡ no_rounds }
     {
-        CommRounds {
+        NameRounds {
             firsts: Sequence::new(alloc),
             call_counts: CallCounts::new(alloc),
         }
     }
 
-    /// The next call of a rank is the first of its round, or has a fault where it differs from the first.
+    /// The next call of a rank is the first of its round, or has a fault where it does not agree with the first.
     fn join(
         &mut self,
+        kind: Kind,
         index: usize,
-        rank: Rank,
-        call: CallRef<'_>,
+        own: First,
         faults: &mut Sequence<MatchFault>,
     ) -> Result<(), Memory>
-        ensures joined { OnOk result (self.new ≡ joined self.old index (own_of rank (call_of call.entry))) }
-        ensures faults { OnOk result (faults.new ≡ faults.old ++ cons_option (option_and_then (λ first. differs first (own_of rank (call_of call.entry)))
+        ensures joined { OnOk result (self.new ≡ joined self.old index own) }
+        ensures faults { OnOk result (faults.new ≡ faults.old ++ cons_option (option_and_then (λ first. differs kind first own)
             (slice_get self.old.firsts (number_in self.old.call_counts index))) []) }
     {
         let number = self.call_counts.count(index)?;
         if number < self.firsts.len() {
-            return push_some(faults, difference(self.firsts.get(number), rank, call));
+            return push_some(faults, difference(kind, self.firsts.get(number), &own));
         }
-        let window = copied(kind::window_of(call.what))?;
-        self.firsts.push(First {
-            rank,
-            line: call.line,
-            window,
-        })?;
+        self.firsts.push(own)?;
         Ok(())
     }
 }
 
 impl Rounds {
-    /// No calls.
-    pub(crate) fn new(alloc: Global) -> Rounds
-        ensures { AreRounds [] 0 result }
+    /// No calls of the kind.
+    pub(crate) fn new(alloc: Global, kind: Kind) -> Rounds
+        ensures { AreRounds kind [] 0 result }
     {
         Rounds {
-            comms: IndexMap::new(alloc),
+            kind,
+            names: IndexMap::new(alloc),
             faults: Sequence::new(alloc),
         }
     }
 
-    /// A call of the current rank, if it is collective, joins its round.
+    /// How many calls the current rank makes on the name.
+    pub(crate) fn number(&self, index: usize, name: &Name) -> usize
+        ensures { result ≡ number_in (rounds_of self.now.names.entries name.now).call_counts index }
+    {
+        match self.names.get(name) {
+            Some(name_rounds) => name_rounds.call_counts.number(index),
+            None => 0,
+        }
+    }
+
+    /// A call of the current rank joins its round, if it is of the kind.
     pub(crate) fn scan(
         &mut self,
         alloc: Global,
         index: usize,
         rank: Rank,
+        place: usize,
         call: CallRef<'_>,
     ) -> Result<(), Memory>
-        ensures { OnOk result ((done : List RankCalls) (own : RankCalls) (before : List Call) → length done ≡ index → own.rank ≡ rank
-            → AreRounds (so_far done own before) index self.old → AreRounds (so_far done own (before ++ call_of call.entry ∷ [])) index self.new) }
+        ensures { OnOk result ((kind : Kind) (done : List RankCalls) (own : RankCalls) (before : List Call) → length done ≡ index → own.rank ≡ rank
+            → place ≡ place_of before (call_of call.entry).what
+            → AreRounds kind (so_far done own before) index self.old → AreRounds kind (so_far done own (before ++ call_of call.entry ∷ [])) index self.new) }
     {
-        let Some(comm) = kind::comm_of(call.what) else {
+        let Some(name) = kind::named(self.kind, call.what) else {
             return Ok(());
         };
-        self.join(alloc, comm, index, rank, call)?;
+        let own = First::new(rank, place, call)?;
+        self.join(alloc, name, index, own)?;
         Ok(())
     }
 
-    /// The next call of a rank on the communicator joins its round.
-    fn join(
-        &mut self,
-        alloc: Global,
-        comm: &Name,
-        index: usize,
-        rank: Rank,
-        call: CallRef<'_>,
-    ) -> Result<(), Memory>
-        ensures joined { OnOk result ((name : List ℕ) → rounds_of self.new.comms.entries name
-            ≡ (if pointwise nat_eq comm.now name then joined (rounds_of self.old.comms.entries comm.now) index (own_of rank (call_of call.entry)) else rounds_of self.old.comms.entries name)) }
-        ensures faults { OnOk result (self.new.faults ≡ self.old.faults ++ cons_option (option_and_then (λ first. differs first (own_of rank (call_of call.entry)))
-            (first_at self.old.comms.entries comm.now (number_in (rounds_of self.old.comms.entries comm.now).call_counts index))) []) }
+    /// The next call of a rank on the name joins its round.
+    fn join(&mut self, alloc: Global, name: &Name, index: usize, own: First) -> Result<(), Memory>
+        ensures kind { OnOk result (self.new.kind ≡ self.old.kind) }
+        ensures joined { OnOk result ((other : List ℕ) → rounds_of self.new.names.entries other
+            ≡ (if pointwise nat_eq name.now other then joined (rounds_of self.old.names.entries name.now) index own else rounds_of self.old.names.entries other)) }
+        ensures faults { OnOk result (self.new.faults ≡ self.old.faults ++ cons_option (option_and_then (λ first. differs self.old.kind first own)
+            (first_at self.old.names.entries name.now (number_in (rounds_of self.old.names.entries name.now).call_counts index))) []) }
     {
-        if let Some(comm_rounds) = self.comms.get_mut(comm) {
-            return comm_rounds.join(index, rank, call, &mut self.faults);
+        if let Some(name_rounds) = self.names.get_mut(name) {
+            return name_rounds.join(self.kind, index, own, &mut self.faults);
         }
-        let mut comm_rounds = CommRounds::new(alloc);
-        comm_rounds.join(index, rank, call, &mut self.faults)?;
-        let comm = comm.copy()?;
-        self.comms.insert(comm, comm_rounds)?;
+        let mut name_rounds = NameRounds::new(alloc);
+        name_rounds.join(self.kind, index, own, &mut self.faults)?;
+        let name = name.copy()?;
+        self.names.insert(name, name_rounds)?;
         Ok(())
     }
 
-    /// The faults of the calls that differ from the first of their round.
+    /// The faults of the calls that do not agree with the first of their round.
     pub(crate) fn faults(self) -> Sequence<MatchFault>
         ensures { result ≡ self.faults }
     {
         self.faults
     }
 
-    /// Whether each member of each communicator makes as many collective calls on it as any rank does.
+    /// Whether each member makes as many calls of the kind on each name as any rank does.
     pub(crate) fn are_balanced(&self, members: &Members) -> bool
-        ensures { result ≡ true → (ranks : List RankCalls) (index : ℕ) → AreMembers ranks members.now → AreRounds ranks index self.now
-            → AreBalanced kind.Collective ranks }
+        ensures { result ≡ true → (kind : Kind) (ranks : List RankCalls) (index : ℕ) → AreMembers ranks members.now → AreRounds kind ranks index self.now
+            → AreBalanced kind ranks }
     {
-        for (comm, comm_rounds) in self.comms.iter() {
-            if !comm_rounds
+        for (name, name_rounds) in self.names.iter() {
+            if !name_rounds
                 .call_counts
-                .is_balanced(members.of(Kind::Collective, comm))
+                .is_balanced(members.of(self.kind, name))
             {
                 return false;
             }
@@ -164,35 +184,28 @@ impl Rounds {
     }
 }
 
-/// The fault of a call that differs from the first of its round.
-fn difference(first: &First, rank: Rank, call: CallRef<'_>) -> Option<MatchFault>
-    ensures { result ≡ differs first.now (own_of rank (call_of call.entry)) }
+/// The fault of a call of the kind, if it does not agree with the first of its round.
+fn difference(kind: Kind, first: &First, own: &First) -> Option<MatchFault>
+    ensures { result ≡ differs kind first.now own.now }
 {
-    let same = match (&first.window, kind::window_of(call.what)) {
-        (None, None) => true,
-        (Some(window), Some(own)) => own == window,
-        (None, Some(_)) | (Some(_), None) => false,
-    };
-    if same {
+    if own.arguments.agree_with(&first.arguments) {
         return None;
     }
     Some(MatchFault {
-        reason: MatchReason::CollectiveDiffers,
-        rank,
-        line: call.line,
+        reason: difference_reason(kind),
+        rank: own.rank,
+        line: own.line,
         other: Some((first.rank, first.line)),
     })
 }
 
-/// A name with the same bytes, if there is one.
-fn copied(name: Option<&Name>) -> Result<Option<Name>, Memory>
-    ensures { IfOk result (λ copy. copy ≡ option_copied name.entry) }
+/// The reason for which a call of the kind is reported that does not agree with the first of its round.
+fn difference_reason(kind: Kind) -> MatchReason
+    ensures { result ≡ difference_reason kind }
 {
-    match name {
-        Some(name) => match name.copy() {
-            Ok(name) => Ok(Some(name)),
-            Err(error) => Err(error),
-        },
-        None => Ok(None),
+    match kind {
+        Kind::Collective | Kind::Free => MatchReason::CollectiveDiffers,
+        Kind::Fence => MatchReason::AssertDiffers,
+        Kind::Moving => MatchReason::DataDiffers,
     }
 }

@@ -4,21 +4,19 @@ ghost use Rattle.rma_call.specs.Call.{Call, RankCalls, call_of};
 ghost use Rattle.rma_sync.specs.Collective.{so_far};
 ghost use Rattle.rma_sync.specs.inside.Scan.{HasScanned};
 
+use crate::all_rounds::AllRounds;
 use crate::attribute::WindowAttributes;
 use crate::declaration::{Declaration, push_declaration};
-use crate::free::FreeCounts;
-use crate::round::Rounds;
 use rma_base::{Memory, Rank, RankSet, Sequence};
 use rma_call::{CallRef, RankCalls};
 use std::alloc::Global;
 
-/// What the calls of a run declare, the rounds of their collective calls, and how often windows are freed.
+/// What the calls of a run declare, and their rounds.
 #[derive(Drop)]
 pub(crate) struct Scan {
     pub(crate) comms: Sequence<Declaration<RankSet>>,
     pub(crate) creations: Sequence<Declaration<WindowAttributes>>,
-    pub(crate) rounds: Rounds,
-    pub(crate) frees: FreeCounts,
+    pub(crate) rounds: AllRounds,
 }
 
 impl Scan {
@@ -40,8 +38,7 @@ impl Scan {
         Scan {
             comms: Sequence::new(alloc),
             creations: Sequence::new(alloc),
-            rounds: Rounds::new(alloc),
-            frees: FreeCounts::new(alloc),
+            rounds: AllRounds::new(alloc),
         }
     }
 
@@ -71,7 +68,6 @@ impl Scan {
         push_declaration(rank, call, &mut self.comms)?;
         push_declaration(rank, call, &mut self.creations)?;
         self.rounds.scan(alloc, index, rank, call)?;
-        self.frees.scan(alloc, index, call)?;
         Ok(())
     }
 }

@@ -37,7 +37,3 @@ pub record AreCallCounts (f : ℕ → ℕ) (index : ℕ) (t : CallCounts) : Type
   pub before_are : AreWithin f t.before
   pub largest_is : (m : ℕ) → f m ≤ t.largest
   pub within : t.last.rank ≤ index
-
--- what is kept under a name
-abbrev pub call_counts_of : List (List ℕ × CallCounts) → List ℕ → CallCounts
-call_counts_of all_counts name = unwrap_or (lookup (pointwise nat_eq name) all_counts) empty

@@ -4,7 +4,7 @@ use Rattle.std.specs.Map.{lookup}
 use Rattle.std.specs.Cmp.Lexicographic.{pointwise}
 use Rattle.rma_call.specs.Call.{RankCalls}
 use Rattle.rma_sync.specs.declared.kind.Kind.{Kind}
-use Rattle.rma_sync.specs.declared.kind.Kind.TheVariants.{Collective, Free}
+use Rattle.rma_sync.specs.declared.kind.Kind.TheVariants.{Collective, Free, Fence, Moving}
 use Rattle.rma_sync.specs.declared.missing.MissingOfKind.{MissingOfKind}
 use Rattle.rma_sync.specs.declared.missing.MissingCalls.{MissingCalls}
 use Rattle.rma_sync.specs.inside.Member.{AreMembers}
@@ -21,8 +21,10 @@ pub record IsMissingOfKind (kind : Kind) (ranks : List RankCalls) (w : MissingOf
   pub counts_are : AreCountsByRank kind ranks w.counts_by_rank
   pub known_are : (name : List ℕ) (fewest : Option ℕ) → lookup (pointwise nat_eq name) w.known.entries ≡ Some fewest → Tells kind ranks name fewest
 
--- what is kept is that of both kinds in this run
+-- what is kept is that of each kind in this run
 pub record AreMissingCalls (ranks : List RankCalls) (w : MissingCalls) : Type 0 where
   pub members_are : AreMembers ranks w.members
   pub collectives_are : IsMissingOfKind Collective ranks w.collectives
   pub frees_are : IsMissingOfKind Free ranks w.frees
+  pub fences_are : IsMissingOfKind Fence ranks w.fences
+  pub movings_are : IsMissingOfKind Moving ranks w.movings

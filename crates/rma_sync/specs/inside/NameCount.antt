@@ -2,6 +2,8 @@
 use Rattle.std.specs.Prelude.{◌≡◌, ℕ, ◌+◌, List, unwrap_or, if◌then◌else◌}
 use Rattle.rma_call.specs.Call.{Call}
 use Rattle.rma_sync.specs.declared.kind.Kind.{Kind}
+use Rattle.rma_sync.specs.declared.kind.Kind.TheVariants.{Collective, Free, Fence, Moving}
+use Rattle.rma_sync.specs.declared.name_count.AllCounts.{AllCounts}
 use Rattle.rma_sync.specs.Collective.{is_on, count_of}
 use Rattle.rma_sync.specs.inside.FirstIndex.{index_of}
 
@@ -16,3 +18,10 @@ AreCounts kind calls counts = (name : List ℕ) → count_in counts name ≡ cou
 -- the numbers with one more call
 abbrev pub IsCounted : Kind → List (List ℕ × ℕ) → List (List ℕ × ℕ) → Call → Type 0
 IsCounted kind old new call = (name : List ℕ) → count_in new name ≡ count_in old name + (if is_on kind name call then 1 else 0)
+
+-- the numbers of each kind are those of these calls
+pub record AreAllCounts (calls : List Call) (counts : AllCounts) : Type 0 where
+  pub collectives_are : AreCounts Collective calls counts.collectives.entries
+  pub frees_are : AreCounts Free calls counts.frees.entries
+  pub fences_are : AreCounts Fence calls counts.fences.entries
+  pub movings_are : AreCounts Moving calls counts.movings.entries

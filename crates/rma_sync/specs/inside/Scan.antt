@@ -4,25 +4,26 @@ use Rattle.std.specs.List.{list_all}
 use Rattle.rma_call.specs.Call.{RankCalls}
 use Rattle.rma_sync.specs.declared.kind.Kind.{Kind}
 use Rattle.rma_sync.specs.declared.kind.Kind.TheVariants as kind
-use Rattle.rma_sync.specs.declared.free.FreeCounts.{FreeCounts}
+use Rattle.rma_sync.specs.declared.all_rounds.AllRounds.{AllRounds}
 use Rattle.rma_sync.specs.declared.scan.Scan.{Scan}
 use Rattle.rma_sync.specs.Declaration.{declarations}
 use Rattle.rma_sync.specs.Attribute.{declared, created}
-use Rattle.rma_sync.specs.Collective.{made, made_on}
+use Rattle.rma_sync.specs.Collective.{made}
 use Rattle.rma_sync.specs.Member.{members}
-use Rattle.rma_sync.specs.inside.CallCount.{AreCallCounts, call_counts_of}
 use Rattle.rma_sync.specs.inside.Round.{AreRounds}
 
--- what is kept represents the calls of the ranks that free windows
-abbrev pub AreFrees : List RankCalls → ℕ → FreeCounts → Type 0
-AreFrees ranks index f = (window : List ℕ) → AreCallCounts (made_on kind.Free ranks window) index (call_counts_of f.windows.entries window)
+-- what is kept represents the calls of each kind of the ranks
+pub record AreAllRounds (ranks : List RankCalls) (index : ℕ) (m : AllRounds) : Type 0 where
+  pub collectives_are : AreRounds kind.Collective ranks index m.collectives
+  pub frees_are : AreRounds kind.Free ranks index m.frees
+  pub fences_are : AreRounds kind.Fence ranks index m.fences
+  pub movings_are : AreRounds kind.Moving ranks index m.movings
 
 -- what is kept represents the calls of the ranks up to the current one
 pub record HasScanned (ranks : List RankCalls) (index : ℕ) (r : Scan) : Type 0 where
   pub comms_are : r.comms ≡ declarations declared ranks
   pub creations_are : r.creations ≡ declarations created ranks
-  pub rounds_are : AreRounds ranks index r.rounds
-  pub frees_are : AreFrees ranks index r.frees
+  pub rounds_are : AreAllRounds ranks index r.rounds
 
 -- some number is the most calls of the kind that a rank makes on the name, and each member makes as many
 abbrev pub IsBalanced : Kind → List RankCalls → List ℕ → Type 0

@@ -1,12 +1,11 @@
-use Rattle.std.proofs.Common.{◌≡◌, Some, slice_get, [], ◌++◌, take, ap, sym, ◌∙◌, append_assoc}
+use Rattle.std.proofs.Common.{◌≡◌, Some, slice_get, [], ◌++◌, List, take, ap, sym, subst, ◌∙◌}
 use Rattle.std.specs.List.{cons_option}
 use Rattle.rma_base.specs.declared.rank.Rank.{Rank}
-use Rattle.rma_call.specs.Call.{call_of}
+use Rattle.rma_call.specs.Call.{Call, call_of}
 use Rattle.rma_sync.specs.declared.kind.Kind.TheVariants as kind
-use Rattle.rma_sync.specs.Collective.{walked}
-use Rattle.rma_sync.specs.Missing.{missing_at}
-use Rattle.rma_sync.proofs.WalkLemmas.{taken_there, walked_push}
-use Rattle.rma_sync.proofs.SoFarLemmas.{AreCounts_counted}
+use Rattle.rma_sync.specs.inside.NameCount.{AreAllCounts}
+use Rattle.rma_sync.specs.Missing.{missing_of, missing_at}
+use Rattle.rma_sync.proofs.WalkLemmas.{taken_there, walked_next}
 use Rattle.rma_sync.proofs.missing.judge_rank.Goals as goal
 
 pub loop-i-preserved : goal.loop-i-preserved
@@ -18,20 +17,17 @@ loop-i-preserved c =
     let there : slice_get calls i ≡ Some call = rw (← c.calls-calls.ensures) c.get-call.ensures in
     let before = take i calls in
     let so_far = c.loop-i.invariant in
-    let faults = c.args.faults.now in
+    let judged = c.in_ok-judge.ensures in
     record {
-      collectives = AreCounts_counted kind.Collective calls i call c.loop-i.collectives.entries c.note.new.counts.entries there so_far.collectives c.in_ok-note.ensures;
-      frees = AreCounts_counted kind.Free calls i call c.loop-i.frees.entries c.note-in-loop-i.new.counts.entries there so_far.frees c.in_ok-note-2.ensures;
-      judged = λ ranks missing.
-          let judged = so_far.judged ranks missing in
-          let judge = missing_at ranks in
-          let own = cons_option (judge rank before call) [] in (
-            c.in_ok-fault.ensures.missing ranks judged.0,
-            c.in_ok-push_some.ensures
-                ∙ ap (λ fault. c.loop-i.faults ++ cons_option fault [])
-                (c.in_ok-fault.ensures.fault ranks before judged.0 so_far.collectives so_far.frees ∙ ap (λ (r : Rank). judge r before call) c.rank.ensures)
-                ∙ ap (λ l. l ++ own) judged.1
-                ∙ append_assoc faults (walked judge rank [] before) own
-                ∙ ap (λ l. faults ++ l) (sym (walked_push judge rank [] before call) ∙ ap (walked judge rank []) (sym (taken_there calls i call there))),
-          );
+      counts = subst (λ (l : List Call). AreAllCounts l c.note.new.self) (sym (taken_there calls i call there)) (c.in_ok-note.ensures before so_far.counts);
+      missing = λ ranks missing. judged.missing ranks (so_far.missing ranks missing);
+      calls = λ ranks missing.
+          walked_next (missing_at ranks) rank calls i call c.args.faults.now.calls c.loop-i.faults.calls c.judge.new.faults.calls there (so_far.calls ranks missing)
+          (judged.calls ranks before (so_far.missing ranks missing) so_far.counts
+          ∙ ap (λ (r : Rank). c.loop-i.faults.calls ++ cons_option (missing_at ranks r before call) []) c.rank.ensures);
+      movings = λ ranks missing.
+          walked_next (missing_of kind.Moving ranks) rank calls i call c.args.faults.now.movings c.loop-i.faults.movings c.judge.new.faults.movings there
+          (so_far.movings ranks missing)
+          (judged.movings ranks before (so_far.missing ranks missing) so_far.counts
+          ∙ ap (λ (r : Rank). c.loop-i.faults.movings ++ cons_option (missing_of kind.Moving ranks r before call) []) c.rank.ensures);
     }

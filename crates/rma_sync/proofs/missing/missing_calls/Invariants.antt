@@ -1,6 +1,7 @@
 use Rattle.std.proofs.Common.{◌≡◌, take}
+use Rattle.rma_sync.specs.declared.kind.Kind.TheVariants as kind
 use Rattle.rma_sync.specs.Collective.{walked_all}
-use Rattle.rma_sync.specs.Missing.{missing_at}
+use Rattle.rma_sync.specs.Missing.{missing_of, missing_at}
 use Rattle.rma_sync.specs.inside.Missing.{AreMissingCalls}
 use Rattle.rma_sync.proofs.missing.missing_calls.Given as goal
 
@@ -8,5 +9,6 @@ use Rattle.rma_sync.proofs.missing.missing_calls.Given as goal
 abbrev pub invariant-loop-rank : goal.invariant-loop-rank
 invariant-loop-rank l = record {
   missing : AreMissingCalls l.ranks l.missing;
-  judged : l.faults ≡ walked_all (missing_at l.ranks) (take l.rank-index l.ranks);
+  calls : l.faults.calls ≡ walked_all (missing_at l.ranks) (take l.rank-index l.ranks);
+  movings : l.faults.movings ≡ walked_all (missing_of kind.Moving l.ranks) (take l.rank-index l.ranks);
 }

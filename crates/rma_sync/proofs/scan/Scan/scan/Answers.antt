@@ -21,5 +21,4 @@ returns c = λ done own before at rank has.
           ∙ ap (λ (r : Rank). declarations created (so_far done own before) ++ cons_option (declaration_of created r call) []) (sym rank)
           ∙ sym (declarations_more created done own before call);
       rounds_are = c.in_ok-scan.ensures done own before at rank has.rounds_are;
-      frees_are = c.in_ok-scan-2.ensures done own before at has.frees_are;
     }

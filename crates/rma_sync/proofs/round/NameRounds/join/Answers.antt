@@ -2,12 +2,10 @@ use Rattle.std.proofs.Common.{◌≤◌, ◌++◌, [], length, sym, ap, ◌∙�
 use Rattle.std.specs.List.{cons_option}
 use Rattle.std.specs.Option.{option_and_then}
 use Rattle.std.proofs.lemmas.Option.{slice_get_past}
-use Rattle.rma_call.specs.Call.{call_of}
 use Rattle.rma_sync.specs.declared.round.First.{First}
 use Rattle.rma_sync.specs.inside.CallCount.{number_in}
 use Rattle.rma_sync.specs.Round.{differs}
-use Rattle.rma_sync.specs.inside.Round.{own_of}
-use Rattle.rma_sync.proofs.round.CommRounds.join.Goals as goal
+use Rattle.rma_sync.proofs.round.NameRounds.join.Goals as goal
 
 -- no call has this number yet
 pub returns-clause-faults : goal.returns-clause-faults
@@ -17,5 +15,5 @@ returns-clause-faults c =
     let number = number_in c.args.self.now.call_counts c.args.index in
     let past : length firsts ≤ number = omega (arith, c.len.ensures, c.in_ok-number.ensures.number) in
     sym (append-nil faults)
-    ∙ ap (λ o. faults ++ cons_option (option_and_then (λ (first : First). differs first (own_of c.args.rank (call_of c.args.call))) o) [])
+    ∙ ap (λ o. faults ++ cons_option (option_and_then (λ (first : First). differs c.args.kind first c.args.own) o) [])
     (sym (slice_get_past firsts number past))
