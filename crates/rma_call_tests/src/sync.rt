@@ -1,9 +1,10 @@
 //! Calls of a few ranks, and what the rules of MPI 4.0 say of how they match.
 use rma_base::{AccOps, LineNo, MatchReason, Name, Rank, RankSet, Sequence, WinModel};
 use rma_call::{
-    Assertion, Assertions, CallList, EpochCall, FrameCall, MatchFault, MovingCall, RankCalls, SyncCall,
-    What, WindowCall,
+    Assertion, Assertions, CallList, EpochCall, FrameCall, MatchFault, MovingCall, RankCalls,
+    SyncCall, What, WindowCall,
 };
+use rma_exposure::is_run;
 use rma_sync::match_faults;
 use std::alloc::Global;
 use std::process::Abort;
@@ -132,6 +133,7 @@ fn check(
         all.push(calls(alloc, rank, shorts)?)?;
         rank = rank.checked_add(1).ok_or("too many ranks")?;
     }
+    assert!(rt; is_run(all.as_slice()));
     let found = match_faults(alloc, all.as_slice())?;
     assert_eq!(rt; found.as_slice(), expected);
     Ok(())
@@ -303,7 +305,12 @@ fn calls_that_move_data_agree(rt: HostRuntime) -> Result<(), Fail> {
     check(
         &rt,
         alloc,
-        &[&[Bcast(0, 4)], &[Bcast(0, 8)], &[Bcast(1, 4)], &[Reduce(0, 4)]],
+        &[
+            &[Bcast(0, 4)],
+            &[Bcast(0, 8)],
+            &[Bcast(1, 4)],
+            &[Reduce(0, 4)],
+        ],
         &[
             differs(reason, 1, 2, (0, 2)),
             differs(reason, 2, 2, (0, 2)),
@@ -322,7 +329,10 @@ fn calls_that_move_data_agree(rt: HostRuntime) -> Result<(), Fail> {
     check(
         &rt,
         alloc,
-        &[&[Bcast(0, 4), Barrier("world"), Bcast(0, 4)], &[Bcast(0, 4)]],
+        &[
+            &[Bcast(0, 4), Barrier("world"), Bcast(0, 4)],
+            &[Bcast(0, 4)],
+        ],
         &[missing(0, 3), lacks(MatchReason::DataMissing, 0, 4)],
     )
 }

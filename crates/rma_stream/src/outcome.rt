@@ -12,6 +12,7 @@ use rma_base::limits::RANKS;
 use rma_base::{Memory, Rank, Sequence};
 use rma_book::{BookEnd, RankBook};
 use rma_call::RankCalls;
+use rma_exposure::is_run;
 use rma_report::{Finding, FindingList};
 use rma_sync::match_faults;
 use std::alloc::Global;
@@ -71,9 +72,17 @@ impl Outcomes {
 }
 
 /// The calls that the calls of other ranks do not match, as findings.
+///
+/// # Errors
+///
+/// `Memory` where there is none left, and where these are not the calls of all ranks of a run: no log is bad where this is asked,
+/// so they are.
 fn mismatches(alloc: Global, calls: &[RankCalls]) -> Result<FindingList, Memory>
     ensures { IfOk result (λ list. list ≡ map Mismatch (match_faults calls.now)) }
 {
+    if !is_run(calls) {
+        return Err(Memory);
+    }
     let faults = match_faults(alloc, calls)?;
     let mut list = Sequence::new(alloc);
     for fault in faults.as_slice() {

@@ -34,8 +34,9 @@ pub appended : {X : Type 0} {a b l more new : List X} → new ≡ l ++ more → 
 appended is same_list same_more = cc
 
 -- lists, one after another
-pub joined : {X : Type 0} (a b c d e f g : List X) → (((((a ++ b) ++ c) ++ d) ++ e) ++ f) ++ g ≡ a ++ (b ++ (c ++ (d ++ (e ++ (f ++ (g ++ []))))))
-joined a b c d e f g = simp (append_assoc, append-nil)
+pub joined : {X : Type 0} (a b c d e f g h i j k : List X) →
+    (((a ++ b) ++ ((c ++ d) ++ e)) ++ (f ++ g)) ++ (((h ++ i) ++ j) ++ k) ≡ a ++ (b ++ (c ++ (d ++ (e ++ (f ++ (g ++ (h ++ (i ++ (j ++ (k ++ []))))))))))
+joined a b c d e f g h i j k = simp (append_assoc, append-nil)
 
 cons_option_append : {Y : Type 0} (o : Option Y) (xs ys : List Y) → cons_option o (xs ++ ys) ≡ cons_option o xs ++ ys
 cons_option_append None xs ys = refl

@@ -6,3 +6,4 @@ pub mod Round
 pub mod Scan
 pub mod ByRank
 pub mod Missing
+pub mod Matching

@@ -1,8 +1,10 @@
 //! All calls that the calls of other ranks do not match.
 ghost use Rattle.std.specs.Prelude.{◌≡◌, ◌++◌, [], true, IfOk, OnOk};
+ghost use Rattle.rma_exposure.specs.Run.{IsRun};
 ghost use Rattle.rma_sync.specs.inside.Member.{AreMembers};
 ghost use Rattle.rma_sync.specs.Missing.{missing_calls, missing_data};
 ghost use Rattle.rma_sync.specs.Matching.{match_faults};
+ghost use Rattle.rma_sync.specs.inside.Matching.{first_faults, last_faults};
 
 use crate::difference::differences;
 use crate::member::Members;
@@ -10,39 +12,63 @@ use crate::missing::{MissingFaults, missing_calls};
 use crate::scan::Scan;
 use rma_base::{MatchReason, Memory, Sequence};
 use rma_call::{MatchFault, RankCalls};
+use rma_exposure::Exposures;
+use rma_message::Messages;
 use std::alloc::Global;
 
-/// The faults of matching of a run, by reason in the order of the report, then by rank, then by line: those of all calls but
-/// messages, posts and starts.
-///
-/// The i-th element has the calls of rank i.
+/// The faults of matching of a run, by reason in the order of the report, then by rank, then by line.
 ///
 /// # Errors
 ///
 /// `Memory` where memory ran out.
 pub fn match_faults(alloc: Global, ranks: &[RankCalls]) -> Result<Sequence<MatchFault>, Memory>
+    requires { IsRun ranks.now }
     ensures { IfOk result (λ faults. faults ≡ match_faults ranks.now) }
 {
-    let Scan {
-        comms,
-        creations,
-        rounds,
-    } = Scan::new(alloc, ranks)?;
-    let members = Members::new(alloc, ranks, comms, creations)?;
-    let balanced = rounds.are_balanced(&members);
-    let window_faults = differences(alloc, MatchReason::WindowDiffers, &members.creations)?;
-    let comm_faults = differences(alloc, MatchReason::CommDiffers, &members.comms)?;
-    let missing = missing(alloc, ranks, members, balanced)?;
-    let fence_faults = rounds.fences.faults();
-    let moving_faults = rounds.movings.faults();
-    let mut faults = rounds.collectives.faults();
-    append(&mut faults, &missing.calls)?;
-    append(&mut faults, &fence_faults)?;
-    append(&mut faults, &window_faults)?;
-    append(&mut faults, &comm_faults)?;
-    append(&mut faults, &moving_faults)?;
-    append(&mut faults, &missing.movings)?;
+    let mut faults = Messages::of_calls(alloc, ranks)?.faults(alloc)?;
+    let rounds = RoundFaults::of_calls(alloc, ranks)?;
+    let exposures = Exposures::of_calls(alloc, ranks)?;
+    append(&mut faults, &rounds.first)?;
+    append(&mut faults, &exposures.faults(alloc, ranks)?)?;
+    append(&mut faults, &rounds.last)?;
     Ok(faults)
+}
+
+/// The faults of rounds, windows and communicators.
+#[derive(Drop)]
+struct RoundFaults {
+    /// Those that stand before the faults of posts and starts.
+    first: Sequence<MatchFault>,
+    /// Those that stand behind them.
+    last: Sequence<MatchFault>,
+}
+
+impl RoundFaults {
+    /// Those of a run.
+    fn of_calls(alloc: Global, ranks: &[RankCalls]) -> Result<RoundFaults, Memory>
+        ensures first { IfOk result (λ faults. faults.first ≡ first_faults ranks.now) }
+        ensures last { IfOk result (λ faults. faults.last ≡ last_faults ranks.now) }
+    {
+        let Scan {
+            comms,
+            creations,
+            rounds,
+        } = Scan::new(alloc, ranks)?;
+        let members = Members::new(alloc, ranks, comms, creations)?;
+        let balanced = rounds.are_balanced(&members);
+        let mut last = differences(alloc, MatchReason::WindowDiffers, &members.creations)?;
+        let comm_faults = differences(alloc, MatchReason::CommDiffers, &members.comms)?;
+        let missing = missing(alloc, ranks, members, balanced)?;
+        let fence_faults = rounds.fences.faults();
+        let moving_faults = rounds.movings.faults();
+        let mut first = rounds.collectives.faults();
+        append(&mut first, &missing.calls)?;
+        append(&mut first, &fence_faults)?;
+        append(&mut last, &comm_faults)?;
+        append(&mut last, &moving_faults)?;
+        append(&mut last, &missing.movings)?;
+        Ok(RoundFaults { first, last })
+    }
 }
 
 /// The faults of the calls that some member does not make, of which there are none where the counts are balanced.

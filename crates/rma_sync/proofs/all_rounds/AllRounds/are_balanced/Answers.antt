@@ -14,18 +14,18 @@ balanced : (c : goal.After-are_balanced-then-are_balanced-3) → c.are_balanced-
 balanced c last ranks index members are =
     let movings = c.are_balanced-then-are_balanced-3.ensures last kind.Moving ranks index members are.movings_are in
     elim c.if-are_balanced-2.branch [
-      then-are_balanced-2 w ↦
+      | then-are_balanced-2 w ↦
           let third : w.are_balanced-then-are_balanced-2.result ≡ true = cc in
           let fences = w.are_balanced-then-are_balanced-2.ensures third kind.Fence ranks index members are.fences_are in
           elim c.if-are_balanced.branch [
-            then-are_balanced v ↦
+            | then-are_balanced v ↦
                 let second : v.are_balanced-then-are_balanced.result ≡ true = cc in
                 let frees = v.are_balanced-then-are_balanced.ensures second kind.Free ranks index members are.frees_are in
                 let collectives = c.are_balanced.ensures v.if-are_balanced.true kind.Collective ranks index members are.collectives_are in
                 by_kind ranks collectives frees fences movings
-          | else-are_balanced v ↦ let no : ⊥ = cc in absurd no
+            | else-are_balanced v ↦ let no : ⊥ = cc in absurd no
           ]
-    | else-are_balanced-2 w ↦ let no : ⊥ = cc in absurd no
+      | else-are_balanced-2 w ↦ let no : ⊥ = cc in absurd no
     ]
 
 pub returns-then-are_balanced-3-clause-calls : goal.returns-then-are_balanced-3-clause-calls
