@@ -1,16 +1,17 @@
 -- Ends of messages by the numbers that they have among those of their keys.
-use Rattle.std.proofs.Common.{◌≡◌, ℕ, zero, suc, ◌+◌, ◌<◌, Bool, true, false, cond, List, [], ◌∷◌, ◌++◌, length, take, Option, Some, None, slice_get, refl, sym, ap, subst, ◌∙◌, arith, append_assoc, append-nil}
+use Rattle.std.proofs.Common.{◌≡◌, ℕ, zero, suc, ◌+◌, Bool, true, false, cond, List, [], ◌∷◌, ◌++◌, take, Option, Some, None, slice_get, refl, sym, ap, ◌∙◌, arith, append_assoc, append-nil}
 use Rattle.std.specs.Prelude.{filter, count_by, option_map, Contains}
 use Rattle.std.specs.List.{cons_option}
-use Rattle.std.proofs.lemmas.Bool.{false≢true}
+use Rattle.std.specs.Option.{option_map_or}
 use Rattle.std.proofs.lemmas.List.Sums.{sum_by-cons}
 use Rattle.std.proofs.lemmas.Option.{same_Some}
+use Rattle.rma_base.specs.declared.match_reason.MatchReason.{MatchReason}
+use Rattle.rma_call.specs.declared.match_fault.MatchFault.{MatchFault}
 use Rattle.rma_link.specs.declared.edge.Edge.{Edge}
-use Rattle.rma_message.specs.declared.key.Key.{Key}
 use Rattle.rma_message.specs.declared.end.End.{End}
 use Rattle.rma_message.specs.declared.messages.Messages.{Messages}
-use Rattle.rma_message.specs.Key.{has_key, same_key}
-use Rattle.rma_message.specs.Matching.{edge_between, edge_of, partner, walked}
+use Rattle.rma_message.specs.Key.{has_key}
+use Rattle.rma_message.specs.Matching.{IsUnmatched, edge_between, edge_of, fault_of, partner, unmatched, walked}
 use Rattle.rma_message.specs.Messages.{IsMessageEdge, edges_in}
 use Rattle.rma_message.proofs.MatchLemmas.{same_key_refl, same_key_true}
 
@@ -144,3 +145,43 @@ edge_of_number m edge is =
     ap (λ k. slice_get (filter (has_key k) m.sends) (count_by (has_key k) before)) same ∙ ap (slice_get (filter (has_key is.key) m.sends)) found.count ∙ is.is_send in
     has_at (edge_of m.sends) [] m.receives edge found.index is.receive found.there
     (ap (option_map (λ (send : End). edge_between send.call is.receive)) matched ∙ ap Some (sym is.is_edge))
+
+-- ---- faults
+
+-- each fault is that of an end without a match
+pub fault_by_number : (reason : MatchReason) (others own : List End) (fault : MatchFault) → Contains (unmatched reason others own) fault → IsUnmatched reason others own fault
+fault_by_number reason others own fault has = by (partner others before end) refl had.gives
+  where
+    had : IsHadAt (fault_of reason others) [] own fault
+    had = had_at (fault_of reason others) [] own fault has
+
+    end : End
+    end = had.end
+
+    before : List End
+    before = take had.index own
+
+    alone : MatchFault
+    alone = record { reason = reason; rank = end.rank; line = end.line; other = None }
+
+    by : (p : Option End) → partner others before end ≡ p → option_map_or (λ _. None) p (Some alone) ≡ Some fault → IsUnmatched reason others own fault
+    by (Some match) at is = cc
+    by None at is = record {
+      key = end.key;
+      number = count_by (has_key end.key) before;
+      end = end;
+      is_own = numbered (has_key end.key) own had.index end (same_key_refl end.key) had.there;
+      is_alone = at;
+      is_fault = sym (same_Some alone fault is);
+    }
+
+-- each end without a match has its fault
+pub fault_of_number : (reason : MatchReason) (others own : List End) (fault : MatchFault) → IsUnmatched reason others own fault → Contains (unmatched reason others own) fault
+fault_of_number reason others own fault is =
+    let found : IsNumber (has_key is.key) own is.number is.end = of_number (has_key is.key) own is.number is.end is.is_own in
+    let same : is.end.key ≡ is.key = same_key_true is.end.key is.key found.passes in
+    let before = take found.index own in
+    let alone : MatchFault = record { reason = reason; rank = is.end.rank; line = is.end.line; other = None } in
+    let none : partner others before is.end ≡ None =
+    ap (λ k. slice_get (filter (has_key k) others) (count_by (has_key k) before)) same ∙ ap (slice_get (filter (has_key is.key) others)) found.count ∙ is.is_alone in
+    has_at (fault_of reason others) [] own fault found.index is.end found.there (ap (λ (p : Option End). option_map_or (λ _. None) p (Some alone)) none ∙ ap Some (sym is.is_fault))

@@ -1,11 +1,12 @@
 -- The messages of ranks, call by call and rank by rank.
 use Rattle.std.proofs.Common.{◌≡◌, ℕ, suc, ◌+◌, ◌<◌, List, [], ◌∷◌, ◌++◌, length, take, get_or, slice_get, Option, Some, append_assoc, sym, ap, ◌∙◌, arith}
 use Rattle.std.specs.List.{cons_option, filter_map}
-use Rattle.std.proofs.lemmas.List.{length-take}
+use Rattle.std.proofs.lemmas.List.{flat_map_more, length-take}
 use Rattle.std.proofs.lemmas.List.Elements.{filter_map-append}
 use Rattle.std.proofs.lemmas.Option.{slice_get_within, get_or_from_slice_get}
-use Rattle.rma_call.specs.Call.{Call}
-use Rattle.rma_message.specs.RankMessages.{RankMessages, with_call, with_calls}
+use Rattle.rma_call.specs.Call.{Call, RankCalls}
+use Rattle.rma_message.specs.RankMessages.{RankMessages, messages_by, with_call, with_calls}
+use Rattle.rma_message.specs.Messages.{messages_of, receives_in, with_rank}
 use Rattle.rma_message.proofs.MatchLemmas.{taken}
 
 -- one more call
@@ -31,3 +32,11 @@ pub filter_map_more : {X Y : Type 0} (h : X → Option Y) (xs : List X) (i : ℕ
 filter_map_more h xs i x before lt is =
     append_assoc before (filter_map h (take i xs)) (cons_option (h x) [])
     ∙ ap (λ l. before ++ l) (sym (filter_map-append h (take i xs) (x ∷ [])) ∙ ap (filter_map h) (sym (taken xs i x lt is)))
+
+-- the messages of one more rank
+pub messages_more : (ranks : List RankCalls) (i : ℕ) (own : RankCalls) → i < length ranks → own ≡ get_or ranks i own →
+    with_rank (messages_of (take i ranks)) (messages_by own) ≡ messages_of (take (i + 1) ranks)
+messages_more ranks i own lt is =
+    ap (λ es. record { sends = es; receives = (messages_of (take i ranks)).receives ++ receives_in (messages_by own) }) (flat_map_more (λ (r : RankCalls). (messages_by r).sends) [] (take i ranks) own)
+    ∙ ap (λ es. record { sends = (messages_of (take i ranks ++ own ∷ [])).sends; receives = es }) (flat_map_more (λ (r : RankCalls). receives_in (messages_by r)) [] (take i ranks) own)
+    ∙ ap messages_of (sym (taken ranks i own lt is))

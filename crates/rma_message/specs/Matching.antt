@@ -1,5 +1,5 @@
 -- Which ends of messages match (MPI 4.0, "Point-to-Point Communication").
-use Rattle.std.specs.Prelude.{ℕ, ◌<◌, List, [], ◌∷◌, ◌++◌, Option, Some, None, option_map, filter, count_by, slice_get}
+use Rattle.std.specs.Prelude.{ℕ, ◌≡◌, ◌<◌, List, [], ◌∷◌, ◌++◌, Option, Some, None, option_map, filter, count_by, slice_get}
 use Rattle.std.specs.List.{cons_option}
 use Rattle.std.specs.Option.{option_map_or}
 use Rattle.rma_base.specs.Limits.{fed_limit}
@@ -7,6 +7,7 @@ use Rattle.rma_base.specs.declared.match_reason.MatchReason.{MatchReason}
 use Rattle.rma_call.specs.declared.match_fault.MatchFault.{MatchFault}
 use Rattle.rma_link.specs.declared.edge.Edge.{Edge}
 use Rattle.rma_link.specs.Point.{entry, return_of}
+use Rattle.rma_message.specs.declared.key.Key.{Key}
 use Rattle.rma_message.specs.declared.end.End.{End}
 use Rattle.rma_message.specs.Key.{has_key}
 
@@ -28,6 +29,15 @@ fault_of reason others before own =
 -- the faults of all such ends, in their order
 abbrev pub unmatched : MatchReason → List End → List End → List MatchFault
 unmatched reason others own = walked (fault_of reason others) [] own
+
+-- the fault of an end that has no match, by the number that it has among the ends of its key: the others have none of this number
+pub record IsUnmatched (reason : MatchReason) (others own : List End) (fault : MatchFault) : Type 0 where
+  pub key : Key
+  pub number : ℕ
+  pub end : End
+  pub is_own : slice_get (filter (has_key key) own) number ≡ Some end
+  pub is_alone : slice_get (filter (has_key key) others) number ≡ None
+  pub is_fault : fault ≡ record { reason = reason; rank = end.rank; line = end.line; other = None }
 
 -- the number of the call of an end is one that a call of the run may have
 abbrev pub IsNumbered : End → Type 0

@@ -39,9 +39,8 @@ impl Messages {
     ///
     /// # Errors
     ///
-    /// `Memory` where there is none left.
+    /// `Memory`, also where a rank makes more calls than a run may have.
     pub fn of_calls(alloc: Global, ranks: &[RankCalls]) -> Result<Messages, Memory>
-        requires { All (λ r. length r.calls ≤ fed_limit) ranks.now }
         ensures messages { IfOk result (λ messages. messages ≡ messages_of ranks.now) }
         ensures numbered { IfOk result AreNumbered }
     {

@@ -9,6 +9,7 @@ use crate::end::End;
 use crate::key::Key;
 use crate::receive::{Completion, Receive, complete};
 use indexmap::IndexMap;
+use rma_base::limits::FED;
 use rma_base::{LineNo, Memory, Name, Rank, Sequence};
 use rma_call::{CallRef, MessageCall, RankCalls, Received, WhatRef};
 use std::alloc::Global;
@@ -56,12 +57,15 @@ impl RankMessages {
     ///
     /// # Errors
     ///
-    /// `Memory` where there is none left.
+    /// `Memory`, also where there are more calls than a run may have.
     pub fn of_calls(alloc: Global, own: &RankCalls) -> Result<RankMessages, Memory>
-        requires { length own.now.calls ≤ fed_limit }
-        ensures { IfOk result (λ messages. messages ≡ messages_by own.now) }
+        ensures messages { IfOk result (λ messages. messages ≡ messages_by own.now) }
+        ensures few { OnOk result (length own.now.calls ≤ fed_limit) }
     {
         let calls = own.calls();
+        if calls.len() as u64 > FED {
+            return Err(Memory);
+        }
         let mut messages = RankMessages::new(alloc, own.rank());
         for i in 0..calls.len() {
             messages.take(i as u32, calls.get(i))?;
