@@ -5,3 +5,4 @@ pub mod EpochLemmas
 pub mod PositionLemmas
 pub mod RunLemmas
 pub mod WalkLemmas
+pub mod EdgeLemmas

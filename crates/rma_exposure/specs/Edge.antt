@@ -1,5 +1,5 @@
 -- What a complete orders before the return of an expwait (MPI 4.0, "One-Sided Communications").
-use Rattle.std.specs.Prelude.{ℕ, List, [], Option, option_map}
+use Rattle.std.specs.Prelude.{◌≡◌, ℕ, List, [], Option, Some, option_map, slice_get, Contains}
 use Rattle.std.specs.List.{filter_map}
 use Rattle.std.specs.Option.{option_and_then, option_map_or}
 use Rattle.rma_base.specs.declared.rank.Rank.{Rank}
@@ -33,3 +33,23 @@ edges_at calls rank number call = option_map_or (edges_to calls rank number) (op
 -- the edges of a run
 abbrev pub exposure_edges : List RankCalls → List Edge
 exposure_edges ranks = by_rank (edges_at (calls_of ranks)) ranks
+
+-- an edge of a run: a post of one of its ranks has an origin in its group whose start matches it; the start has a complete and
+-- the post an expwait; and the edge leads from the entry of the one to the return of the other
+pub record IsExposureEdge (ranks : List RankCalls) (edge : Edge) : Type 0 where
+  pub own : RankCalls
+  pub post : ℕ
+  pub call : Call
+  pub opening : Opening
+  pub origin : ℕ
+  pub start : ℕ
+  pub complete : ℕ
+  pub expwait : ℕ
+  pub of_run : Contains ranks own
+  pub there : slice_get own.calls post ≡ Some call
+  pub opens : opened Exposure call.what ≡ Some opening
+  pub has_origin : Contains opening.group origin
+  pub matched : match_of Exposure opening.window (calls_of ranks) own.rank.0 post origin ≡ Some start
+  pub completed : closing_of Access (calls_of ranks origin) start ≡ Some complete
+  pub waited : closing_of Exposure (calls_of ranks own.rank.0) post ≡ Some expwait
+  pub leads : record { from = entry (record { 0 = origin }) complete; to = return_of own.rank expwait } ≡ edge

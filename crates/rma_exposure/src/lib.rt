@@ -13,6 +13,7 @@
 mod edge;
 mod exposures;
 mod fault;
+pub mod laws;
 mod openings;
 mod rank_epochs;
 mod run;
