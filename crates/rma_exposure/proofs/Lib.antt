@@ -6,3 +6,4 @@ pub mod PositionLemmas
 pub mod RunLemmas
 pub mod WalkLemmas
 pub mod EdgeLemmas
+pub mod ClosingLemmas

@@ -1,9 +1,9 @@
 -- Which call closes an epoch (MPI 4.0, "One-Sided Communications").
-use Rattle.std.specs.Prelude.{ℕ, zero, suc, ◌+◌, List, [], ◌∷◌, Option, Some, None, if◌then◌else◌}
+use Rattle.std.specs.Prelude.{◌≡◌, ◌<◌, ℕ, zero, suc, ◌+◌, List, [], ◌∷◌, true, false, Option, Some, None, slice_get, if◌then◌else◌}
 use Rattle.std.specs.Option.{option_and_then}
 use Rattle.rma_call.specs.Call.{Call}
 use Rattle.rma_exposure.specs.declared.side.Side.{Side}
-use Rattle.rma_exposure.specs.Opening.{opened, opens_on, closes_on}
+use Rattle.rma_exposure.specs.Opening.{Opening, opened, opening_at, opens_on, closes_on}
 
 -- the number of the first call that closes an epoch of the side on the window, where none that opens one comes before it;
 -- the first of the calls has this number
@@ -22,3 +22,15 @@ closing_at side number (call ∷ calls) (suc index) = closing_at side (number + 
 -- post, that is the first on the window after it with no other start, or no other post, on the window between
 abbrev pub closing_of : Side → List Call → ℕ → Option ℕ
 closing_of side calls number = closing_at side 0 calls number
+
+-- one call of a rank closes the epoch that another one opens: it is on the same window and comes later, and no call between them
+-- opens or closes an epoch of the side on the window
+pub record IsClosedBy (side : Side) (calls : List Call) (opener closing : ℕ) : Type 0 where
+  pub opening : Opening
+  pub call : Call
+  pub opens : opening_at side calls opener ≡ Some opening
+  pub there : slice_get calls closing ≡ Some call
+  pub closes : closes_on side opening.window call ≡ true
+  pub later : opener < closing
+  pub between : (k : ℕ) (other : Call) → opener < k → k < closing → slice_get calls k ≡ Some other →
+      (closes_on side opening.window other ≡ false) × (opens_on side opening.window other ≡ false)

@@ -1,11 +1,19 @@
 //! What the definitions of this crate come to.
-ghost use Rattle.std.specs.Prelude.{List, Contains};
-ghost use Rattle.rma_call.specs.Call.{RankCalls};
+ghost use Rattle.std.specs.Prelude.{◌≡◌, ℕ, List, Some, Contains};
+ghost use Rattle.rma_call.specs.Call.{Call, RankCalls};
 ghost use Rattle.rma_link.specs.declared.edge.Edge.{Edge};
+ghost use Rattle.rma_exposure.specs.declared.side.Side.{Side};
+ghost use Rattle.rma_exposure.specs.Closing.{closing_of, IsClosedBy};
 ghost use Rattle.rma_exposure.specs.Edge.{exposure_edges, IsExposureEdge};
 
 /// The edges of a run are those of the definition, and no others.
 pub fn edges_are_of_matches()
     ensures only { (ranks : List RankCalls) (edge : Edge) → Contains (exposure_edges ranks) edge → IsExposureEdge ranks edge }
     ensures all { (ranks : List RankCalls) (edge : Edge) → IsExposureEdge ranks edge → Contains (exposure_edges ranks) edge }
+{}
+
+/// The call that closes an epoch is the one of the definition.
+pub fn epochs_are_closed_once()
+    ensures is { (side : Side) (calls : List Call) (opener closing : ℕ) → closing_of side calls opener ≡ Some closing → IsClosedBy side calls opener closing }
+    ensures has { (side : Side) (calls : List Call) (opener closing : ℕ) → IsClosedBy side calls opener closing → closing_of side calls opener ≡ Some closing }
 {}
