@@ -1,5 +1,5 @@
 -- What the calls of one round have to agree on (MPI 4.0, "Collective Communication" and "One-Sided Communications").
-use Rattle.std.specs.Prelude.{ℕ, List, Bool, true, false, nat_eq, ◌==◌, ◌&&◌}
+use Rattle.std.specs.Prelude.{ℕ, Bool, true, false, nat_eq, ◌==◌, ◌&&◌}
 use Rattle.std.specs.Bool.{beq}
 use Rattle.std.specs.Cmp.Lexicographic.{pointwise}
 use Rattle.rma_call.specs.declared.what.What.{What}

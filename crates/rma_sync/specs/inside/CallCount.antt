@@ -1,7 +1,5 @@
 -- How many calls each rank makes on a name, counted rank by rank.
-use Rattle.std.specs.Prelude.{◌≡◌, ℕ, ◌+◌, ◌<◌, ◌≤◌, List, [], ◌∷◌, ◌++◌, ◌==◌, max, nat_eq, unwrap_or, if◌then◌else◌}
-use Rattle.std.specs.Map.{lookup}
-use Rattle.std.specs.Cmp.Lexicographic.{pointwise}
+use Rattle.std.specs.Prelude.{◌≡◌, ℕ, ◌+◌, ◌<◌, ◌≤◌, List, [], ◌∷◌, ◌++◌, ◌==◌, max, if◌then◌else◌}
 use Rattle.rma_sync.specs.declared.call_count.RankCount.{RankCount}
 use Rattle.rma_sync.specs.declared.call_count.CallCounts.{CallCounts}
 

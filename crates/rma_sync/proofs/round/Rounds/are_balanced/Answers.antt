@@ -3,9 +3,7 @@ use Rattle.std.specs.List.{list_all}
 use Rattle.std.specs.Map.Iter.{deref_pair}
 use Rattle.std.proofs.lemmas.Map.Iter.{rest_more, rest_all}
 use Rattle.std.proofs.Common.{◌∙◌}
-use Rattle.rma_sync.specs.declared.kind.Kind.{Kind}
 use Rattle.rma_sync.specs.declared.round.NameRounds.{NameRounds}
-use Rattle.rma_sync.specs.inside.Scan.{AreBalanced}
 use Rattle.rma_sync.proofs.BalanceLemmas.{AllBalanced, IsBalancedIn, AreBalanced_found}
 use Rattle.rma_sync.proofs.round.Rounds.are_balanced.Goals as goal
 

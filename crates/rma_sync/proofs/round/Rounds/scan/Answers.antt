@@ -2,7 +2,6 @@ use Rattle.std.proofs.Common.{◌≡◌, ◌++◌, [], List, ℕ, Some, None, co
 use Rattle.std.specs.Option.{option_copied, option_and_then}
 use Rattle.std.specs.List.{cons_option}
 use Rattle.std.specs.Cmp.Lexicographic.{pointwise}
-use Rattle.rma_base.specs.declared.rank.Rank.{Rank}
 use Rattle.rma_call.specs.Call.{call_of, what_of}
 use Rattle.rma_sync.specs.declared.kind.Kind.{Kind}
 use Rattle.rma_sync.specs.declared.round.First.{First}
