@@ -1,7 +1,7 @@
 -- Reading a number back that was written in decimal digits.
-use Rattle.std.proofs.Common.{◌≡◌, ℕ, suc, ◌^◌, ◌<◌, ◌≤◌, Bool, true, false, ◌&&◌, List, [], ◌∷◌, length, Some, Ok, refl, sym, ap, ◌∙◌, ⊎_elim, arith, eqb, leb, not}
+use Rattle.std.proofs.Common.{◌≡◌, ℕ, suc, ◌-◌, ◌^◌, ◌<◌, ◌≤◌, Bool, true, false, ◌&&◌, List, [], ◌∷◌, length, Some, Ok, refl, sym, ap, ◌∙◌, ⊎_elim, arith, eqb, leb, not}
 use Rattle.std.specs.Prelude.{decimal, nat_eq, codes, pos, negsuc, option_map}
-use Rattle.std.specs.Char.{digit_value, is_digit}
+use Rattle.std.specs.Char.{digit_value, is_ascii_digit, is_digit}
 use Rattle.std.specs.List.{list_all, starts_with}
 use Rattle.std.specs.Str.Parse.{digits_value, IsNumeral, AllDigits}
 use Rattle.std.proofs.lemmas.Bool.{lt-ltb, le-leb, ne_eqb, eqb-true, cases_Bool, false≢true}
@@ -28,6 +28,13 @@ and_false false = refl
 decimal_digit : (byte : ℕ) → digit_value byte < 10 → is_decimal byte ≡ true
 decimal_digit byte low = grind (arith, nat_tests)
 
+-- what a decimal digit stands for
+pub decimal_value : (byte : ℕ) → is_ascii_digit byte ≡ true → digit_value byte ≡ byte - 48
+decimal_value byte is = grind (arith, nat_tests)
+
+pub decimal_value_low : (byte : ℕ) → is_ascii_digit byte ≡ true → digit_value byte < 10
+decimal_value_low byte is = grind (arith, nat_tests)
+
 all_decimal : (digits : List ℕ) → AllDigits 10 digits → list_all is_decimal digits ≡ true
 all_decimal [] all = refl
 all_decimal (byte ∷ digits) all = rw (decimal_digit byte all.0, all_decimal digits all.1)
@@ -50,7 +57,7 @@ not_hexadecimal (byte ∷ next ∷ digits) all =
 some_digits : (digits : List ℕ) → 0 < length digits → not (eqb (length digits) 0) ≡ true
 some_digits digits some = rw (ne_eqb (length digits) 0 (λ none. absurd (omega (arith, none, some)))) refl
 
-number_digits : (digits : List ℕ) → IsNumeral 10 digits → number digits ≡ Some (pos (digits_value 10 digits))
+pub number_digits : (digits : List ℕ) → IsNumeral 10 digits → number digits ≡ Some (pos (digits_value 10 digits))
 number_digits digits (some, all) =
     let decimals : list_all is_decimal digits ≡ true = all_decimal digits all in
     rw (unsigned digits decimals, not_hexadecimal digits decimals, some_digits digits some, all_digits digits all) refl

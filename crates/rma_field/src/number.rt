@@ -1,5 +1,5 @@
 //! Fields that are numbers.
-ghost use Rattle.std.specs.Prelude.{◌≡◌, ◌<◌, ◌≤◌, length, min, MatchOption, option_map, IfOk, Some, None, true, false, ℕ, ◌*◌, ◌+◌};
+ghost use Rattle.std.specs.Prelude.{◌≡◌, ◌<◌, ◌≤◌, length, min, MatchOption, option_map, IfOk, IfSome, Some, None, pos, true, false, ℕ, ◌*◌, ◌+◌};
 ghost use Rattle.std.specs.List.{list_all};
 ghost use Rattle.std.specs.Char.{digit_value, is_digit};
 ghost use Rattle.std.specs.Str.Parse.{digits_value};
@@ -12,6 +12,9 @@ use rma_base::{FormReason, Rank, Version};
 
 // Where magnitudes are cut off: above the range of every field.
 pub(crate) const CAP: u64 = 576_460_752_303_423_488;
+
+// Up to here one more decimal digit leaves a number below `CAP`.
+const SHORT: u64 = 50_000_000_000_000_000;
 
 // A number, its magnitude cut off at `CAP`.
 #[derive(Clone, Copy)]
@@ -82,7 +85,40 @@ pub fn refused(reason: FormReason) -> ParseError
 }
 
 // The number that the text is.
+#[inline]
 pub(crate) fn number(text: &[u8]) -> Option<Signed>
+    ensures { MatchOption result (number text.now ≡ None) (λ n. (m : ℕ) × (number text.now ≡ Some (signed n.negative m)) × (n.magnitude ≡ min m CAP)) }
+{
+    match short_number(text) {
+        Some(magnitude) => Some(Signed {
+            negative: false,
+            magnitude,
+        }),
+        None => any_number(text),
+    }
+}
+
+// The number that the text is, where it is decimal digits and far below `CAP`, as nearly all numbers of a log are.
+fn short_number(text: &[u8]) -> Option<u64>
+    ensures value { IfSome result (λ n. number text.now ≡ Some (pos n)) }
+    ensures bound { IfSome result (λ n. n ≤ CAP) }
+{
+    if text.is_empty() {
+        return None;
+    }
+    let mut value = 0u64;
+    for byte in text {
+        if !byte.is_ascii_digit() || value > SHORT {
+            return None;
+        }
+        value = value * 10 + u64::from(*byte - b'0');
+    }
+    Some(value)
+}
+
+// The number that the text is, whatever it is.
+#[inline(never)]
+fn any_number(text: &[u8]) -> Option<Signed>
     ensures { MatchOption result (number text.now ≡ None) (λ n. (m : ℕ) × (number text.now ≡ Some (signed n.negative m)) × (n.magnitude ≡ min m CAP)) }
 {
     let parts = split_number(text);
