@@ -1,6 +1,6 @@
 -- A layout that came before, moved to another address.
 use Rattle.std.proofs.Common.{◌≡◌, ℕ, ◌<◌, ◌≤◌, ◌+◌, ◌-◌, ◌^◌, fold, ℤ, pos, ◌+ℤ◌, ◌-ℤ◌, Bool, true, false, List, [], ◌∷◌, ◌++◌, map, length, get_or, Option, Some, None, Result, Ok, Err, IfOk, OnOk, IfErr, OnErr, ◌⊎◌, zero, suc, inl, inr, ◌↔◌, refl, sym, ap, subst, ◌∙◌, arith}
-use Rattle.std.specs.Prelude.{nat_lt, not, neg_ℤ, ◌≤ℤ◌, ◌<ℤ◌, int_le, ◌&&◌}
+use Rattle.std.specs.Prelude.{nat_lt, not, neg_ℤ, ◌≤ℤ◌, ◌<ℤ◌}
 use Rattle.std.proofs.lemmas.Bool.Decides.{nat_tests}
 use Rattle.std.proofs.lemmas.List.{get_or_append_left}
 use Rattle.rma_base.specs.Limits.{element_limit, block_limit, address_limit}
@@ -18,7 +18,7 @@ use Rattle.rma_type.specs.Change.{IsMade}
 use Rattle.rma_type.proofs.AddLemmas.{typemaps_push}
 use Rattle.rma_typemap.specs.Typemap.{Typemap}
 use Rattle.rma_layout.proofs.Words.{ints, Basic, LayoutError, Fault, Memory, OutOfSpace, length-append}
-use Rattle.rma_layout.specs.Layout.{TouchesByte, IsLayoutOf}
+use Rattle.rma_layout.specs.Layout.{IsLayoutOf}
 use Rattle.rma_layout.specs.Refusal.{IsErrorOf, refusal, first_fault, is_all_in, is_between, lowest}
 use Rattle.rma_layout.specs.inside.Known.{AreKnown, IsKnown, IsKnownIf, LieIn, touched_in}
 use Rattle.rma_layout.specs.declared.space.Space.{Space}

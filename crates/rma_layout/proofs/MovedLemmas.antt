@@ -1,18 +1,15 @@
 -- Elements that are touched at another address: all of them are moved by the same distance.
-use Rattle.std.proofs.Common.{◌≡◌, ◌≢◌, ℕ, ◌<◌, ◌≤◌, ◌+◌, ℤ, pos, ◌+ℤ◌, ◌-ℤ◌, Bool, true, false, List, [], ◌∷◌, ◌++◌, map, flat_map, take, length, All, Option, Some, None, ◌⊎◌, inl, inr, ⊎_elim, ◌↔◌, refl, sym, ap, ap₂, subst, ◌∙◌, arith}
-use Rattle.std.specs.Prelude.{nat_lt, not, IsTrue, ◌*ℤ◌, ◌≤ℤ◌, ◌<ℤ◌}
-use Rattle.std.specs.Ordering.{int_eq}
+use Rattle.std.proofs.Common.{◌≡◌, ◌≢◌, ℕ, ◌+◌, ℤ, pos, ◌+ℤ◌, ◌-ℤ◌, List, [], ◌∷◌, ◌++◌, map, take, All, Option, Some, None, inl, inr, ⊎_elim, ◌↔◌, refl, sym, ap, ap₂, subst, ◌∙◌, arith}
+use Rattle.std.specs.Prelude.{◌*ℤ◌}
 use Rattle.std.proofs.lemmas.List.{take-map}
-use Rattle.std.proofs.lemmas.List.Elements.{All-map, All-cons, All-head}
-use Rattle.rma_base.specs.Limits.{element_limit, block_limit}
-use Rattle.rma_bytes.specs.declared.run.Run.{Run}
+use Rattle.std.proofs.lemmas.List.Elements.{All-map}
 use Rattle.rma_bytes.specs.Layout.{Layout}
 use Rattle.rma_bytes.specs.Runs as run
 use Rattle.rma_bytes.proofs.IndexLemmas.{moved_bytes}
-use Rattle.rma_layout.proofs.Words.{ints, Basic, Typemap, elements, start_of, end_of, gap, map-append, Decides-int_eq, TooManyElements}
+use Rattle.rma_layout.proofs.Words.{ints, Basic, Typemap, elements, start_of, end_of, gap, map-append, Decides-int_eq}
 use Rattle.rma_layout.specs.Touched.{placed, touched}
-use Rattle.rma_layout.specs.Layout.{IsByteOfElement, TouchesByte, SharesByte, IsElementOf, IsLayoutOf}
-use Rattle.rma_typemap.specs.Typemap.{Entry, element, lower_mark, upper_mark, copy_at, copies_at, gaps_after, block_count}
+use Rattle.rma_layout.specs.Layout.{TouchesByte, SharesByte, IsElementOf, IsLayoutOf}
+use Rattle.rma_typemap.specs.Typemap.{element, lower_mark, upper_mark, copy_at, copies_at, gaps_after, block_count}
 use Rattle.rma_typemap.specs.Bounds.{extent}
 use Rattle.rma_typemap.specs.Constructors.{numbers}
 

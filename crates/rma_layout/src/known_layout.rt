@@ -27,6 +27,7 @@ pub(crate) struct KnownLayout {
 
 impl KnownLayout {
     /// The layout of the same elements at another address, where they lie in a space.
+    #[inline]
     pub(crate) fn placed_at(
         &self,
         alloc: Global,

@@ -23,17 +23,18 @@ use rma_type::{TypeError, TypeFault, TypeId, TypeTable};
 use std::alloc::Global;
 use std::marker::Model;
 
-/// How many layouts are known at most.
+/// How many layouts of one run at most are known at most, and how many of several.
 const SLOTS: usize = 64;
 
 /// The datatypes of one rank, and the layouts that were placed last. A program uses the same buffers over and over, or moves
-/// along them: what several runs cover is had once, and then shared by all buffers that differ by their address alone. Contracts
-/// see the datatypes.
+/// along them: a layout is had once, and then moved, for all buffers that differ by their address alone. Contracts see the
+/// datatypes.
 #[derive(Drop)]
 pub struct LayoutTable {
     /// The datatypes.
     types: TypeTable,
-    /// Layouts of several runs, each in a slot of its own: `SLOTS` of them.
+    /// Known layouts, each in a slot of its own: `SLOTS` for those of one run at most, which take no place of the others, and
+    /// behind these as many for those of several.
     known: Vec<Option<KnownLayout>>,
 }
 
@@ -115,6 +116,7 @@ impl LayoutTable {
     /// # Errors
     ///
     /// Those of [`place`].
+    #[inline]
     pub fn place(
         &mut self,
         datatype: TypeId,
@@ -140,13 +142,35 @@ impl LayoutTable {
     }
 
     /// The layout of so many elements that came before, if it is known.
+    #[inline]
     fn known(&self, datatype: TypeId, count: u32, entries: u64) -> Option<&KnownLayout>
         ensures known { IfSome result (λ known. IsKnown self.now.origins known.now) }
         ensures datatype { IfSome result (λ known. known.now.datatype ≡ datatype) }
         ensures count { IfSome result (λ known. known.now.count ≡ count) }
         ensures entries { IfSome result (λ known. known.now.entries ≡ entries) }
     {
-        match self.known.get(slot_of(datatype, entries)) {
+        let slot = slot_of(datatype, entries);
+        match self.known_in(slot, datatype, count, entries) {
+            Some(known) => Some(known),
+            None => self.known_in(SLOTS + slot, datatype, count, entries),
+        }
+    }
+
+    /// The layout of so many elements that is known in a slot, if it is.
+    #[inline]
+    fn known_in(
+        &self,
+        slot: usize,
+        datatype: TypeId,
+        count: u32,
+        entries: u64,
+    ) -> Option<&KnownLayout>
+        ensures known { IfSome result (λ known. IsKnown self.now.origins known.now) }
+        ensures datatype { IfSome result (λ known. known.now.datatype ≡ datatype) }
+        ensures count { IfSome result (λ known. known.now.count ≡ count) }
+        ensures entries { IfSome result (λ known. known.now.entries ≡ entries) }
+    {
+        match self.known.get(slot) {
             Some(Some(known))
                 if known.datatype == datatype && known.count == count && known.entries == entries =>
                 { Some(known) }
@@ -154,7 +178,7 @@ impl LayoutTable {
         }
     }
 
-    /// The layout of elements that is not known; it is from now on, where it has several runs.
+    /// The layout of elements that is not known; it is from now on.
     #[inline(never)]
     fn place_anew(
         &mut self,
@@ -177,9 +201,6 @@ impl LayoutTable {
             Ok(layout) => layout,
             Err(error) => return Err(error),
         };
-        if layout.len() < 2 {
-            return Ok(layout);
-        }
         let Ok(same) = layout.moved(self.types.allocator(), 0) else {
             return Err(LayoutError::Memory);
         };
@@ -199,7 +220,13 @@ impl LayoutTable {
 fn keep(slots: &mut Vec<Option<KnownLayout>>, known: KnownLayout)
     ensures { (origins : List Origin) → AreKnown origins slots.old.items → IsKnown origins known → AreKnown origins slots.new.items }
 {
-    if let Some(slot) = slots.get_mut(slot_of(known.datatype, known.entries)) {
+    let slot = slot_of(known.datatype, known.entries);
+    let at = if known.layout.len() < 2 {
+        slot
+    } else {
+        SLOTS + slot
+    };
+    if let Some(slot) = slots.get_mut(at) {
         *slot = Some(known);
     }
 }
@@ -208,14 +235,16 @@ fn keep(slots: &mut Vec<Option<KnownLayout>>, known: KnownLayout)
 fn no_layouts(alloc: Global) -> Result<Vec<Option<KnownLayout>>, Memory>
     ensures { IfOk result (λ known. (origins : List Origin) → AreKnown origins known.items) }
 {
-    let mut known = Vec::with_capacity(alloc, SLOTS)?;
-    for _ in 0..SLOTS {
+    let mut known = Vec::with_capacity(alloc, 2 * SLOTS)?;
+    for _ in 0..2 * SLOTS {
         known.push(None)?;
     }
     Ok(known)
 }
 
-/// The slot of a layout of so many elements of a datatype.
-fn slot_of(datatype: TypeId, entries: u64) -> usize {
+/// The slot of a layout of so many elements of a datatype, among those of its kind.
+fn slot_of(datatype: TypeId, entries: u64) -> usize
+    ensures { result < SLOTS }
+{
     (u64::from(datatype.0) ^ entries) as usize % SLOTS
 }

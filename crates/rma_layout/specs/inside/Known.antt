@@ -1,5 +1,5 @@
 -- Layouts that came before, and whether they may be moved.
-use Rattle.std.specs.Prelude.{◌≡◌, ◌<◌, ◌≤◌, ◌*◌, ℕ, ℤ, pos, ◌≤ℤ◌, ◌<ℤ◌, List, length, Option, Some, None, All}
+use Rattle.std.specs.Prelude.{◌≡◌, ◌<◌, ℕ, ℤ, pos, ◌≤ℤ◌, ◌<ℤ◌, List, length, Option, Some, None, All}
 use Rattle.rma_base.specs.Limits.{address_limit}
 use Rattle.rma_datatype.specs.declared.basic.Basic.{Basic}
 use Rattle.rma_bytes.specs.declared.run.Run.{Run}

@@ -1,4 +1,4 @@
-use Rattle.std.proofs.Common.{refl, w64, to_z, of_z}
+use Rattle.std.proofs.Common.{w64, to_z, of_z}
 use Rattle.std.proofs.lemmas.Int.{to_z-of_z}
 use Rattle.rma_layout.specs.inside.Known.{IsKnown}
 use Rattle.rma_layout.specs.declared.known_layout.KnownLayout.{KnownLayout}

@@ -1,4 +1,4 @@
-use Rattle.std.proofs.Common.{◌≡◌, pos, length, take, drop, OnOk, IfErr, ap, subst, ◌∙◌, arith}
+use Rattle.std.proofs.Common.{◌≡◌, pos, length, take, drop, OnOk, IfErr, ap, subst, arith}
 use Rattle.rma_layout.proofs.Words.{span, copies, bytes_of, sealed, Appends, Refuses, take_all}
 use Rattle.rma_layout.proofs.OutputLemmas.{on_ok, appends_same, copies_of_only, sealed_is_sound, appends_sealed}
 use Rattle.rma_layout.proofs.output.Output.again.Goals as goal
