@@ -242,9 +242,13 @@ fn no_layouts(alloc: Global) -> Result<Vec<Option<KnownLayout>>, Memory>
     Ok(known)
 }
 
+/// What mixes a number of elements: 2 to the 64th, divided by the golden ratio. Round numbers come to slots of their own.
+const MIXER: u64 = 11_400_714_819_323_198_485;
+
 /// The slot of a layout of so many elements of a datatype, among those of its kind.
 fn slot_of(datatype: TypeId, entries: u64) -> usize
     ensures { result < SLOTS }
 {
-    (u64::from(datatype.0) ^ entries) as usize % SLOTS
+    let mixed = entries.wrapping_mul(MIXER) >> 58;
+    (u64::from(datatype.0) ^ mixed) as usize % SLOTS
 }
