@@ -40,7 +40,7 @@ event_keeps old new (Local line) event keeps is = is
 line_keeps : (old new : List What) → Keeps old new → (known : Option Known) → IfSome known (IsKnown old) → IfSome known (IsKnown new)
 line_keeps old new keeps None kept = tt
 line_keeps old new keeps (Some known) kept =
-    record { event = kept.event; is = event_keeps (table_of old) (table_of new) (Call known.what known.request) kept.event keeps kept.is; said = kept.said }
+    record { event = kept.event; is = event_keeps (table_of old) (table_of new) known.event kept.event keeps kept.is; said = kept.said }
 
 -- the known lines stay so
 pub are_kept : (old new : List What) (slots : List (Option Known)) → Keeps old new → AreKept old slots → AreKept new slots
@@ -88,6 +88,13 @@ reading_split v line words (Some site) event split said = reading_site v line wo
 pub reads_split : (table : CallTable) (result : Result (Option ReadLine) ParseError) (v : Version) (line words : List ℕ) (site : Option (List ℕ)) (event : Event) → IsSplit line words site
     → states v words (record { event = event; site = None }) → Reads table result (stated_at event site) → Reads table result (reading v line)
 reads_split table result v line words site event split said read = subst (Reads table result) (sym (reading_split v line words site event split said)) read
+
+-- so is what is read of words that state an event
+pub reads_stated : (calls table : CallTable) (result : Result (Option ReadLine) ParseError) (v : Version) (line words : List ℕ) (site : Option (List ℕ)) (read : ReadEvent) → IsSplit line words site
+    → IsStatedBy v calls.whats words read → ((event : Event) → IsEvent calls read event → Reads table result (stated_at event site)) → Reads table result (reading v line)
+reads_stated calls table result v line words site read split stated reads =
+    reads_split table result v line words site stated.event split stated.said
+    (reads stated.event (event_keeps (table_of calls.whats) calls read stated.event (λ number value it. it) stated.is))
 
 -- words that are known
 module _ (seen : Reading) (version : Version) (calls : CallTable) (slots : List (Option Known)) (line words : List ℕ) (site : Option (List ℕ)) (read : ReadEvent) (same : version ≡ seen.version)

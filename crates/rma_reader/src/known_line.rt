@@ -1,7 +1,8 @@
 //! What the words of a line state.
 ghost use Rattle.std.specs.Prelude.{◌≡◌, IfOk, true};
 
-use rma_base::{Memory, Name, Version};
+use crate::read_line::ReadEvent;
+use rma_base::{Memory, Version};
 use std::alloc::Global;
 use std::marker::Model;
 
@@ -12,10 +13,8 @@ pub(crate) struct KnownLine {
     version: Version,
     /// The words.
     words: Vec<u8>,
-    /// The number of what the call does.
-    what: u32,
-    /// The request that the call makes or completes.
-    request: Option<Name>,
+    /// What they state: a call.
+    event: Box<ReadEvent>,
 }
 
 impl Model for KnownLine {
@@ -23,27 +22,25 @@ impl Model for KnownLine {
 
     ghost Value = { Known };
 
-    ghost view = { λ line. record { version = line.version; words = line.words.items; what = line.what; request = line.request } };
+    ghost view = { λ line. record { version = line.version; words = line.words.items; event = line.event.value } };
 }
 
 impl KnownLine {
-    /// The line of these words, which state this call in this version.
+    /// The line of these words, which state this in this version.
     pub(crate) fn new(
         alloc: Global,
         version: Version,
         words: &[u8],
-        what: u32,
-        request: &Option<Name>,
+        event: ReadEvent,
     ) -> Result<KnownLine, Memory>
-        ensures { IfOk result (λ line. line ≡ record { version = version; words = words.now; what = what; request = request.now }) }
+        ensures { IfOk result (λ line. line ≡ record { version = version; words = words.now; event = event }) }
     {
         let words = Vec::from_slice(alloc, words)?;
-        let request = copy(request)?;
+        let event = Box::new(alloc, event)?;
         Ok(KnownLine {
             version,
             words,
-            what,
-            request,
+            event,
         })
     }
 
@@ -56,30 +53,11 @@ impl KnownLine {
         self.version == version && self.words.as_slice() == words
     }
 
-    /// The number of what the call does.
+    /// What they state.
     #[inline]
-    pub(crate) fn what(&self) -> u32
-        ensures { result ≡ self.now.what }
+    pub(crate) fn event(&self) -> &ReadEvent
+        ensures { result.now ≡ self.now.event }
     {
-        self.what
-    }
-
-    /// The request that the call makes or completes. It takes no memory.
-    #[inline]
-    pub(crate) fn request(&self) -> Result<Option<Name>, Memory>
-        ensures { IfOk result (λ request. request ≡ self.now.request) }
-    {
-        copy(&self.request)
-    }
-}
-
-/// The name of the request, shared.
-#[inline]
-fn copy(request: &Option<Name>) -> Result<Option<Name>, Memory>
-    ensures { IfOk result (λ copied. copied ≡ request.now) }
-{
-    match request {
-        Some(name) => Ok(Some(name.copy()?)),
-        None => Ok(None),
+        &self.event
     }
 }

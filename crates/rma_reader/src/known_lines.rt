@@ -1,10 +1,10 @@
 //! The lines that a log repeats.
 ghost use Rattle.std.specs.Prelude.{IfOk, IfSome, List};
 ghost use Rattle.rma_call.specs.declared.what.What.{What};
-ghost use Rattle.rma_reader.specs.declared.read_line.ReadEvent.TheVariants.{Call};
 ghost use Rattle.rma_reader.specs.inside.Known.{IsKnown, IsStatedBy};
 ghost use Rattle.rma_reader.specs.inside.Slots.{AreKept};
 
+use crate::copy::copy;
 use crate::known_line::KnownLine;
 use crate::read_line::ReadEvent;
 use rma_base::{Memory, Version};
@@ -46,16 +46,16 @@ impl KnownLines {
         Ok(KnownLines { keys, slots })
     }
 
-    /// The line of these words in this version, if it is known. This is the key of the words.
+    /// The call that these words state in this version, if they are known. This is the key of the words.
     #[inline]
-    pub(crate) fn line(&self, key: u64, version: Version, words: &[u8]) -> Option<&KnownLine>
-        ensures { IfSome result (λ line. (whats : List What) → AreKept whats self.now.slots.items → IsStatedBy version whats words.now (Call line.now.what line.now.request)) }
+    pub(crate) fn event(&self, key: u64, version: Version, words: &[u8]) -> Option<&ReadEvent>
+        ensures { IfSome result (λ event. (whats : List What) → AreKept whats self.now.slots.items → IsStatedBy version whats words.now event.now) }
     {
         if !self.has_key(key) {
             return None;
         }
         match self.slots.get(slot_of(key)) {
-            Some(Some(line)) if line.is(version, words) => Some(line),
+            Some(Some(line)) if line.is(version, words) => Some(line.event()),
             _ => None,
         }
     }
@@ -84,10 +84,10 @@ impl KnownLines {
         if !self.comes_again(key) {
             return Ok(());
         }
-        let ReadEvent::Call { what, request } = event else {
+        let Some(event) = copy(event)? else {
             return Ok(());
         };
-        let line = KnownLine::new(alloc, version, words, *what, request)?;
+        let line = KnownLine::new(alloc, version, words, event)?;
         self.keep(key, line);
         Ok(())
     }

@@ -9,6 +9,7 @@
 //! that is remembered can be wrong, and no answer depends on it.
 #![tactic(auto)]
 
+mod copy;
 mod key;
 mod known_line;
 mod known_lines;

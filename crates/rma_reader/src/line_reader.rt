@@ -9,9 +9,11 @@ ghost use Rattle.rma_form.specs.declared.event.Event.{Event};
 ghost use Rattle.rma_form.specs.Lines.{reading, states};
 ghost use Rattle.rma_field.specs.Steps.{Fails};
 ghost use Rattle.rma_reader.specs.Reading.{Grows, IsEvent, IsRead, line_of};
+ghost use Rattle.rma_reader.specs.inside.Known.{IsStatedBy};
 ghost use Rattle.rma_reader.specs.inside.Split.{stated_at};
 ghost use Rattle.rma_reader.specs.inside.Tables.{Reads};
 
+use crate::copy::{copy, copy_request};
 use crate::known_lines::KnownLines;
 use crate::numbered_calls::NumberedCalls;
 use crate::read_line::{KnownCall, ReadEvent, ReadLine};
@@ -82,19 +84,21 @@ impl LineReader {
         ensures grows { Grows self.old self.new }
     {
         let (words, site) = line.parts();
-        let Some(known) = self.lines.line(line.key(), self.version, words) else {
+        let Some(ReadEvent::Call { what, request }) = self
+            .lines
+            .event(line.key(), self.version, words)
+        else {
             return Ok(None);
         };
         let site = match self.calls.site_at(self.texts.allocator(), site) {
             Ok(site) => site,
             Err(error) => return Err(error),
         };
-        let what = known.what();
-        let Ok(request) = known.request() else {
+        let Ok(request) = copy_request(request) else {
             return Err(ParseError::Memory);
         };
         Ok(Some(KnownCall {
-            what,
+            what: *what,
             request,
             site,
         }))
@@ -119,6 +123,43 @@ impl LineReader {
 
     /// What the line states, by its words.
     fn read_words(&mut self, line: &SplitLine<'_>) -> Result<Option<ReadLine>, ParseError>
+        ensures read { Reads self.new.calls result (reading self.old.version line.now) }
+        ensures grows { Grows self.old self.new }
+    {
+        let (words, _) = line.parts();
+        match self.lines.event(line.key(), self.version, words) {
+            Some(_) => self.read_again(line),
+            None => self.read_new(line),
+        }
+    }
+
+    /// What the line states, by its words, which may be known. It stands apart, so that new lines do not pay for the room that
+    /// it takes.
+    #[inline(never)]
+    fn read_again(&mut self, line: &SplitLine<'_>) -> Result<Option<ReadLine>, ParseError>
+        ensures read { Reads self.new.calls result (reading self.old.version line.now) }
+        ensures grows { Grows self.old self.new }
+    {
+        let (words, site) = line.parts();
+        match self.known_event(line.key(), words) {
+            Ok(Some(event)) => self.calls.read_at(self.texts.allocator(), event, site),
+            Ok(None) => self.read_new(line),
+            Err(Memory) => Err(ParseError::Memory),
+        }
+    }
+
+    /// The call that these words state, if they are known. This is their key.
+    fn known_event(&self, key: u64, words: &[u8]) -> Result<Option<ReadEvent>, Memory>
+        ensures { IfOk result (λ event. IfSome event (IsStatedBy self.now.version self.now.calls.whats words.now)) }
+    {
+        match self.lines.event(key, self.version, words) {
+            Some(event) => copy(event),
+            None => Ok(None),
+        }
+    }
+
+    /// What the line states, by its words, which are not known.
+    fn read_new(&mut self, line: &SplitLine<'_>) -> Result<Option<ReadLine>, ParseError>
         ensures read { Reads self.new.calls result (reading self.old.version line.now) }
         ensures grows { Grows self.old self.new }
     {

@@ -1,20 +1,18 @@
 -- What is known of the words of a line.
-use Rattle.std.specs.Prelude.{ℕ, List, [], Option, None}
+use Rattle.std.specs.Prelude.{ℕ, List, [], None}
 use Rattle.rma_base.specs.declared.version.Version.{Version}
 use Rattle.rma_call.specs.declared.what.What.{What}
 use Rattle.rma_call.specs.Call.{CallTable}
 use Rattle.rma_form.specs.declared.event.Event.{Event}
 use Rattle.rma_form.specs.Lines.{states}
 use Rattle.rma_reader.specs.declared.read_line.ReadEvent.{ReadEvent}
-use Rattle.rma_reader.specs.declared.read_line.ReadEvent.TheVariants.{Call}
 use Rattle.rma_reader.specs.Reading.{IsEvent}
 
 -- the words of a line without its site, and the call that they state in this version
 pub record Known : Type 0 where
   pub version : Version
   pub words : List ℕ
-  pub what : ℕ
-  pub request : Option (List ℕ)
+  pub event : ReadEvent
 
 -- no calls, where what calls do has the numbers of this table
 abbrev pub table_of : List What → CallTable
@@ -28,4 +26,4 @@ pub record IsStatedBy (version : Version) (whats : List What) (words : List ℕ)
 
 -- the words of a known line state its call
 abbrev pub IsKnown : List What → Known → Type 0
-IsKnown whats line = IsStatedBy line.version whats line.words (Call line.what line.request)
+IsKnown whats line = IsStatedBy line.version whats line.words line.event

@@ -2,7 +2,7 @@ use Rattle.std.proofs.Common.{List, Option, ℕ, Ok, Some, ap, sym, ◌∙◌}
 use Rattle.rma_form.specs.Lines.{reading}
 use Rattle.rma_reader.specs.Reading.{Reading}
 use Rattle.rma_reader.proofs.ReaderLemmas.{at_site, reads_split}
-use Rattle.rma_reader.proofs.line_reader.LineReader.read_words.Goals as goal
+use Rattle.rma_reader.proofs.line_reader.LineReader.read_new.Goals as goal
 
 pub returns-in-None-clause-read : goal.returns-in-None-clause-read
 returns-in-None-clause-read c =
