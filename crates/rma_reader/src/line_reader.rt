@@ -143,7 +143,7 @@ impl LineReader {
         let (words, site) = line.parts();
         match self.known_event(line.key(), words) {
             Ok(Some(event)) => self.calls.read_at(self.texts.allocator(), event, site),
-            Ok(None) => self.read_new(line),
+            Ok(None) => self.read_whole(line.line()),
             Err(Memory) => Err(ParseError::Memory),
         }
     }
