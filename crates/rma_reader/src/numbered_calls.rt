@@ -116,6 +116,7 @@ impl NumberedCalls {
     }
 
     /// What is read of a line whose words state this event, and this is the text of its site.
+    #[inline]
     pub(crate) fn read_at(
         &mut self,
         alloc: Global,
