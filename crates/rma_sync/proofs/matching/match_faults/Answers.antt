@@ -1,13 +1,9 @@
-use Rattle.std.proofs.Common.{ap, get_or, ◌∙◌}
-use Rattle.std.proofs.lemmas.Option.{slice_get-get_or}
+use Rattle.std.proofs.Common.{ap, ◌∙◌}
 use Rattle.rma_base.specs.declared.match_reason.MatchReason.TheVariants.{SendUnreceived, ReceiveUnsent, CollectiveDiffers, CollectiveMissing, AssertDiffers, PostUnmatched, StartUnmatched, WindowDiffers, CommDiffers, DataDiffers, DataMissing}
 use Rattle.rma_message.specs.Messages.{faults_in}
 use Rattle.rma_sync.specs.Matching.{faults_of}
 use Rattle.rma_sync.proofs.WalkLemmas.{appended, joined}
 use Rattle.rma_sync.proofs.matching.match_faults.Goals as goal
-
-pub of_calls-requires : goal.of_calls-requires
-of_calls-requires c = λ k d below. c.requires.few k (get_or c.args.ranks.now k d) (slice_get-get_or c.args.ranks.now k d below)
 
 pub returns : goal.returns
 returns c =
