@@ -48,9 +48,11 @@ class Case:
             self.logs = {str(it): text.replace("{rank}", str(it)).replace("{ranks}", str(ranks)) for it in range(ranks)}
 
     def needs_the_proved_program(self):
-        """Whether a run of the sources cannot show it: that has an output of its own, and takes words that are UTF-8."""
+        """Whether a run of the sources cannot show it: that has an output of its own, takes words that are UTF-8, and finds no
+        log whose name begins with a dash."""
         is_text = all(it.isprintable() for it in self.words)
-        return self.output is not None or self.size() > MOST_UNPROVED or not is_text
+        has_dashes = "--" in self.words and any(it.startswith("-") for it in self.logs)
+        return self.output is not None or self.size() > MOST_UNPROVED or not is_text or has_dashes
 
     def size(self):
         """How many bytes the logs have together, more or less."""
