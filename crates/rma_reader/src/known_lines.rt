@@ -62,7 +62,7 @@ impl KnownLines {
 
     /// Whether words of this key may be known.
     #[inline]
-    fn has_key(&self, key: u64) -> bool {
+    pub(crate) fn has_key(&self, key: u64) -> bool {
         match self.keys.get(slot_of(key)) {
             Some(keys) => keys.known == part_of(key),
             None => false,

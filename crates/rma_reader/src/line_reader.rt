@@ -126,10 +126,10 @@ impl LineReader {
         ensures read { Reads self.new.calls result (reading self.old.version line.now) }
         ensures grows { Grows self.old self.new }
     {
-        let (words, _) = line.parts();
-        match self.lines.event(line.key(), self.version, words) {
-            Some(_) => self.read_again(line),
-            None => self.read_new(line),
+        if self.lines.has_key(line.key()) {
+            self.read_again(line)
+        } else {
+            self.read_new(line)
         }
     }
 
