@@ -15,7 +15,7 @@ use Rattle.rma_audit.specs.declared.status.Status.{Status}
 use Rattle.rma_audit.specs.declared.status.Status.TheVariants as status
 
 module _ (run : Run) (command : Command) (texts : List (List ℕ)) (findings : Findings) (words : IsAudit run.words command) (judged : HasJudged command.names run.source run.opened texts findings) where
-  text : List ℕ
+  abbrev text : List ℕ
   text = report_of command findings.ranks findings.lines findings.list
 
   -- the text is that of the report

@@ -1,5 +1,3 @@
-pub mod Command
 pub mod Opening
 pub mod Progress
 pub mod Runs
-pub mod Words

@@ -80,7 +80,7 @@ fn write_report<S: Sink>(
     findings: &Findings,
     out: &mut S,
 ) -> Status
-    ensures written { HasWritten result (report_of (asked command) findings.now.ranks findings.now.lines findings.now.list) findings.now.list (S.output out.old) (S.output out.new) }
+    ensures written { HasWritten result (report_of (asked command.entry) findings.now.ranks findings.now.lines findings.now.list) findings.now.list (S.output out.old) (S.output out.new) }
     ensures nothing_written { WritesNothing result → out.new ≡ out.old }
 {
     let limit = limit_of(command, findings);
@@ -95,7 +95,7 @@ fn write_report<S: Sink>(
 
 // How many of the findings are shown.
 fn limit_of(command: Command<'_>, findings: &Findings) -> u64
-    ensures { result ≡ limit_of (asked command) findings.now.list }
+    ensures { result ≡ limit_of (asked command.entry) findings.now.list }
 {
     match command.limit {
         Some(limit) => u64::from(limit),
