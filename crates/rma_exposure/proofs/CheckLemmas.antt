@@ -1,5 +1,5 @@
 -- The logs of a run, looked at one by one.
-use Rattle.std.proofs.Common.{◌≡◌, ◌<◌, ◌≤◌, ℕ, ◌+◌, List, length, Some, slice_get, refl, sym, ◌∙◌, subst, arith, inl, inr, ◌⊎◌, ◌≢◌, true, false, eqb}
+use Rattle.std.proofs.Common.{◌≡◌, ◌<◌, ◌≤◌, ℕ, ◌+◌, List, length, Some, slice_get, refl, sym, subst, arith, inl, inr, ◌⊎◌, ◌≢◌, true, false, eqb}
 use Rattle.std.proofs.Common.{get_or}
 use Rattle.std.proofs.lemmas.Option.{slice_get_within, slice_get_read}
 use Rattle.rma_base.specs.Limits.{fed_limit}

@@ -1,5 +1,5 @@
 -- The report as JSON (the report format of this product): one compact object, its members in the order of their names.
-use Rattle.std.specs.Prelude.{ℕ, ◌-◌, List, [], ◌∷◌, ◌++◌, Option, Some, None, length, take, map, codes, ◌==◌, if◌then◌else◌}
+use Rattle.std.specs.Prelude.{ℕ, ◌-◌, List, ◌++◌, Option, Some, None, length, take, map, codes, ◌==◌, if◌then◌else◌}
 use Rattle.rma_base.specs.declared.line.LineNo.{LineNo}
 use Rattle.rma_base.specs.declared.rank.Rank.{Rank}
 use Rattle.rma_base.specs.FormReason.{form_word}
