@@ -6,4 +6,5 @@ pub mod RankSet
 pub mod Window
 pub mod Version
 pub mod MatchReason
+pub mod EpochReason
 pub mod inside

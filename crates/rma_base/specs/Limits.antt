@@ -3,7 +3,7 @@ use Rattle.std.specs.Prelude.{ℕ}
 
 -- the most logs of one run
 abbrev pub rank_limit : ℕ
-rank_limit = 64
+rank_limit = 1024
 
 -- the most bytes over all logs of one run
 abbrev pub byte_limit : ℕ

@@ -1,13 +1,15 @@
 //! The plain data that every layer of the auditor speaks of.
 //!
 //! A run has ranks ([`Rank`], [`RankSet`]), and each rank a log of numbered lines ([`LineNo`]) in one [`Version`] of the
-//! format, whose calls lie between points of time ([`Point`]). Lines name things by a [`Name`] and places in the source by a [`Site`]; copies of both share
-//! one text. What is wrong with a line is a [`FormReason`], and with how calls match a [`MatchReason`], each with its word of
-//! the report. The [`limits`] of one audit stand here alone, in the code as in `specs/Limits.antt`.
+//! format, whose calls lie between points of time ([`Point`]). Lines name things by a [`Name`] and places in the source by a
+//! [`Site`]; copies of both share one text. What is wrong with a line is a [`FormReason`], with how calls match a
+//! [`MatchReason`], and with the epoch of a call an [`EpochReason`], each with its word of the report. The [`limits`] of one
+//! audit stand here alone, in the code as in `specs/Limits.antt`.
 //!
 //! Whatever takes memory answers [`Memory`] where there is none left.
 #![tactic(auto)]
 
+mod epoch_reason;
 mod form_reason;
 pub mod laws;
 pub mod limits;
@@ -23,6 +25,7 @@ mod site;
 mod version;
 mod window;
 
+pub use epoch_reason::EpochReason;
 pub use form_reason::FormReason;
 pub use line::LineNo;
 pub use match_reason::MatchReason;

@@ -1,7 +1,7 @@
 //! The limits of one audit. `specs/Limits.antt` states the same numbers, and `laws::limits_are_as_stated` that they agree.
 
 /// The most logs of one run.
-pub const RANKS: usize = 64;
+pub const RANKS: usize = 1024;
 
 /// The most bytes that are taken over all logs of one run.
 pub const BYTES: u64 = 268_435_456;

@@ -1,6 +1,7 @@
 //! Names, sites, sets of ranks, words and lists.
 use rma_base::{
-    FormReason, MatchReason, Name, NameError, Rank, RankSet, RankSetError, Sequence, Site,
+    EpochReason, FormReason, MatchReason, Name, NameError, Rank, RankSet, RankSetError, Sequence,
+    Site,
 };
 use rma_datatype::{Basic, Op};
 use std::alloc::Global;
@@ -76,6 +77,7 @@ fn sites_and_sets_of_ranks_are_made_and_copied(rt: HostRuntime) -> Result<(), Fa
 fn words_and_sizes_are_those_of_the_tables(rt: HostRuntime) {
     assert!(rt; FormReason::MissingEnd.word() == "missing_end");
     assert!(rt; MatchReason::WindowDiffers.word() == "window_differs");
+    assert!(rt; EpochReason::NoPrecedeBroken.word() == "no_precede_broken");
     assert!(rt; Basic::UnsignedLongLong.word() == "UNSIGNED_LONG_LONG");
     assert!(rt; Basic::Short.size() == 2);
     assert!(rt; !Op::Land.allows(Basic::Double) && Op::Sum.allows(Basic::Double));
