@@ -18,7 +18,8 @@ use Rattle.rma_walk.specs.declared.source.Source.{Source}
 use Rattle.rma_walk.specs.declared.source.Source.TheVariants.{Entry, Meet}
 use Rattle.rma_walk.specs.declared.pending.Pending.{Pending}
 use Rattle.rma_walk.specs.inside.Run.{IsRun, AreReadable, IsPassed, IsGathered, IsReady, IsBlocked, next_point}
-use Rattle.rma_walk.specs.inside.Pending.{IsSource, IsSourcePassed, IsEntryOf, IsMissing, IsReduced, IsInbox, IsKnown, IsPending, sources_of}
+use Rattle.rma_walk.specs.Source.{IsEntryOf, sources_of}
+use Rattle.rma_walk.specs.inside.Pending.{IsSource, IsSourcePassed, IsMissing, IsReduced, IsInbox, IsKnown, IsPending}
 use Rattle.rma_walk.proofs.ListLemmas.{at_contains, contains_none}
 use Rattle.rma_walk.proofs.PendingLemmas.{in_ranks}
 

@@ -15,7 +15,7 @@ use Rattle.rma_link.proofs.OrderLemmas.{same_point, on_cycle_within}
 use Rattle.rma_walk.specs.Outcome.{IsAt, IsOrder}
 use Rattle.rma_walk.specs.inside.Run.{IsPassed, IsReady, next_point}
 use Rattle.rma_walk.specs.inside.Front.{IsFront}
-use Rattle.rma_walk.proofs.ListLemmas.{zero_at, slice_get_front, slice_get_last, slice_get_push}
+use Rattle.rma_walk.proofs.ListLemmas.{replicate_at, slice_get_front, slice_get_last, slice_get_push}
 
 abbrev pub passed_on : List ℕ → ℕ → List ℕ
 passed_on next rank = set next rank (slice_index next rank + 1)
@@ -58,8 +58,8 @@ module _ (next : List ℕ) (rank : ℕ) (there : rank < length next) where
 pub front_at_start : (lens : List ℕ) (links : Links) → IsFront lens links (replicate (length lens) 0) []
 front_at_start lens links = record {
   ranks = length-replicate (length lens) 0;
-  within = λ r. let none = zero_at (length lens) r in omega arith;
-  listed = λ p passed. let none = zero_at (length lens) p.rank.0 in absurd (omega arith);
+  within = λ r. let none : slice_index (replicate (length lens) 0) r ≡ 0 = replicate_at (length lens) r 0 in omega arith;
+  listed = λ p passed. let none : slice_index (replicate (length lens) 0) p.rank.0 ≡ 0 = replicate_at (length lens) p.rank.0 0 in absurd (omega arith);
   only = λ k p is. absurd (none-some p is);
   once = λ j k p one two. absurd (none-some p one);
   ordered = λ k p q is step. absurd (none-some q is);

@@ -1,7 +1,7 @@
 -- The sources of calls that share one list.
-use Rattle.std.proofs.Common.{◌≡◌, ℕ, zero, suc, ◌+◌, ◌-◌, ◌<◌, ◌≤◌, List, [], ◌∷◌, ◌++◌, length, get_or, map, drop, set, replicate, refl, sym, ap, subst, ◌∙◌, arith}
+use Rattle.std.proofs.Common.{◌≡◌, ℕ, zero, suc, ◌+◌, ◌-◌, ◌<◌, ◌≤◌, List, [], ◌∷◌, ◌++◌, length, get_or, map, drop, set, replicate, refl, sym, ap, subst, ◌∙◌, append_assoc, arith}
 use Rattle.std.specs.Prelude.{All, slice_index_or}
-use Rattle.std.proofs.lemmas.List.{get_or_read, get_or_append_left, get_or_push, map-set}
+use Rattle.std.proofs.lemmas.List.{get_or_default, get_or_read, get_or_append_left, get_or_push, map-set}
 use Rattle.std.proofs.lemmas.List.Elements.{All-head, All-tail}
 use Rattle.rma_walk.specs.declared.source.Source.{Source}
 use Rattle.rma_walk.specs.declared.inbox.Arrival.{Arrival}
@@ -17,7 +17,7 @@ map_agree f g P same (x ∷ xs) all =
     let tail = map_agree f g P same xs (All-tail P x xs all) in
     ap (λ y. y ∷ map f xs) (same x (All-head P x xs all)) ∙ ap (λ ys. g x ∷ ys) tail
 
-get_or-map_in : {A B : Type 0} (f : A → B) (xs : List A) (i : ℕ) (d : A) (e : B) → i < length xs → get_or (map f xs) i e ≡ f (get_or xs i d)
+pub get_or-map_in : {A B : Type 0} (f : A → B) (xs : List A) (i : ℕ) (d : A) (e : B) → i < length xs → get_or (map f xs) i e ≡ f (get_or xs i d)
 get_or-map_in f [] i d e lt = absurd (omega arith)
 get_or-map_in f (x ∷ xs) zero d e lt = refl
 get_or-map_in f (x ∷ xs) (suc i) d e lt = get_or-map_in f xs i d e (omega arith)
@@ -66,6 +66,30 @@ pushed arrivals last a call n ok lt is number =
     let old : map (chain more) last ≡ map (chain arrivals) last =
     map_agree (chain more) (chain arrivals) (λ h. h ≤ length arrivals) (λ h small. chain_push arrivals a ok.before h h small) last ok.last in
     map-set (chain more) last call n ∙ ap (λ xs. set xs call (chain more n)) old ∙ ap (λ v. set (map (chain arrivals) last) call v) value
+
+-- a chain is its last arrival, and the chain before that one
+chain_from : (arrivals : List Arrival) → AreEarlier arrivals → (k : ℕ) → k < length arrivals → chain arrivals (suc k) ≡ (slice_index_or arrivals k no_arrival).source ∷ chain arrivals (slice_index_or arrivals k no_arrival).before
+chain_from arrivals earlier k lt =
+    let before = (slice_index_or arrivals k no_arrival).before in
+    let le : before ≤ k = earlier k lt in
+    ap (λ rest. (slice_index_or arrivals k no_arrival).source ∷ rest) (chain_most arrivals earlier k before before le (omega arith) (omega arith))
+
+pub chain_step : (arrivals : List Arrival) → AreEarlier arrivals → (number : ℕ) (d : Arrival) → number ≤ length arrivals → 0 < number
+    → (chain arrivals number ≡ (get_or arrivals (number - 1) d).source ∷ chain arrivals (get_or arrivals (number - 1) d).before) × ((get_or arrivals (number - 1) d).before < number) × ((get_or arrivals (number - 1) d).before ≤ length arrivals)
+chain_step arrivals earlier zero d le some = absurd (omega arith)
+chain_step arrivals earlier (suc k) d le some =
+    let index : suc k - 1 ≡ k = omega arith in
+    let same : get_or arrivals (suc k - 1) d ≡ get_or arrivals k no_arrival = ap (λ i. get_or arrivals i d) index ∙ get_or_default arrivals k d no_arrival (omega arith) in
+    let P : Arrival → Type 0 = λ b. (chain arrivals (suc k) ≡ b.source ∷ chain arrivals b.before) × (b.before < suc k) × (b.before ≤ length arrivals) in
+    let small = earlier k (omega arith) in
+    subst P (sym same) (chain_from arrivals earlier k (omega arith), omega arith, omega arith)
+
+pub chain_more : (arrivals : List Arrival) → AreEarlier arrivals → (number : ℕ) (d : Arrival) (done more whole : List Source) → number ≤ length arrivals → 0 < number
+    → more ≡ done ++ (get_or arrivals (number - 1) d).source ∷ [] → done ++ chain arrivals number ≡ whole → more ++ chain arrivals (get_or arrivals (number - 1) d).before ≡ whole
+chain_more arrivals earlier number d done more whole le some is rest =
+    let a = get_or arrivals (number - 1) d in
+    let step = chain_step arrivals earlier number d le some in
+    ap (λ xs. xs ++ chain arrivals a.before) is ∙ append_assoc done (a.source ∷ []) (chain arrivals a.before) ∙ ap (λ xs. done ++ xs) (sym step.0) ∙ rest
 
 pub dropped : (arrivals : List Arrival) (last : List ℕ) (call k : ℕ) → AreChained arrivals last → call < length last → get_or last call 0 ≡ suc k
     → map (chain arrivals) (set last call (get_or arrivals k no_arrival).before) ≡ set (map (chain arrivals) last) call (drop 1 (get_or (map (chain arrivals) last) call []))

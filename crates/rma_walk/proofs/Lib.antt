@@ -3,7 +3,9 @@ pub mod InboxLemmas
 pub mod PendingLemmas
 pub mod FrontLemmas
 pub mod BlockerLemmas
+pub mod FollowLemmas
 pub mod StackLemmas
 pub mod WorkLemmas
 pub mod SearchLemmas
 pub mod OutcomeLemmas
+pub mod ExistenceLemmas

@@ -1,7 +1,8 @@
 -- Elements of lists that grow at their end.
-use Rattle.std.proofs.Common.{◌≡◌, ℕ, zero, suc, ◌<◌, ◌⊎◌, inl, inr, List, [], ◌∷◌, ◌++◌, length, get_or, replicate, Some, None, Option, Ok, Err, Result, Bool, true, false, refl, sym, ap, arith, ⊎_elim}
-use Rattle.std.specs.Prelude.{Contains, slice_get, IfNone, IfOk, OnOk}
+use Rattle.std.proofs.Common.{◌≡◌, ℕ, zero, suc, ◌<◌, ◌⊎◌, inl, inr, List, [], ◌∷◌, ◌++◌, length, get_or, replicate, Some, None, Option, Ok, Err, Result, refl, sym, ap, arith, ⊎_elim, below_more}
+use Rattle.std.specs.Prelude.{Contains, All, slice_get, IfNone, IfOk, OnOk}
 use Rattle.std.proofs.lemmas.Option.{none-some, same_Some, get_or_from_slice_get, slice_get_within}
+use Rattle.std.proofs.lemmas.List.Elements.{All-nil, All-cons}
 
 pub slice_get_front : {A : Type 0} (xs ys : List A) (k : ℕ) (y : A) → slice_get xs k ≡ Some y → slice_get (xs ++ ys) k ≡ Some y
 slice_get_front [] ys k y is = absurd (none-some y is)
@@ -63,15 +64,35 @@ pub ok_both : {A E : Type 0} (r : Result A E) (P : Type 0) (Q : A → Type 0) �
 ok_both (Ok x) P Q one two = (one, two)
 ok_both (Err e) P Q one two = one
 
-pub bool_cases : (b : Bool) → (b ≡ true) ⊎ (b ≡ false)
-bool_cases true = inl refl
-bool_cases false = inr refl
-
 pub on_ok_later : {A E : Type 0} (r : Result A E) (P : A → Type 0) (Q : Type 0) → IfOk r P → ((x : A) → P x → Q) → OnOk r Q
 on_ok_later (Ok x) P Q one so = so x one
 on_ok_later (Err e) P Q one so = one
 
-pub zero_at : (n i : ℕ) → get_or (replicate {A = ℕ} n 0) i 0 ≡ 0
-zero_at zero i = refl
-zero_at (suc n) zero = refl
-zero_at (suc n) (suc i) = zero_at n i
+pub replicate_at : {A : Type 0} (n i : ℕ) (x : A) → get_or (replicate n x) i x ≡ x
+replicate_at zero i x = refl
+replicate_at (suc n) zero x = refl
+replicate_at (suc n) (suc i) x = replicate_at n i x
+
+-- one thing holds of all elements, or another one of some
+pub all_or_some : {A : Type 0} (P Q : A → Type 0) → ((x : A) → P x ⊎ Q x) → (xs : List A) → All P xs ⊎ ((x : A) × Contains xs x × Q x)
+all_or_some P Q each [] = inl (All-nil P)
+all_or_some P Q each (x ∷ xs) =
+    ⊎_elim
+    (λ here. ⊎_elim
+    (λ rest. inl (All-cons P x xs here rest))
+    (λ some. inr (some.0, contains_cons x xs some.0 some.1, some.2))
+    (all_or_some P Q each xs))
+    (λ here. inr (x, (0, omega arith, refl), here))
+    (each x)
+
+-- and of all numbers below one
+pub below_or_some : (P Q : ℕ → Type 0) → ((k : ℕ) → P k ⊎ Q k) → (n : ℕ) → ((k : ℕ) → k < n → P k) ⊎ ((k : ℕ) × (k < n) × Q k)
+below_or_some P Q each zero = inl (λ k lt. absurd (omega arith))
+below_or_some P Q each (suc n) =
+    ⊎_elim
+    (λ (rest : (k : ℕ) → k < n → P k). ⊎_elim
+    (λ here. inl (λ k lt. below_more P n rest here k (omega arith)))
+    (λ here. inr (n, omega arith, here))
+    (each n))
+    (λ (some : (k : ℕ) × (k < n) × Q k). let lt = some.1 in inr (some.0, omega arith, some.2))
+    (below_or_some P Q each n)

@@ -13,8 +13,9 @@ use Rattle.rma_link.specs.Point.{return_of, IsReturn}
 use Rattle.rma_walk.specs.declared.source.Source.{Source}
 use Rattle.rma_walk.specs.declared.source.Source.TheVariants.{Entry, Meet}
 use Rattle.rma_walk.specs.declared.pending.Pending.{Pending}
-use Rattle.rma_walk.specs.inside.Pending.{IsSourcePassed, IsEdgeSource, IsMemberSource, IsMeetSource, AreAdded, IsReduced, IsInbox, IsKnown, IsPending, sources_of}
-use Rattle.rma_walk.proofs.ListLemmas.{zero_at, contains_cons, contains_cons_cases, contains_none, slice_get_front, slice_get_last, slice_get_push, first_is}
+use Rattle.rma_walk.specs.Source.{IsSourceOf, AreSources, IsEdgeSource, IsMemberSource, IsMeetSource, sources_of}
+use Rattle.rma_walk.specs.inside.Pending.{IsSourcePassed, AreAdded, IsReduced, IsInbox, IsKnown, IsPending}
+use Rattle.rma_walk.proofs.ListLemmas.{replicate_at, contains_cons, contains_cons_cases, contains_none, slice_get_front, slice_get_last, slice_get_push, first_is}
 
 -- one more source of one call
 abbrev pub added_source : List (List (List Source)) → ℕ → ℕ → Source → List (List (List Source))
@@ -274,52 +275,66 @@ abbrev index_of : Source → ℕ
 index_of (Entry from) = 0
 index_of (Meet index) = index
 
-module _ (lens : List ℕ) (links : Links) (next : List ℕ) (empty mid : List (List (List Source))) (pending : Pending)
-    (start : empty ≡ map (λ len. replicate len []) lens) (one : AreAdded (IsEdgeSource links.edges) empty mid) (two : AreAdded (IsMeetSource links.meets) mid pending.inboxes.items)
-    (known : pending.known.items ≡ replicate (length links.meets) 0) where
+module _ (lens : List ℕ) (links : Links) (empty mid last : List (List (List Source)))
+    (start : empty ≡ map (λ len. replicate len []) lens) (one : AreAdded (IsEdgeSource links.edges) empty mid) (two : AreAdded (IsMeetSource links.meets) mid last) where
   nothing_yet : (r c : ℕ) (s : Source) → Contains (sources_of (slice_index_or empty r []) c) s → ⊥
   nothing_yet r c s has =
       let inbox : slice_index_or empty r [] ≡ replicate (slice_index lens r) [] = ap (λ xs. slice_index_or xs r []) start ∙ at_start lens r in
       let none : sources_of (slice_index_or empty r []) c ≡ [] = ap (λ xs. sources_of xs c) inbox ∙ none_in_replicate (slice_index lens r) c in
       contains_none s (subst (λ xs. Contains xs s) none has)
 
-  whence : (r c : ℕ) (s : Source) → Contains (sources_of (slice_index_or pending.inboxes.items r []) c) s → IsEdgeSource links.edges r c s ⊎ IsMeetSource links.meets r c s
-  whence r c s has =
-      ⊎_elim
-      (λ before. ⊎_elim (λ earlier. absurd (nothing_yet r c s earlier)) (λ edge. inl edge) (one.only r c s before))
-      (λ meets. inr meets)
-      (two.only r c s has)
+  pub sources_added : AreSources lens links last
+  sources_added = record {
+    size = two.size ∙ one.size ∙ ap length start ∙ length-map lens (λ len. replicate {A = List Source} len []);
+    sizes = λ r. two.sizes r ∙ one.sizes r ∙ ap length (ap (λ xs. slice_index_or xs r []) start ∙ at_start lens r) ∙ length-replicate (slice_index lens r) [];
+    all = λ r c s new. ⊎_elim (λ edge. two.kept r c s (one.added r c s edge)) (λ met. two.added r c s met) new;
+    only = λ r c s has. ⊎_elim
+        (λ before. ⊎_elim (λ earlier. absurd (nothing_yet r c s earlier)) (λ edge. inl edge) (one.only r c s before))
+        (λ meets. inr meets)
+        (two.only r c s has);
+  }
 
+-- an edge and a meet as sources
+pub edge_source : (links : Links) (r c : ℕ) (from : Point) → IsSourceOf links r c (Entry from) → Contains links.edges (record { from = from; to = return_of (record { 0 = r }) c })
+edge_source links r c from is =
+    ⊎_elim
+    (λ (edge : IsEdgeSource links.edges r c (Entry from)).
+    let same : from ≡ edge.0 = ap entry_of edge.1 in
+    subst (λ p. Contains links.edges (record { from = p; to = return_of (record { 0 = r }) c })) (sym same) edge.2)
+    (λ (met : IsMeetSource links.meets r c (Entry from)). let clash : Entry from ≡ Meet met.0 = met.3.0 in absurd (cc))
+    is
+
+pub meet_source : (links : Links) (r c index : ℕ) → IsSourceOf links r c (Meet index)
+    → (m : meet.Meet) × (slice_get links.meets index ≡ Some m) × Contains m.calls (record { rank = record { 0 = r }; call = c })
+meet_source links r c index is =
+    ⊎_elim
+    (λ (edge : IsEdgeSource links.edges r c (Meet index)). let clash : Meet index ≡ Entry edge.0 = edge.1 in absurd (cc))
+    (λ (met : IsMeetSource links.meets r c (Meet index)).
+    let same : index ≡ met.0 = ap index_of met.3.0 in
+    (met.1, subst (λ k. slice_get links.meets k ≡ Some met.1) (sym same) met.2, met.3.1))
+    is
+
+module _ (lens : List ℕ) (links : Links) (next : List ℕ) (pending : Pending) (sources : AreSources lens links pending.inboxes.items) (known : pending.known.items ≡ replicate (length links.meets) 0) where
   inbox_of : (r : ℕ) → IsInbox links next r (slice_index_or pending.inboxes.items r [])
   inbox_of r = record {
-    edges = λ from call has. inr (two.kept r call (Entry from) (one.added r call (Entry from) (from, refl, has)));
-    meets = λ index m call at has. inr (two.added r call (Meet index) (index, m, at, (refl, has)));
-    from_edge = λ call from has. ⊎_elim
-        (λ (edge : IsEdgeSource links.edges r call (Entry from)).
-        let same : from ≡ edge.0 = ap entry_of edge.1 in
-        subst (λ p. Contains links.edges (record { from = p; to = return_of (record { 0 = r }) call })) (sym same) edge.2)
-        (λ (met : IsMeetSource links.meets r call (Entry from)). let clash : Entry from ≡ Meet met.0 = met.3.0 in absurd (cc))
-        (whence r call (Entry from) has);
-    from_meet = λ call index has. ⊎_elim
-        (λ (edge : IsEdgeSource links.edges r call (Meet index)). let clash : Meet index ≡ Entry edge.0 = edge.1 in absurd (cc))
-        (λ (met : IsMeetSource links.meets r call (Meet index)).
-        let same : index ≡ met.0 = ap index_of met.3.0 in
-        (met.1, subst (λ k. slice_get links.meets k ≡ Some met.1) (sym same) met.2, met.3.1))
-        (whence r call (Meet index) has);
+    edges = λ from call has. inr (sources.all r call (Entry from) (inl (from, refl, has)));
+    meets = λ index m call at has. inr (sources.all r call (Meet index) (inr (index, m, at, (refl, has))));
+    from_edge = λ call from has. edge_source links r call from (sources.only r call (Entry from) has);
+    from_meet = λ call index has. meet_source links r call index (sources.only r call (Meet index) has);
   }
 
   known_of : IsKnown links next pending.known.items
   known_of = record {
     size = ap length known ∙ length-replicate (length links.meets) 0;
     entered = λ index m at.
-        let none : slice_index pending.known.items index ≡ 0 = ap (λ xs. get_or xs index 0) known ∙ zero_at (length links.meets) index in
+        let none : slice_index pending.known.items index ≡ 0 = ap (λ xs. get_or xs index 0) known ∙ replicate_at (length links.meets) index 0 in
         (omega arith, λ k d low high. absurd (omega arith));
   }
 
   pub pending_at_start : IsPending lens links next pending
   pending_at_start = record {
-    size = two.size ∙ one.size ∙ ap length start ∙ length-map lens (λ len. replicate {A = List Source} len []);
-    sizes = λ r. two.sizes r ∙ one.sizes r ∙ ap length (ap (λ xs. slice_index_or xs r []) start ∙ at_start lens r) ∙ length-replicate (slice_index lens r) [];
+    size = sources.size;
+    sizes = sources.sizes;
     inboxes = λ r lt. inbox_of r;
     known = known_of;
   }

@@ -1,6 +1,7 @@
 -- A walk on its way.
 use Rattle.std.proofs.Common.{◌≡◌, ℕ, ◌*◌, ◌<◌, ◌⊎◌, Bool, true, false, List, [], ◌∷◌, ◌++◌, length, set, sym, ap, subst, arith, ⊎_elim}
 use Rattle.std.specs.Prelude.{slice_index, slice_index_or}
+use Rattle.std.proofs.lemmas.Bool.{cases_Bool}
 use Rattle.std.proofs.lemmas.List.{length-set}
 use Rattle.rma_base.specs.declared.point.Point.{Point}
 use Rattle.rma_link.specs.declared.links.Links.{Links}
@@ -11,7 +12,6 @@ use Rattle.rma_walk.specs.inside.Search.{IsStack, IsSearch, work}
 use Rattle.rma_walk.specs.declared.front.Front.{Front}
 use Rattle.rma_walk.specs.declared.pending.Pending.{Pending}
 use Rattle.rma_walk.specs.declared.search.Search.{Search}
-use Rattle.rma_walk.proofs.ListLemmas.{bool_cases}
 use Rattle.rma_walk.proofs.FrontLemmas.{passed_on, passed_kept, front_more}
 use Rattle.rma_walk.proofs.BlockerLemmas.{pending_later}
 use Rattle.rma_walk.proofs.StackLemmas.{followed_other, stopped_all, passed_alone, passed_for}
@@ -49,7 +49,7 @@ module _ (lens : List ℕ) (links : Links) (old new : Search) (pending : Pending
               stack_of [] rank
               (stopped_all lens links old.front.next.items old.free.items old.waiting.items rank current is.stack is_free is.run.within other blocked stop)
               (stops stop).0 (stops stop).1)
-              (bool_cases (slice_index_or (set old.free.items current false) other true));
+              (cases_Bool (slice_index_or (set old.free.items current false) other true));
         }
 
   -- the rank that is followed passes its next point

@@ -4,19 +4,18 @@ use Rattle.std.specs.Prelude.{Contains, slice_index, slice_index_or}
 use Rattle.std.proofs.lemmas.Bool.{cases_eq, cases_lt, false≢true}
 use Rattle.std.proofs.lemmas.List.{get_or-set_same, get_or-set_other, length-set, get_or_append_left, get_or_push, get_or_default, length_push}
 use Rattle.std.proofs.lemmas.List.Elements.{Contains-push, Contains-push_cases, Contains-append_left}
-use Rattle.rma_base.specs.declared.rank.Rank.{Rank}
 use Rattle.rma_base.specs.declared.point.Point.{Point}
 use Rattle.rma_link.specs.declared.links.Links.{Links}
 use Rattle.rma_link.specs.Point.{IsReturn}
 use Rattle.rma_link.specs.Order.{IsAtOrBefore, IsAfterCycle}
-use Rattle.rma_link.specs.Order.IsAtOrBefore.{at, before}
+use Rattle.rma_link.specs.Order.IsAtOrBefore.{at}
 use Rattle.rma_link.specs.Within.{AreWithin}
-use Rattle.rma_link.proofs.OrderLemmas.{at_or_before_trans, later_position, linked_within, after_cycle_later}
+use Rattle.rma_link.proofs.OrderLemmas.{at_or_before_trans, after_cycle_later}
 use Rattle.rma_walk.specs.inside.Run.{IsBlocked, next_point}
 use Rattle.rma_walk.specs.inside.Search.{line, IsLine, IsStopped, IsDone, IsStack}
 use Rattle.rma_walk.proofs.ListLemmas.{contains_none}
-use Rattle.rma_walk.proofs.PendingLemmas.{in_ranks}
 use Rattle.rma_walk.proofs.FrontLemmas.{passed_on, passed_on_other}
+use Rattle.rma_walk.proofs.FollowLemmas.{other_within, other_first, other_has_next, cycle_back}
 
 line_front : (waiting : List ℕ) (current j : ℕ) → j < length waiting → slice_index (line waiting current) j ≡ slice_index waiting j
 line_front waiting current j lt = get_or_append_left waiting (current ∷ []) 0 j lt
@@ -82,53 +81,6 @@ module _ (lens : List ℕ) (links : Links) (next : List ℕ) (free : List Bool) 
       (cases_lt 0 (length waiting))
 
   module _ (within : AreWithin lens links) (other : ℕ) (blocked : IsBlocked lens links next current other) where
-    pub other_within : other < length lens
-    other_within =
-        let p = blocked.1.0 in
-        let start = (linked_within lens links p (next_point next current) within blocked.1.2).0 in
-        let there : p.rank.0 < length lens = in_ranks lens p.rank.0 start.0 start.1 in
-        let same = blocked.1.1 in
-        omega arith
-
-    not_past : slice_index next other ≤ blocked.1.0.pos
-    not_past =
-        let p = blocked.1.0 in
-        let same : slice_index next p.rank.0 ≡ slice_index next other = ap (slice_index next) blocked.1.1 in
-        ⊎_elim
-        (λ (past : p.pos < slice_index next p.rank.0). absurd (blocked.1.3 past))
-        (λ (upto : slice_index next p.rank.0 ≤ p.pos). omega arith)
-        (cases_lt p.pos (slice_index next p.rank.0))
-
-    to_source : IsAtOrBefore links (next_point next other) blocked.1.0
-    to_source =
-        let R : ℕ → Rank = λ r. record { 0 = r } in
-        later_position links (next_point next other) blocked.1.0 (ap R (sym blocked.1.1)) not_past
-
-    source_first : IsAtOrBefore links blocked.1.0 (next_point next current)
-    source_first = before at (inr (inr blocked.1.2))
-
-    other_first : IsAtOrBefore links (next_point next other) (next_point next current)
-    other_first = at_or_before_trans links to_source source_first
-
-    -- the source is an entry, so it is no return
-    source_differs : blocked.1.0 ≡ next_point next current → ⊥
-    source_differs same =
-        let start = (linked_within lens links blocked.1.0 (next_point next current) within blocked.1.2).0 in
-        let even : blocked.1.0.pos ≡ 2 * start.0 = start.2 in
-        let odd : slice_index next current ≡ 2 * blocked.0.0 + 1 = blocked.0.2 in
-        let alike : blocked.1.0.pos ≡ slice_index next current = ap (λ p. p.pos) same in
-        absurd (omega arith)
-
-    other_has_next : slice_index next other < 2 * slice_index lens other
-    other_has_next =
-        let p = blocked.1.0 in
-        let start = (linked_within lens links p (next_point next current) within blocked.1.2).0 in
-        let same : slice_index lens p.rank.0 ≡ slice_index lens other = ap (slice_index lens) blocked.1.1 in
-        let lt = start.1 in
-        let even = start.2 in
-        let upto = not_past in
-        omega arith
-
     -- another rank is followed
     follow_line : IsLine links next (line (line waiting current) other)
     follow_line j k le lt =
@@ -143,7 +95,7 @@ module _ (lens : List ℕ) (links : Links) (next : List ℕ) (free : List Bool) 
         ⊎_elim
         (λ (front : j < length all).
         moved links next other (slice_index all j) (slice_index (line all other) k) (slice_index (line all other) j)
-        (sym (line_last all other k last)) (sym (line_front all other j front)) (at_or_before_trans links other_first (current_first j front)))
+        (sym (line_last all other k last)) (sym (line_front all other j front)) (at_or_before_trans links (other_first lens links next current within other blocked) (current_first j front)))
         (λ (both : length all ≤ j).
         moved links next other other (slice_index (line all other) k) (slice_index (line all other) j)
         (sym (line_last all other k last)) (sym (line_last all other j (omega arith))) at)
@@ -196,9 +148,9 @@ module _ (lens : List ℕ) (links : Links) (next : List ℕ) (free : List Bool) 
         let len : length (line waiting current) ≡ length waiting + 1 = length_push waiting current in
         record {
           size = length-set free current false ∙ st.size;
-          within = other_within;
+          within = other_within lens links next current within other blocked;
           root = line_front (line waiting current) other 0 (omega arith) ∙ st.root;
-          followed = λ some. (other_free, other_has_next);
+          followed = λ some. (other_free, other_has_next lens links next current within other blocked);
           in_line = follow_line;
           once = follow_once;
           waits = follow_waits;
@@ -212,13 +164,13 @@ module _ (lens : List ℕ) (links : Links) (next : List ℕ) (free : List Bool) 
         let same : slice_index (line waiting current) k ≡ other = get_or_default (line waiting current) k 0 other lt ∙ is in
         let back : IsAtOrBefore links (next_point next current) (next_point next other) =
         moved links next current (slice_index (line waiting current) k) current other refl same (current_first k lt) in
-        (blocked.1.0, (next_point next current, source_differs, source_first, at_or_before_trans links back to_source), source_first)
+        cycle_back lens links next current within other blocked back
 
     current_stopped : slice_index_or (set free current false) other true ≡ false → IsAfterCycle links (next_point next current)
     current_stopped taken =
         ⊎_elim
         back_to_line
-        (λ (stopped : IsStopped lens links next other). after_cycle_later links stopped.1 other_first)
+        (λ (stopped : IsStopped lens links next other). after_cycle_later links stopped.1 (other_first lens links next current within other blocked))
         (follow_held other taken)
 
     stop_held : slice_index_or (set free current false) other true ≡ false → (r : ℕ) → slice_index_or (set free current false) r true ≡ false → IsStopped lens links next r

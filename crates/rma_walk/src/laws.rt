@@ -4,7 +4,8 @@ ghost use Rattle.rma_base.specs.declared.point.Point.{Point};
 ghost use Rattle.rma_link.specs.declared.links.Links.{Links};
 ghost use Rattle.rma_link.specs.Order.{IsPossible};
 ghost use Rattle.rma_link.specs.Within.{AreWithin};
-ghost use Rattle.rma_walk.specs.Outcome.{AreFirstImpossible, IsOrder};
+ghost use Rattle.rma_walk.specs.Outcome.{AreFirstImpossible, IsOrder, IsOutcome};
+ghost use Rattle.rma_walk.specs.declared.walked.Walked.{Walked};
 
 /// The first impossible calls of a run are one list.
 pub fn first_impossible_calls_are_one_list()
@@ -14,4 +15,14 @@ pub fn first_impossible_calls_are_one_list()
 /// A run that has an order of its points is possible.
 pub fn a_run_with_an_order_is_possible()
     ensures { (lens : List ℕ) (links : Links) (list : List Point) → AreWithin lens links → IsOrder lens links list → IsPossible links }
+{}
+
+/// Each run has an outcome: an order of its points, or first impossible calls.
+pub fn every_run_has_an_outcome()
+    ensures { (lens : List ℕ) (links : Links) → AreWithin lens links → (walked : Walked) × IsOutcome lens links walked }
+{}
+
+/// Each run has first impossible calls, which are none where it is possible.
+pub fn every_run_has_first_impossible_calls()
+    ensures { (lens : List ℕ) (links : Links) → AreWithin lens links → (firsts : List (Option ℕ)) × AreFirstImpossible lens links firsts }
 {}

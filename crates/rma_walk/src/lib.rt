@@ -6,7 +6,8 @@
 //!
 //! It passes the points of one rank until a return has to wait for an entry of another rank, and then follows that rank up
 //! to a point that it can pass. The ranks that are followed stand in a line, so a cycle is found where the line comes back to
-//! itself. A meet remembers how many of its first members are entered, so that each member is looked at once.
+//! itself. An [`Inbox`] has what the returns of one rank wait for, each a [`Source`], and [`inboxes_of`] makes those of a run. A
+//! meet remembers how many of its first members are entered, so that each member is looked at once.
 #![tactic(auto)]
 
 mod front;
@@ -19,5 +20,8 @@ mod source;
 mod walked;
 mod walking;
 
+pub use inbox::Inbox;
+pub use pending::inboxes_of;
+pub use source::Source;
 pub use walked::Walked;
 pub use walking::walk;

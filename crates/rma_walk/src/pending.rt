@@ -6,7 +6,8 @@ ghost use Rattle.rma_link.specs.Point.{entry, calls_of, IsReturn};
 ghost use Rattle.rma_link.specs.Within.{AreWithin};
 ghost use Rattle.rma_walk.specs.declared.source.Source.{Source};
 ghost use Rattle.rma_walk.specs.inside.Run.{IsRun, AreReadable, IsPassed, IsReady, IsBlocked};
-ghost use Rattle.rma_walk.specs.inside.Pending.{IsSource, IsSourcePassed, IsMissing, IsKnown, IsReduced, AreAdded, IsEdgeSource, IsMemberSource, IsMeetSource, IsPending, no_meet, sources_of};
+ghost use Rattle.rma_walk.specs.Source.{AreSources, IsEdgeSource, IsMemberSource, IsMeetSource, sources_of};
+ghost use Rattle.rma_walk.specs.inside.Pending.{IsSource, IsSourcePassed, IsMissing, IsKnown, IsReduced, AreAdded, IsPending, no_meet};
 
 use crate::front::is_passed;
 use crate::inbox::Inbox;
@@ -31,9 +32,7 @@ impl Pending {
         requires { IsRun run.now.lens.now run.now.links.now }
         ensures { IfOk result (λ pending. IsPending run.now.lens.now run.now.links.now (replicate (length run.now.lens.now) 0) pending) }
     {
-        let mut inboxes = empty_inboxes(alloc, run.lens)?;
-        add_edges(&mut inboxes, run)?;
-        add_meets(&mut inboxes, run)?;
+        let inboxes = inboxes_of(alloc, run.lens, run.links)?;
         let known = vec![in alloc; 0; run.links.meets.len()]?;
         Ok(Pending { inboxes, known })
     }
@@ -129,6 +128,22 @@ fn first_missing(members: &[Member], from: usize, next: &[u32]) -> usize
         }
     }
     members.len()
+}
+
+/// By rank, what the returns of its calls wait for.
+///
+/// # Errors
+///
+/// `Memory` where there is none left.
+pub fn inboxes_of(alloc: Global, lens: &[u32], links: &Links) -> Result<Vec<Inbox>, Memory>
+    requires { AreWithin lens.now links.now }
+    ensures { IfOk result (λ inboxes. AreSources lens.now links.now inboxes.items) }
+{
+    let run = Run { lens, links };
+    let mut inboxes = empty_inboxes(alloc, lens)?;
+    add_edges(&mut inboxes, &run)?;
+    add_meets(&mut inboxes, &run)?;
+    Ok(inboxes)
 }
 
 /// An inbox for each rank, without a source.

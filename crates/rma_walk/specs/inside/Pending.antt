@@ -2,14 +2,13 @@
 use Rattle.std.specs.Prelude.{ℕ, ◌≡◌, ◌<◌, ◌≤◌, ◌⊎◌, List, [], Some, length, slice_get, slice_index, slice_index_or, Contains}
 use Rattle.std.specs.List.{AllWithin}
 use Rattle.rma_base.specs.declared.point.Point.{Point}
-use Rattle.rma_link.specs.declared.meet.Member.{Member}
 use Rattle.rma_link.specs.declared.meet.Meet as meet
-use Rattle.rma_link.specs.declared.edge.Edge.{Edge}
 use Rattle.rma_link.specs.declared.links.Links.{Links}
 use Rattle.rma_link.specs.Point.{entry, return_of}
 use Rattle.rma_walk.specs.declared.source.Source.{Source}
 use Rattle.rma_walk.specs.declared.source.Source.TheVariants.{Entry, Meet}
 use Rattle.rma_walk.specs.declared.pending.Pending.{Pending}
+use Rattle.rma_walk.specs.Source.{IsEntryOf, sources_of}
 use Rattle.rma_walk.specs.inside.Run.{IsPassed, IsGathered}
 
 -- a source that can be looked up
@@ -22,11 +21,6 @@ abbrev pub IsSourcePassed : Links → List ℕ → Source → Type 0
 IsSourcePassed links next (Entry point) = IsPassed next point
 IsSourcePassed links next (Meet index) = (m : meet.Meet) → slice_get links.meets index ≡ Some m → IsGathered next m
 
--- an entry of a source
-abbrev pub IsEntryOf : Links → Source → Point → Type 0
-IsEntryOf links (Entry point) p = point ≡ p
-IsEntryOf links (Meet index) p = (m : meet.Meet) × (slice_get links.meets index ≡ Some m) × ((member : Member) × Contains m.calls member × (p ≡ entry member.rank member.call))
-
 -- an entry of a source that the walk is not past, of this rank
 abbrev pub IsMissing : Links → List ℕ → Source → ℕ → Type 0
 IsMissing links next source rank = (p : Point) × (p.rank.0 ≡ rank) × IsEntryOf links source p × (IsPassed next p → ⊥)
@@ -34,10 +28,6 @@ IsMissing links next source rank = (p : Point) × (p.rank.0 ≡ rank) × IsEntry
 -- a meet without members
 abbrev pub no_meet : meet.Meet
 no_meet = record { calls = [] }
-
--- the sources of a call
-abbrev pub sources_of : List (List Source) → ℕ → List Source
-sources_of inbox call = slice_index_or inbox call []
 
 -- what leads to a return of the rank is passed, or stands in the inbox, where nothing else stands
 pub record IsInbox (links : Links) (next : List ℕ) (rank : ℕ) (inbox : List (List Source)) : Type 0 where
@@ -55,18 +45,6 @@ pub record IsKnown (links : Links) (next : List ℕ) (known : List ℕ) : Type 0
   pub size : length known ≡ length links.meets
   pub entered : (index : ℕ) (m : meet.Meet) → slice_get links.meets index ≡ Some m
       → (slice_index known index ≤ length m.calls) × AllWithin (λ member. IsPassed next (entry member.rank member.call)) m.calls 0 (slice_index known index)
-
--- an edge among these is the source of a call
-abbrev pub IsEdgeSource : List Edge → ℕ → ℕ → Source → Type 0
-IsEdgeSource edges rank call source = (from : Point) × (source ≡ Entry from) × Contains edges (record { from = from; to = return_of (record { 0 = rank }) call })
-
--- a meet with these members is the source of a call
-abbrev pub IsMemberSource : ℕ → List Member → ℕ → ℕ → Source → Type 0
-IsMemberSource index members rank call source = (source ≡ Meet index) × Contains members (record { rank = record { 0 = rank }; call = call })
-
--- a meet among these is the source of a call
-abbrev pub IsMeetSource : List meet.Meet → ℕ → ℕ → Source → Type 0
-IsMeetSource meets rank call source = (index : ℕ) × (m : meet.Meet) × (slice_get meets index ≡ Some m) × IsMemberSource index m.calls rank call source
 
 -- inboxes of all ranks get these sources, and keep what they had
 pub record AreAdded (IsNew : ℕ → ℕ → Source → Type 0) (old new : List (List (List Source))) : Type 0 where

@@ -5,7 +5,8 @@ use Rattle.rma_link.specs.declared.edge.Edge.{Edge}
 use Rattle.rma_link.specs.Within.{IsEdgeWithin}
 use Rattle.rma_walk.specs.declared.source.Source.{Source}
 use Rattle.rma_walk.specs.declared.source.Source.TheVariants.{Entry}
-use Rattle.rma_walk.specs.inside.Pending.{AreAdded, IsEdgeSource, sources_of}
+use Rattle.rma_walk.specs.Source.{IsEdgeSource, sources_of}
+use Rattle.rma_walk.specs.inside.Pending.{AreAdded}
 use Rattle.rma_walk.proofs.PendingLemmas.{no_edge, in_ranks, added_edge}
 use Rattle.rma_walk.proofs.pending.add_edges.Goals as goal
 

@@ -1,5 +1,6 @@
 use Rattle.std.proofs.Common.{take}
-use Rattle.rma_walk.specs.inside.Pending.{AreAdded, IsEdgeSource}
+use Rattle.rma_walk.specs.Source.{IsEdgeSource}
+use Rattle.rma_walk.specs.inside.Pending.{AreAdded}
 use Rattle.rma_walk.proofs.pending.add_edges.Given as goal
 
 abbrev pub invariant-loop-edge : goal.invariant-loop-edge

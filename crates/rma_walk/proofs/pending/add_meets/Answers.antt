@@ -2,7 +2,8 @@ use Rattle.std.proofs.Common.{◌≡◌, ◌<◌, ℕ, List, length, take, sym, 
 use Rattle.std.specs.Prelude.{slice_index_or}
 use Rattle.std.proofs.lemmas.List.{length-take-le, take_more, take_all}
 use Rattle.rma_link.specs.declared.meet.Meet.{Meet}
-use Rattle.rma_walk.specs.inside.Pending.{AreAdded, IsMemberSource, IsMeetSource, no_meet}
+use Rattle.rma_walk.specs.Source.{IsMemberSource, IsMeetSource}
+use Rattle.rma_walk.specs.inside.Pending.{AreAdded, no_meet}
 use Rattle.rma_walk.proofs.PendingLemmas.{added_meet}
 use Rattle.rma_walk.proofs.pending.add_meets.Goals as goal
 

@@ -1,5 +1,6 @@
 use Rattle.std.proofs.Common.{take}
-use Rattle.rma_walk.specs.inside.Pending.{AreAdded, IsMeetSource}
+use Rattle.rma_walk.specs.Source.{IsMeetSource}
+use Rattle.rma_walk.specs.inside.Pending.{AreAdded}
 use Rattle.rma_walk.proofs.pending.add_meets.Given as goal
 
 abbrev pub invariant-loop-index : goal.invariant-loop-index

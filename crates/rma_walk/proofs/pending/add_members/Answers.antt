@@ -7,7 +7,8 @@ use Rattle.rma_link.specs.declared.links.Links.{Links}
 use Rattle.rma_link.specs.Within.{IsMemberWithin, AreWithin}
 use Rattle.rma_walk.specs.declared.source.Source.{Source}
 use Rattle.rma_walk.specs.declared.source.Source.TheVariants.{Meet}
-use Rattle.rma_walk.specs.inside.Pending.{AreAdded, IsMemberSource, no_meet, sources_of}
+use Rattle.rma_walk.specs.Source.{IsMemberSource, sources_of}
+use Rattle.rma_walk.specs.inside.Pending.{AreAdded, no_meet}
 use Rattle.rma_walk.proofs.PendingLemmas.{no_member, in_ranks, added_member}
 use Rattle.rma_walk.proofs.pending.add_members.Goals as goal
 

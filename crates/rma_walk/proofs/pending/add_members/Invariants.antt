@@ -1,5 +1,6 @@
 use Rattle.std.proofs.Common.{take}
-use Rattle.rma_walk.specs.inside.Pending.{AreAdded, IsMemberSource}
+use Rattle.rma_walk.specs.Source.{IsMemberSource}
+use Rattle.rma_walk.specs.inside.Pending.{AreAdded}
 use Rattle.rma_walk.proofs.pending.add_members.Given as goal
 
 abbrev pub invariant-loop-member : goal.invariant-loop-member

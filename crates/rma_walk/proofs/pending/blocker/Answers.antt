@@ -3,7 +3,8 @@ use Rattle.std.specs.Prelude.{All}
 use Rattle.std.proofs.lemmas.List.{get_or-set_same}
 use Rattle.std.proofs.lemmas.List.Elements.{All-drop}
 use Rattle.rma_walk.specs.declared.source.Source.{Source}
-use Rattle.rma_walk.specs.inside.Pending.{IsSource, IsSourcePassed, IsReduced, sources_of}
+use Rattle.rma_walk.specs.Source.{sources_of}
+use Rattle.rma_walk.specs.inside.Pending.{IsSource, IsSourcePassed, IsReduced}
 use Rattle.rma_walk.proofs.ListLemmas.{none_first}
 use Rattle.rma_walk.proofs.PendingLemmas.{none_then, reduced_drop}
 use Rattle.rma_walk.proofs.pending.blocker.Goals as goal

@@ -1,6 +1,7 @@
 use Rattle.std.proofs.Common.{length}
 use Rattle.std.specs.Prelude.{All}
-use Rattle.rma_walk.specs.inside.Pending.{IsSource, IsKnown, IsReduced, sources_of}
+use Rattle.rma_walk.specs.Source.{sources_of}
+use Rattle.rma_walk.specs.inside.Pending.{IsSource, IsKnown, IsReduced}
 use Rattle.rma_walk.proofs.pending.blocker.Given as goal
 
 -- what is gone was passed

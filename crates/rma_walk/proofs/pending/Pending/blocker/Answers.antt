@@ -4,7 +4,8 @@ use Rattle.std.proofs.lemmas.List.{get_or_read}
 use Rattle.std.proofs.lemmas.Option.{IfSome_then}
 use Rattle.rma_walk.specs.declared.source.Source.{Source}
 use Rattle.rma_walk.specs.inside.Run.{IsReady}
-use Rattle.rma_walk.specs.inside.Pending.{IsInbox, IsReduced, sources_of}
+use Rattle.rma_walk.specs.Source.{sources_of}
+use Rattle.rma_walk.specs.inside.Pending.{IsInbox, IsReduced}
 use Rattle.rma_walk.proofs.ListLemmas.{none_later}
 use Rattle.rma_walk.proofs.PendingLemmas.{in_ranks}
 use Rattle.rma_walk.proofs.BlockerLemmas.{readable_of, ready_at_entry, ready_at_return, blocked_at_return, sources_fine, inbox_reduced, pending_reduced}

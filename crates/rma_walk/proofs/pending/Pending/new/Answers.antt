@@ -4,6 +4,5 @@ use Rattle.rma_walk.proofs.pending.Pending.new.Goals as goal
 
 pub returns : goal.returns
 returns c =
-    pending_at_start c.args.run.now.lens.now c.args.run.now.links.now (replicate (length c.args.run.now.lens.now) 0) c.in_ok-inboxes.inboxes.items c.add_edges.new.inboxes.items _
-    c.in_ok-inboxes.ensures c.in_ok-add_edges.ensures c.in_ok-add_meets.ensures
+    pending_at_start c.args.run.now.lens.now c.args.run.now.links.now (replicate (length c.args.run.now.lens.now) 0) _ c.in_ok-inboxes.ensures
     (c.in_ok-known.ensures.items_if_clones_equal (λ y same. same) ∙ ap (λ n. replicate n 0) c.len.ensures)

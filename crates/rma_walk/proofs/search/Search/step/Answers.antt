@@ -6,7 +6,7 @@ use Rattle.rma_walk.specs.inside.Pending.{IsPending}
 use Rattle.rma_walk.specs.inside.Search.{IsSearch, work}
 use Rattle.rma_walk.proofs.ListLemmas.{ok_later, ok_both, on_ok_later}
 use Rattle.rma_walk.proofs.FrontLemmas.{passed_on}
-use Rattle.rma_walk.proofs.StackLemmas.{other_within}
+use Rattle.rma_walk.proofs.FollowLemmas.{other_within}
 use Rattle.rma_walk.proofs.SearchLemmas.{search_waits, search_passes, passing_is_less}
 use Rattle.rma_walk.proofs.search.Search.step.Goals as goal
 
@@ -18,7 +18,7 @@ wait-requires-clause-other c =
     let is = c.requires.search in
     let P : List ℕ → Type 0 = λ next. IsBlocked lens links next c.args.current c.in-Some.other in
     let blocked = subst P c.deref.ensures.value c.in-Some.ensures.some in
-    let lt = other_within lens links old.front.next.items old.free.items old.waiting.items c.args.rank c.args.current is.stack c.requires.free is.run.within c.in-Some.other blocked in
+    let lt = other_within lens links old.front.next.items c.args.current is.run.within c.in-Some.other blocked in
     let size = is.stack.size in
     omega arith
 
