@@ -1,0 +1,6 @@
+pub mod StepLemmas
+pub mod RowLemmas
+pub mod BeforeLemmas
+pub mod MeetLemmas
+pub mod BuilderLemmas
+pub mod SettleLemmas

@@ -1,0 +1,16 @@
+//! The order of any two points of a possible run, as a look-up.
+//!
+//! [`Clocks`] answer whether one point is at or before another. [`SharedClocks`] are those of a whole run: they keep numbers by
+//! rank, how many of its points are before, and only at returns that receive something. All returns of a meet share theirs, and
+//! a point finds its own by a binary search of its rank, so a point that receives nothing takes no memory.
+#![tactic(auto)]
+
+mod builder;
+mod clocks;
+mod row;
+mod shared;
+mod step;
+mod table;
+
+pub use clocks::Clocks;
+pub use shared::SharedClocks;

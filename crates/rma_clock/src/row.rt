@@ -1,0 +1,67 @@
+//! How many points of each rank.
+ghost use Rattle.std.specs.Prelude.{◌≡◌, ◌<◌, ℕ, length, max, replicate, slice_index, slice_set, IfOk};
+
+use rma_base::Memory;
+use std::alloc::Global;
+use std::marker::Model;
+
+/// A number for each rank: how many of its first points are meant.
+#[derive(Drop)]
+pub(crate) struct Row {
+    /// By rank.
+    numbers: Vec<u32>,
+}
+
+impl Model for Row {
+    ghost use Rattle.std.specs.Prelude.{List, ℕ};
+
+    ghost Value = { List ℕ };
+
+    ghost view = { λ row. row.numbers.items };
+}
+
+impl Row {
+    /// No points, of so many ranks.
+    pub(crate) fn new(alloc: Global, ranks: usize) -> Result<Row, Memory>
+        ensures { IfOk result (λ row. row ≡ replicate ranks 0) }
+    {
+        Ok(Row {
+            numbers: vec![in alloc; 0; ranks]?,
+        })
+    }
+
+    /// The number of the rank.
+    pub(crate) fn number(&self, rank: u32) -> u32
+        requires { rank < length self.now }
+        ensures { result ≡ slice_index self.now rank }
+    {
+        self.numbers[rank as usize]
+    }
+
+    /// Raises the number of the rank to this one.
+    pub(crate) fn raise(&mut self, rank: u32, number: u32)
+        requires { rank < length self.old }
+        ensures { self.new ≡ slice_set self.old rank (max (slice_index self.old rank) number) }
+    {
+        self.numbers[rank as usize] = self.numbers[rank as usize].max(number);
+    }
+
+    /// Raises each number to the one of another row.
+    pub(crate) fn join(&mut self, other: &Row)
+        requires { length other.now ≡ length self.old }
+        ensures size { length self.new ≡ length self.old }
+        ensures each { (rank : ℕ) → slice_index self.new rank ≡ max (slice_index self.old rank) (slice_index other.now rank) }
+    {
+        raise_all(&mut self.numbers, &other.numbers);
+    }
+}
+
+/// Raises each number to the one beside it.
+fn raise_all(numbers: &mut [u32], others: &[u32])
+    requires { length others.now ≡ length numbers.old }
+    ensures { (rank : ℕ) → slice_index numbers.new rank ≡ max (slice_index numbers.old rank) (slice_index others.now rank) }
+{
+    for rank in 0..numbers.len() {
+        numbers[rank] = numbers[rank].max(others[rank]);
+    }
+}

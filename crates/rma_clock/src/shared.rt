@@ -1,0 +1,71 @@
+//! The clocks of a whole run.
+ghost use Rattle.std.specs.Prelude.{◌<◌, ◌^◌, ℕ, List, All, IfOk};
+ghost use Rattle.rma_link.specs.declared.links.Links.{Links};
+ghost use Rattle.rma_link.specs.Within.{AreWithin};
+ghost use Rattle.rma_walk.specs.Outcome.{IsOrder};
+ghost use Rattle.rma_clock.specs.inside.Table.{AreClocks};
+
+use crate::builder::Builder;
+use crate::clocks::Clocks;
+use crate::step::last_step;
+use crate::table::Table;
+use rma_base::{Memory, Point, Sequence};
+use rma_link::Links;
+use rma_walk::inboxes_of;
+use std::alloc::Global;
+
+/// The clocks of a possible run.
+#[derive(Drop)]
+pub struct SharedClocks {
+    /// What is before its returns.
+    table: Table,
+}
+
+impl SharedClocks {
+    /// The clocks of a run whose ranks make so many calls, from an order of its points.
+    ///
+    /// A return that receives something takes a number of each rank, and all returns of a meet take one row of them together.
+    ///
+    /// # Errors
+    ///
+    /// `Memory` where there is none left.
+    pub fn build(
+        alloc: Global,
+        lens: &[u32],
+        links: &Links,
+        order: &Sequence<Point>,
+    ) -> Result<SharedClocks, Memory>
+        requires calls { All (λ calls. calls < 2 ^ 31) lens.now }
+        requires links { AreWithin lens.now links.now }
+        requires order { IsOrder lens.now links.now order.now }
+        ensures { IfOk result (AreClocks lens.now links.now) }
+    {
+        let inboxes = inboxes_of(alloc, lens, links)?;
+        let mut builder = Builder::new(alloc, lens.len(), links)?;
+        for point in order.as_slice() {
+            if point.pos % 2 == 1 {
+                let inbox = &inboxes[point.rank.0 as usize];
+                let sources = inbox.sources(alloc, point.pos / 2)?;
+                builder.settle(alloc, *point, sources.as_slice())?;
+            }
+        }
+        Ok(SharedClocks {
+            table: builder.table,
+        })
+    }
+}
+
+impl Clocks for SharedClocks {
+    ghost are_of = { λ clocks lens links. AreClocks lens links clocks };
+
+    fn leq(&self, p: Point, q: Point) -> bool {
+        if p.rank.0 == q.rank.0 {
+            return p.pos <= q.pos;
+        }
+        let steps = &self.table.steps[q.rank.0 as usize];
+        match last_step(steps.as_slice(), q.pos) {
+            Some(step) => p.pos < self.table.rows[step.row].number(p.rank.0),
+            None => false,
+        }
+    }
+}
