@@ -1,27 +1,27 @@
 -- The windows of creations that come one after the other.
-use Rattle.std.proofs.Common.{◌≡◌, ℕ, zero, suc, ◌+◌, ◌<◌, ◌≤◌, Bool, true, false, cond, ◌&&◌, ◌||◌, List, [], ◌∷◌, ◌++◌, length, take, get_or, Option, Some, None, IfSome, eqb, nat_eq, slice_get, refl, sym, ap, subst, ◌∙◌, append_assoc, arith, option_map, not, map, filter}
-use Rattle.std.specs.Prelude.{All, find, fold, position}
+use Rattle.std.proofs.Common.{◌≡◌, ℕ, zero, suc, ◌+◌, ◌<◌, ◌≤◌, Bool, true, false, cond, ◌&&◌, ◌||◌, List, [], ◌∷◌, ◌++◌, length, take, Option, Some, None, IfSome, nat_eq, slice_get, refl, sym, ap, ◌∙◌, append_assoc, arith, option_map, not, map, filter}
+use Rattle.std.specs.Prelude.{find, fold, position, is_none, nat_le, nat_lt}
 use Rattle.std.specs.List.{position_or_len}
 use Rattle.std.proofs.lemmas.Option.{slice_get_past}
-use Rattle.std.specs.List.{cons_option, list_any, sum_by}
+use Rattle.std.specs.List.{cons_option, list_any}
 use Rattle.std.specs.Option.{option_and_then, option_map_or, option_or}
 use Rattle.std.specs.Map.{lookup}
 use Rattle.std.specs.Cmp.Lexicographic.{pointwise, nat_list_eq_equiv, same_text}
 use Rattle.std.proofs.lemmas.Bool.Decides.{nat_tests}
 use Rattle.std.proofs.lemmas.Bool.{false≢true}
-use Rattle.std.proofs.lemmas.List.{append-nil, length-append}
-use Rattle.std.proofs.lemmas.List.Folds.{find_at, list_any-append}
-use Rattle.std.proofs.lemmas.List.Sums.{fold-append, sum_by-cons}
+use Rattle.rma_base.proofs.NameLemmas.{and_left, and_right}
+use Rattle.std.proofs.lemmas.List.{append-nil}
+use Rattle.std.proofs.lemmas.List.Folds.{find_at}
+use Rattle.std.proofs.lemmas.List.Sums.{fold-append}
 use Rattle.rma_base.specs.Limits.{address_limit, fed_limit}
 use Rattle.rma_base.specs.declared.rank.Rank.{Rank}
 use Rattle.rma_base.specs.declared.window.WinModel.{WinModel}
 use Rattle.rma_base.specs.declared.window.AccOps.{AccOps}
-use Rattle.rma_call.specs.Call.{Call, RankCalls}
+use Rattle.rma_call.specs.Call.{Call}
 use Rattle.rma_window.specs.declared.part.Part.{Part}
 use Rattle.rma_window.specs.declared.window_id.WindowId.{WindowId}
-use Rattle.rma_window.specs.Creation.{Creation, CreateWindowsOnce, attributes_by, creation_of, creations, creations_from, creates_again, is_by, names_by, part_by}
-use Rattle.rma_window.specs.Windows.{MayCome, Window, attributes_of, name_of, is_named, is_rank, number_of, window_of, part_in, part_named, windows_by, with_call, with_creation}
-use Rattle.rma_window.specs.inside.Order.{AllMayCome}
+use Rattle.rma_window.specs.Creation.{Creation, attributes_by, creation_of, creations_from, is_by, names_by, part_by}
+use Rattle.rma_window.specs.Windows.{MayCome, Window, may_come, attributes_of, name_of, is_named, is_rank, number_of, window_of, part_in, part_named, windows_by, with_call, with_creation}
 
 -- ---- what one creation adds
 
@@ -233,95 +233,24 @@ names_are cs = names_of_all cs [] ∙ all_new (names_by cs)
 
 -- ---- what may come
 
-or_false : (a b : Bool) → (a || b) ≡ false → (a ≡ false) × (b ≡ false)
-or_false true b h = absurd (false≢true (sym h))
-or_false false b h = (refl, h)
-
-is_by_flips : (c d : Creation) → is_by c.name c.rank d ≡ is_by d.name d.rank c
-is_by_flips c d = rw (nat_list_eq_equiv.symm c.name d.name) (ap (λ b. pointwise nat_eq d.name c.name && b) (flips c.rank.0 d.rank.0))
+-- what passes the test may come
+pub test_is_right : (windows : List Window) (o : Option Creation) → option_map_or (may_come windows) o true ≡ true → IfSome o (MayCome windows)
+test_is_right windows None passes = tt
+test_is_right windows (Some c) passes =
+    let none = is_none (part_named windows c.name c.rank) in
+    let fits = nat_le (c.part.base + c.part.size) address_limit in
+    let room = nat_lt (length windows) fed_limit in
+    record {
+      has_none = none_is (part_named windows c.name c.rank) (and_left none (fits && room) passes);
+      in_space = grind (arith, nat_tests, and_left fits room (and_right none (fits && room) passes));
+      has_room = grind (arith, nat_tests, and_right fits room (and_right none (fits && room) passes));
+    }
   where
-    flips : (a b : ℕ) → eqb a b ≡ eqb b a
-    flips a b = grind (arith, nat_tests)
-
--- no creation before is of the same window by the same rank
-none_before : (done rest : List Creation) (c : Creation) → creates_again (done ++ c ∷ rest) ≡ false → part_by done c.name c.rank ≡ None
-none_before [] rest c once = refl
-none_before (d ∷ done) rest c once =
-    let both = or_false (list_any (is_by d.name d.rank) (done ++ c ∷ rest)) (creates_again (done ++ c ∷ rest)) once in
-    let later = or_false (list_any (is_by d.name d.rank) done) (list_any (is_by d.name d.rank) (c ∷ rest)) (sym (list_any-append (is_by d.name d.rank) done (c ∷ rest)) ∙ both.0) in
-    let here = or_false (is_by d.name d.rank c) (list_any (is_by d.name d.rank) rest) later.1 in
-    let own : is_by c.name c.rank d ≡ false = is_by_flips c d ∙ here.0 in
-    rw own (none_before done rest c both.1)
-
-all_come : (done rest : List Creation) → creates_again (done ++ rest) ≡ false → All (λ (c : Creation). c.part.base + c.part.size ≤ address_limit) rest
-    → length done + length rest ≤ fed_limit → AllMayCome (windows_by done) rest
-all_come done [] once in_space few = tt
-all_come done (c ∷ cs) once in_space few =
-    let grown : windows_by (done ++ c ∷ []) ≡ with_creation (windows_by done) c = fold-append with_creation [] done (c ∷ []) in
-    let long : length (done ++ c ∷ []) ≡ length done + 1 = length-append done (c ∷ []) in (
-      record {
-        has_none = parts_are c.name c.rank done ∙ none_before done cs c once;
-        in_space = in_space 0 c (omega arith);
-        has_room = omega (arith, length_of_all done []);
-      },
-      subst (λ windows. AllMayCome windows cs) grown
-          (all_come (done ++ c ∷ []) cs (ap creates_again (append_assoc done (c ∷ []) cs) ∙ once) (λ k d lt. in_space (suc k) d (omega arith)) (omega arith)),
-    )
+    none_is : {X : Type 0} (o : Option X) → is_none o ≡ true → o ≡ None
+    none_is None h = refl
+    none_is (Some x) h = absurd (false≢true h)
 
 -- ---- the creations among calls
-
-length_from : (rank : Rank) (number : ℕ) (calls : List Call) → length (creations_from rank number calls) ≤ length calls
-length_from rank number [] = omega arith
-length_from rank number (call ∷ calls) = by (creation_of rank number call.what) (length_from rank (number + 1) calls)
-  where
-    by : (o : Option Creation) → length (creations_from rank (number + 1) calls) ≤ length calls → length (cons_option o (creations_from rank (number + 1) calls)) ≤ length (call ∷ calls)
-    by None rest = omega arith
-    by (Some c) rest = omega arith
-
-length_creations : (ranks : List RankCalls) → length (creations ranks) ≤ sum_by (λ (r : RankCalls). length r.calls) ranks
-length_creations [] = omega arith
-length_creations (r ∷ ranks) =
-    omega (arith, length-append (creations_from r.rank 0 r.calls) (creations ranks), length_from r.rank 0 r.calls, length_creations ranks, sum_by-cons (λ (r : RankCalls). length r.calls) r ranks)
-
--- where no rank creates a window twice, the creations may come one after the other
-pub all_may_come : (ranks : List RankCalls) → CreateWindowsOnce ranks → AllMayCome [] (creations ranks)
-all_may_come ranks have = all_come [] (creations ranks) have.once have.in_space (omega (arith, length_creations ranks, have.few))
-
--- those of a part of them
-pub first_come : (xs ys : List Creation) (windows : List Window) → AllMayCome windows (xs ++ ys) → AllMayCome windows xs × AllMayCome (fold with_creation windows xs) ys
-first_come [] ys windows come = (tt, come)
-first_come (x ∷ xs) ys windows come = let rest = first_come xs ys (with_creation windows x) come.1 in ((come.0, rest.0), rest.1)
-
-first_comes : (windows : List Window) (o : Option Creation) (rest : List Creation) → AllMayCome windows (cons_option o rest) → IfSome o (MayCome windows)
-first_comes windows None rest come = tt
-first_comes windows (Some c) rest come = come.0
-
-later_come : (P : List Window → Type 0) (windows : List Window) (o : Option Creation) (rest before : List Creation) → AllMayCome windows (cons_option o rest)
-    → ((ws : List Window) → AllMayCome ws rest → P (fold with_creation ws before)) → P (fold with_creation windows (cons_option o before))
-later_come P windows None rest before come each = each windows come
-later_come P windows (Some c) rest before come each = each (with_creation windows c) come.1
-
-next_from : (rank : Rank) (number : ℕ) (calls : List Call) (i : ℕ) (call : Call) (windows : List Window) → AllMayCome windows (creations_from rank number calls) → slice_get calls i ≡ Some call
-    → IfSome (creation_of rank (number + i) call.what) (MayCome (fold with_creation windows (creations_from rank number (take i calls))))
-next_from rank number [] i call windows come at = absurd (let no : ⊥ = cc in no)
-next_from rank number (first ∷ calls) zero call windows come at =
-    let is : first ≡ call = cc in
-    let here : number ≡ number + 0 = omega arith in
-    subst (λ n. IfSome (creation_of rank n call.what) (MayCome windows)) here
-    (subst (λ (own : Call). IfSome (creation_of rank number own.what) (MayCome windows)) is
-    (first_comes windows (creation_of rank number first.what) (creations_from rank (number + 1) calls) come))
-next_from rank number (first ∷ calls) (suc i) call windows come at =
-    let later : number + 1 + i ≡ number + suc i = omega arith in
-    subst (λ n. IfSome (creation_of rank n call.what) (MayCome (fold with_creation windows (creations_from rank number (take (suc i) (first ∷ calls)))))) later
-    (later_come (λ ws. IfSome (creation_of rank (number + 1 + i) call.what) (MayCome ws)) windows (creation_of rank number first.what) (creations_from rank (number + 1) calls)
-    (creations_from rank (number + 1) (take i calls)) come (λ ws rest. next_from rank (number + 1) calls i call ws rest at))
-
--- the creation that a call is may come after those before it
-pub next_comes : (rank : Rank) (calls : List Call) (i : ℕ) (call : Call) (windows : List Window) → AllMayCome windows (creations_from rank 0 calls) → slice_get calls i ≡ Some call
-    → IfSome (creation_of rank i call.what) (MayCome (fold with_creation windows (creations_from rank 0 (take i calls))))
-next_comes rank calls i call windows come at =
-    let here : 0 + i ≡ i = omega arith in
-    subst (λ n. IfSome (creation_of rank n call.what) (MayCome (fold with_creation windows (creations_from rank 0 (take i calls))))) here (next_from rank 0 calls i call windows come at)
 
 cons_before : (o : Option Creation) (xs ys : List Creation) → cons_option o (xs ++ ys) ≡ cons_option o xs ++ ys
 cons_before None xs ys = refl
@@ -357,17 +286,6 @@ call_taken windows rank calls i call at =
     ∙ taken_one (fold with_creation windows before) (creation_of rank (0 + i) call.what)
     ∙ sym (fold-append with_creation windows before (cons_option (creation_of rank (0 + i) call.what) []))
     ∙ ap (fold with_creation windows) (sym (creations_more rank 0 calls i call at))
-
--- the creations of a rank may come after those of the ranks before it
-pub rank_comes : (ranks : List RankCalls) (i : ℕ) (own : RankCalls) (windows : List Window) → i < length ranks → own ≡ get_or ranks i own → AllMayCome windows (creations ranks)
-    → AllMayCome (fold with_creation windows (creations (take i ranks))) (creations_from own.rank 0 own.calls)
-rank_comes [] i own windows lt at come = absurd (omega arith)
-rank_comes (first ∷ ranks) zero own windows lt at come =
-    subst (λ (r : RankCalls). AllMayCome windows (creations_from r.rank 0 r.calls)) (sym at) (first_come (creations_from first.rank 0 first.calls) (creations ranks) windows come).0
-rank_comes (first ∷ ranks) (suc i) own windows lt at come =
-    let before = creations_from first.rank 0 first.calls in
-    subst (λ ws. AllMayCome ws (creations_from own.rank 0 own.calls)) (sym (fold-append with_creation windows before (creations (take i ranks))))
-    (rank_comes ranks i own (fold with_creation windows before) (omega arith) at (first_come before (creations ranks) windows come).1)
 
 -- ---- what stays
 

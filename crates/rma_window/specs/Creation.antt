@@ -1,8 +1,8 @@
 -- The calls that create windows (MPI 4.0, "One-Sided Communications").
-use Rattle.std.specs.Prelude.{◌≡◌, ℕ, ◌+◌, ◌≤◌, List, [], ◌∷◌, length, Bool, true, false, ◌&&◌, ◌||◌, ◌==◌, Option, Some, None, option_map, find, filter, not, sum_by, All, nat_eq}
-use Rattle.std.specs.List.{cons_option, flat_map, list_any}
+use Rattle.std.specs.Prelude.{ℕ, ◌+◌, List, [], ◌∷◌, Bool, true, false, ◌&&◌, ◌==◌, Option, Some, None, option_map, find, filter, not, nat_eq}
+use Rattle.std.specs.List.{cons_option, flat_map}
 use Rattle.std.specs.Cmp.Lexicographic.{pointwise}
-use Rattle.rma_base.specs.Limits.{address_limit, fed_limit}
+use Rattle.rma_base.specs.Limits.{address_limit}
 use Rattle.rma_base.specs.declared.rank.Rank.{Rank}
 use Rattle.rma_base.specs.declared.window.WinModel.{WinModel}
 use Rattle.rma_base.specs.declared.window.AccOps.{AccOps}
@@ -58,14 +58,3 @@ attributes_by list name = option_map (λ c. (c.name, c.model, c.ops, c.dynamic))
 abbrev pub names_by : List Creation → List (List ℕ)
 names_by [] = []
 names_by (c ∷ cs) = c.name ∷ filter (λ name. not (pointwise nat_eq c.name name)) (names_by cs)
-
--- whether some rank creates a window twice
-abbrev pub creates_again : List Creation → Bool
-creates_again [] = false
-creates_again (c ∷ cs) = list_any (is_by c.name c.rank) cs || creates_again cs
-
--- no rank creates a window twice, each part lies in the space of addresses, and there are no more calls than there may be
-pub record CreateWindowsOnce (ranks : List RankCalls) : Type 0 where
-  pub once : creates_again (creations ranks) ≡ false
-  pub in_space : All (λ c. c.part.base + c.part.size ≤ address_limit) (creations ranks)
-  pub few : sum_by (λ r. length r.calls) ranks ≤ fed_limit

@@ -1,5 +1,5 @@
 -- The windows of a run, as they are created (MPI 4.0, "One-Sided Communications").
-use Rattle.std.specs.Prelude.{◌≡◌, ◌+◌, ◌<◌, ◌≤◌, ◌==◌, ℕ, List, [], ◌∷◌, ◌++◌, length, Bool, Option, None, option_map, find, position, fold, slice_get, nat_eq, if◌then◌else◌}
+use Rattle.std.specs.Prelude.{◌≡◌, ◌+◌, ◌<◌, ◌≤◌, ◌==◌, ℕ, List, [], ◌∷◌, ◌++◌, length, Bool, true, ◌&&◌, Option, None, is_none, nat_le, nat_lt, option_map, find, position, fold, slice_get, nat_eq, if◌then◌else◌}
 use Rattle.std.specs.Option.{option_and_then, option_map_or}
 use Rattle.std.specs.Map.{lookup}
 use Rattle.std.specs.Cmp.Lexicographic.{pointwise}
@@ -77,6 +77,14 @@ pub record MayCome (windows : List Window) (c : Creation) : Type 0 where
   pub has_none : part_named windows c.name c.rank ≡ None
   pub in_space : c.part.base + c.part.size ≤ address_limit
   pub has_room : length windows < fed_limit
+
+-- whether a creation may come next
+abbrev pub may_come : List Window → Creation → Bool
+may_come windows c = is_none (part_named windows c.name c.rank) && (nat_le (c.part.base + c.part.size) address_limit && nat_lt (length windows) fed_limit)
+
+-- whether a call of this number of a rank may: it creates no window, or one that may come
+abbrev pub may_call : List Window → Rank → ℕ → What → Bool
+may_call windows rank number what = option_map_or (may_come windows) (creation_of rank number what) true
 
 -- the windows of these creations, one after the other
 abbrev pub windows_by : List Creation → List Window

@@ -1,14 +1,15 @@
 //! The table of windows.
-ghost use Rattle.std.specs.Prelude.{◌≡◌, ◌+◌, ◌<◌, ◌≤◌, [], ◌∷◌, ◌++◌, length, Some, IfSome, IfOk, OnOk, OnErr, option_map};
+ghost use Rattle.std.specs.Prelude.{◌≡◌, ◌+◌, ◌<◌, ◌≤◌, ℕ, [], ◌∷◌, ◌++◌, ◌&&◌, length, is_none, nat_le, nat_lt, Some, IfSome, IfOk, OnOk, OnErr, option_map};
 ghost use Rattle.rma_base.specs.Limits.{address_limit, fed_limit};
-ghost use Rattle.rma_call.specs.Call.{call_of};
+ghost use Rattle.rma_call.specs.Call.{call_of, what_of};
 ghost use Rattle.rma_window.specs.Creation.{creation_of};
-ghost use Rattle.rma_window.specs.Windows.{MayCome, name_of, number_of, window_of, part_of, with_call, with_creation};
+ghost use Rattle.rma_window.specs.Windows.{MayCome, may_call, name_of, number_of, window_of, part_named, part_of, with_call, with_creation};
 ghost use Rattle.rma_window.specs.inside.Windows.{creation_with, index_of, with_name};
 
 use crate::part::Part;
 use crate::window_id::WindowId;
 use indexmap::IndexMap;
+use rma_base::limits::{FED, SPACE};
 use rma_base::{AccOps, Memory, Name, Rank, WinModel};
 use rma_call::{CallRef, WhatRef, WindowCall};
 use std::alloc::Global;
@@ -102,6 +103,47 @@ impl Windows {
         self.add(window, attributes, rank, part)
     }
 
+    /// Whether a call of the rank may be taken next: where it creates a window, the rank has no part of it yet, its part lies
+    /// in the space of addresses, and there may be one more window.
+    pub fn may_take(&self, rank: Rank, what: WhatRef<'_>) -> bool
+        ensures { (number : ℕ) → result ≡ may_call self.now rank number (what_of what.entry) }
+    {
+        let WhatRef::Window(
+            WindowCall::Create {
+                window,
+                base,
+                size,
+                unit,
+                dynamic,
+                ..
+            },
+        ) = what
+        else {
+            return true;
+        };
+        let part = Part::of_call(*base, *size, *unit, *dynamic, 0);
+        self.may_add(window, rank, part)
+    }
+
+    /// Whether the rank may get this part of the window of this name.
+    fn may_add(&self, name: &Name, rank: Rank, part: Part) -> bool
+        ensures { result ≡ (is_none (part_named self.now name.now rank) && (nat_le (part.base + part.size) address_limit && nat_lt (length self.now) fed_limit)) }
+    {
+        let has_none = self.part_named(name, rank).is_none();
+        let has_room = (self.len() as u64) < FED;
+        has_none && (is_in_space(part.base, part.size) && has_room)
+    }
+
+    /// The part of the rank in the window of this name, where it created it.
+    pub fn part_named(&self, name: &Name, rank: Rank) -> Option<Part>
+        ensures { result ≡ part_named self.now name.now rank }
+    {
+        match self.find(name) {
+            Some(window) => self.part(window, rank),
+            None => None,
+        }
+    }
+
     /// Gives the rank its part of the window of this name, which is created with these attributes where none has the name.
     fn add(
         &mut self,
@@ -176,6 +218,16 @@ impl Windows {
         ensures in_space { IfSome result (λ part. part.base + part.size ≤ address_limit) }
     {
         self.parts.get(&PartKey { window, rank }).copied()
+    }
+}
+
+/// Whether the bytes from the base on lie in the space of addresses.
+fn is_in_space(base: u64, size: u64) -> bool
+    ensures { result ≡ nat_le (base + size) address_limit }
+{
+    match base.checked_add(size) {
+        Some(end) => end <= SPACE,
+        None => false,
     }
 }
 

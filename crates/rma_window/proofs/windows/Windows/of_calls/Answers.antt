@@ -1,15 +1,10 @@
-use Rattle.std.proofs.Common.{◌≡◌, [], ap, ◌∙◌}
+use Rattle.std.proofs.Common.{◌≡◌, ap, ◌∙◌}
 use Rattle.std.specs.Prelude.{find, map, option_map}
 use Rattle.std.proofs.lemmas.List.{take_all}
 use Rattle.rma_window.specs.Creation.{creations}
 use Rattle.rma_window.specs.Windows.{attributes_of, is_named, name_of, part_named, windows_by}
-use Rattle.rma_window.proofs.WholeLemmas.{attributes_are, all_may_come, names_are, parts_are, rank_comes}
+use Rattle.rma_window.proofs.WholeLemmas.{attributes_are, names_are, parts_are}
 use Rattle.rma_window.proofs.windows.Windows.of_calls.Goals as goal
-
-pub take_all-requires-clause-may_come : goal.take_all-requires-clause-may_come
-take_all-requires-clause-may_come c =
-    rw c.loop-rank.invariant
-    (rank_comes c.args.ranks.now c.loop-rank.rank-index c.rank-item.result [] c.loop-rank-test.true c.rank-item.is (all_may_come c.args.ranks.now c.requires))
 
 -- the windows are those of all creations
 all_taken : (c : goal.After-loop-rank) → c.loop-rank.windows ≡ windows_by (creations c.args.ranks.now)

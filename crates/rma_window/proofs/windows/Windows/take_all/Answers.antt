@@ -1,21 +1,15 @@
 use Rattle.std.proofs.Common.{◌≡◌, Some, sym, ap, ◌∙◌, slice_get}
 use Rattle.rma_call.specs.Call.{call_of}
 use Rattle.rma_window.specs.Windows.{with_call}
-use Rattle.rma_window.proofs.WholeLemmas.{next_comes, call_taken}
+use Rattle.rma_window.proofs.WholeLemmas.{call_taken}
 use Rattle.rma_window.proofs.windows.Windows.take_all.Goals as goal
-
-pub take-requires : goal.take-requires
-take-requires c =
-    let own = c.args.rank.now in
-    let there : slice_get own.calls c.loop-i.i ≡ Some (call_of c.get.result) = ap (λ calls. slice_get calls c.loop-i.i) (sym c.calls-calls.ensures) ∙ c.get.ensures in
-    rw (c.rank.ensures, c.loop-i.invariant) (next_comes own.rank own.calls c.loop-i.i (call_of c.get.result) c.args.self.now c.requires.may_come there)
 
 pub loop-i-preserved : goal.loop-i-preserved
 loop-i-preserved c =
     let own = c.args.rank.now in
     let call = call_of c.get.result in
     let there : slice_get own.calls c.loop-i.i ≡ Some call = ap (λ calls. slice_get calls c.loop-i.i) (sym c.calls-calls.ensures) ∙ c.get.ensures in
-    c.in_ok-take.ensures.ok
+    c.in_ok-take_next.ensures
     ∙ ap (λ rank. with_call c.loop-i.self rank c.loop-i.i call.what) c.rank.ensures
     ∙ ap (λ windows. with_call windows own.rank c.loop-i.i call.what) c.loop-i.invariant
     ∙ call_taken c.args.self.now own.rank own.calls c.loop-i.i call there
