@@ -1,0 +1,4 @@
+pub mod EventLemmas
+pub mod LiveLemmas
+pub mod MemberLemmas
+pub mod RangeLemmas

@@ -1,0 +1,19 @@
+-- What is kept of the epochs of a rank.
+use Rattle.std.specs.Prelude.{◌≡◌, ℕ, List, [], length, nat_eq}
+use Rattle.std.specs.Map.{lookup}
+use Rattle.std.specs.Option.{option_map_or}
+use Rattle.std.specs.Cmp.Lexicographic.{pointwise}
+use Rattle.rma_call.specs.Call.{Call}
+use Rattle.rma_epoch.specs.declared.open_epochs.OpenEpochs.{OpenEpochs}
+use Rattle.rma_epoch.specs.declared.live.LiveEpochs.{LiveEpochs}
+use Rattle.rma_epoch.specs.Open.{Open, open_after, open_on}
+use Rattle.rma_epoch.specs.inside.Held.{open_of}
+
+-- what is kept of a window: nothing is open where nothing is kept
+abbrev pub kept : List (List ℕ × OpenEpochs) → List ℕ → Open
+kept windows window = option_map_or open_of (lookup (pointwise nat_eq window) windows) (open_after [])
+
+-- what is kept represents what these calls of a rank leave open
+pub record Represents (calls : List Call) (live : LiveEpochs) : Type 0 where
+  pub windows_are : (window : List ℕ) → kept live.windows.entries window ≡ open_on calls window
+  pub taken_are : live.taken ≡ length calls

@@ -1,0 +1,20 @@
+//! The epochs of one rank (MPI 4.0, "One-Sided Communications").
+//!
+//! A call on a window is allowed where the calls before it left the right epochs open: a phase between two fences, the access
+//! epoch of a start, the exposure epoch of a post, or locks. [`LiveEpochs`] takes the calls of a rank one at a time, and answers
+//! for each why it stands in no epoch that allows it, if so. [`epoch_fault`] takes the calls of a whole log, and answers the
+//! first [`EpochFault`]. A call takes constant work, whatever is open.
+#![tactic(auto)]
+
+mod call;
+mod fault;
+mod live;
+mod open_epochs;
+mod opening;
+mod range;
+mod reason;
+mod whole;
+
+pub use fault::EpochFault;
+pub use live::LiveEpochs;
+pub use whole::epoch_fault;

@@ -1,0 +1,205 @@
+//! What is open on one window.
+ghost use Rattle.std.specs.Prelude.{◌≡◌, ◌||◌, ◌∷◌, [], ℕ, List, OnOk, is_some};
+ghost use Rattle.rma_call.specs.Call.{what_of};
+ghost use Rattle.rma_call.specs.declared.what.What.{What};
+ghost use Rattle.rma_call.specs.declared.what.What.TheVariants.{Sync};
+ghost use Rattle.rma_call.specs.declared.what.SyncCall.TheVariants.{Epoch, Window};
+ghost use Rattle.rma_epoch.specs.Open.{frees, is_exclusive, is_left, is_used, open_after};
+ghost use Rattle.rma_epoch.specs.Fault.{is_unclosed};
+ghost use Rattle.rma_epoch.specs.Reason.{start_reaches};
+ghost use Rattle.rma_epoch.specs.inside.Held.{open_of};
+
+use crate::opening::{
+    FencePhase, HeldLock, OpenStart, is_used, opened_phase, phase_if_used, used_phase,
+};
+use indexmap::IndexMap;
+use rma_base::{Memory, Rank};
+use rma_call::{EpochCall, LockKind, WhatRef, WindowCall};
+use std::alloc::Global;
+
+/// What a rank has open on one window.
+#[derive(Drop)]
+pub(crate) struct OpenEpochs {
+    /// The access epoch of a start.
+    start: Option<OpenStart>,
+    /// The number of the post whose exposure epoch is open.
+    post: Option<u32>,
+    /// The number of the lockall that is held.
+    lock_all: Option<u32>,
+    /// The locks that are held, by the number of their target.
+    locks: IndexMap<u32, HeldLock>,
+    /// The phase that a fence opened.
+    phase: Option<FencePhase>,
+    /// Whether the window is freed.
+    freed: bool,
+}
+
+impl OpenEpochs {
+    /// Nothing.
+    pub(crate) fn new(alloc: Global) -> OpenEpochs
+        ensures { open_of result ≡ open_after [] }
+    {
+        OpenEpochs {
+            start: None,
+            post: None,
+            lock_all: None,
+            locks: IndexMap::new(alloc),
+            phase: None,
+            freed: false,
+        }
+    }
+
+    /// Takes the call of this number, which is the next one on the window.
+    pub(crate) fn take(&mut self, number: u32, what: WhatRef<'_>) -> Result<(), Memory>
+        ensures { OnOk result ((past : List (ℕ × What)) → open_of self.old ≡ open_after past → open_of self.new ≡ open_after ((number, what_of what.entry) ∷ past)) }
+    {
+        match what {
+            WhatRef::Epoch(call) => return self.take_epoch(number, call),
+            WhatRef::Rma(_) => self.phase = used_phase(self.phase),
+            WhatRef::Window(call) => self.freed = freed_after(self.freed, call),
+            WhatRef::Frame(_) => {}
+            WhatRef::Message(_) => {}
+            WhatRef::Moving(_) => {}
+            WhatRef::Local(_) => {}
+        }
+        Ok(())
+    }
+
+    /// Takes a call that opens, completes or closes an epoch.
+    fn take_epoch(&mut self, number: u32, call: &EpochCall) -> Result<(), Memory>
+        ensures { OnOk result ((past : List (ℕ × What)) → open_of self.old ≡ open_after past → open_of self.new ≡ open_after ((number, Sync (Epoch call.now)) ∷ past)) }
+    {
+        match call {
+            EpochCall::Fence { assertions, .. } => {
+                self.phase = opened_phase(number, assertions.nosucceed);
+            }
+            EpochCall::Post { .. } => self.post = Some(number),
+            EpochCall::Expwait { .. } => self.post = None,
+            EpochCall::Start { targets, .. } => {
+                let targets = targets.copy()?;
+                self.start = Some(OpenStart {
+                    opener: number,
+                    targets,
+                });
+                self.phase = phase_if_used(self.phase);
+            }
+            EpochCall::Complete { .. } => self.start = None,
+            EpochCall::Lock { target, kind, .. } => {
+                self.locks.insert(target.0, held_lock(number, *kind))?;
+                self.phase = phase_if_used(self.phase);
+            }
+            EpochCall::Unlock { target, .. } => {
+                self.locks.swap_remove(&target.0);
+            }
+            EpochCall::LockAll { .. } => {
+                self.lock_all = Some(number);
+                self.phase = phase_if_used(self.phase);
+            }
+            EpochCall::UnlockAll { .. } => self.lock_all = None,
+            EpochCall::Flush { .. } => {}
+            EpochCall::FlushAll { .. } => {}
+            EpochCall::FlushLocal { .. } => {}
+            EpochCall::FlushLocalAll { .. } => {}
+            EpochCall::Sync { .. } => {}
+        }
+        Ok(())
+    }
+
+    /// Whether some target is locked by a lock of its own.
+    pub(crate) fn holds_any(&self) -> bool
+        ensures { result ≡ (open_of self.now).any_lock }
+    {
+        self.locks.len() > 0
+    }
+
+    /// Whether the target is locked by a lock of its own.
+    pub(crate) fn holds(&self, target: Rank) -> bool
+        ensures { result ≡ is_some ((open_of self.now).lock_on target.0) }
+    {
+        self.locks.contains_key(&target.0)
+    }
+
+    /// Whether all targets are locked at once.
+    pub(crate) fn holds_all(&self) -> bool
+        ensures { result ≡ is_some (open_of self.now).lock_all }
+    {
+        self.lock_all.is_some()
+    }
+
+    /// Whether the access epoch of a start is open.
+    pub(crate) fn is_started(&self) -> bool
+        ensures { result ≡ is_some (open_of self.now).start }
+    {
+        self.start.is_some()
+    }
+
+    /// Whether an exposure epoch is open.
+    pub(crate) fn is_posted(&self) -> bool
+        ensures { result ≡ is_some (open_of self.now).post }
+    {
+        self.post.is_some()
+    }
+
+    /// Whether a phase is open.
+    pub(crate) fn has_phase(&self) -> bool
+        ensures { result ≡ is_some (open_of self.now).phase }
+    {
+        self.phase.is_some()
+    }
+
+    /// Whether a phase is open, and an access stands in it.
+    pub(crate) fn is_used(&self) -> bool
+        ensures { result ≡ is_used (open_of self.now) }
+    {
+        is_used(self.phase)
+    }
+
+    /// Whether a start reaches the target, or, for no target, whether one is open.
+    pub(crate) fn start_reaches(&self, target: Option<Rank>) -> bool
+        ensures { result ≡ start_reaches (open_of self.now) target }
+    {
+        match (&self.start, target) {
+            (Some(start), Some(target)) => start.targets.has(target),
+            (Some(_), None) => true,
+            (None, _) => false,
+        }
+    }
+
+    /// Whether some epoch is open that has to be closed.
+    pub(crate) fn is_left(&self) -> bool
+        ensures { result ≡ is_left (open_of self.now) }
+    {
+        self.is_started()
+            || self.is_posted()
+            || self.holds_all()
+            || self.holds_any()
+            || self.is_used()
+    }
+
+    /// Whether that is so and the window is not freed.
+    pub(crate) fn is_unclosed(&self) -> bool
+        ensures { result ≡ is_unclosed (open_of self.now) }
+    {
+        !self.freed && self.is_left()
+    }
+}
+
+/// The lock that the call of this number takes.
+fn held_lock(number: u32, kind: LockKind) -> HeldLock
+    ensures { result ≡ record { opener = number; exclusive = is_exclusive kind } }
+{
+    HeldLock {
+        opener: number,
+        exclusive: matches!(kind, LockKind::Exclusive),
+    }
+}
+
+/// Whether the window is freed after the call.
+fn freed_after(freed: bool, call: &WindowCall) -> bool
+    ensures { result ≡ (frees (Sync (Window call.now)) || freed) }
+{
+    match call {
+        WindowCall::Free { .. } => true,
+        _ => freed,
+    }
+}
