@@ -4,6 +4,7 @@ use Rattle.std.specs.Option.{option_and_then}
 use Rattle.std.specs.Cmp.Lexicographic.{pointwise, same_text, nat_list_eq_equiv}
 use Rattle.std.proofs.lemmas.Bool.Decides.{nat_tests}
 use Rattle.rma_call.specs.Call.{Call}
+use Rattle.rma_run.proofs.CallLemmas.{next_same, zero_next, next_zero}
 use Rattle.rma_exposure.specs.declared.side.Side.{Side}
 use Rattle.rma_exposure.specs.Opening.{Opening, opening_at, opened, closed, opens_on, opens_with, closes_on}
 use Rattle.rma_exposure.specs.Closing.{first_closing, closing_at, closing_of}
@@ -186,15 +187,6 @@ closing_at_same side n (x ∷ xs) call zero not = by (opened side x.what)
 closing_at_same side n (x ∷ xs) call (suc i) not = closing_at_same side (n + 1) xs call i not
 
 -- ---- what a call of a number states
-
-pub next_same : (a b : ℕ) → nat_eq (suc a) (suc b) ≡ nat_eq a b
-next_same a b = grind (arith, nat_tests)
-
-pub zero_next : (n : ℕ) → nat_eq 0 (suc n) ≡ false
-zero_next n = grind (arith, nat_tests)
-
-pub next_zero : (n : ℕ) → nat_eq (suc n) 0 ≡ false
-next_zero n = grind (arith, nat_tests)
 
 pub opening_at_push : (side : Side) (calls : List Call) (call : Call) (i : ℕ) → opening_at side (calls ++ call ∷ []) i ≡ cond (nat_eq (length calls) i) (opened side call.what) (opening_at side calls i)
 opening_at_push side [] call zero = refl

@@ -1,5 +1,5 @@
 -- What is kept of the epochs of a rank, with one more call.
-use Rattle.std.proofs.Common.{◌≡◌, ℕ, ◌+◌, Bool, true, false, cond, ◌&&◌, ◌∷◌, ◌++◌, List, [], length, Option, Some, None, Result, Ok, Err, nat_eq, refl, sym, ap, ◌∙◌, arith, append-nil}
+use Rattle.std.proofs.Common.{◌≡◌, ℕ, ◌+◌, Bool, true, false, cond, ◌&&◌, ◌∷◌, ◌++◌, List, [], length, Option, Some, None, Result, Ok, Err, nat_eq, refl, sym, ap, subst, ◌∙◌, arith, append-nil}
 use Rattle.std.specs.Map.{lookup}
 use Rattle.std.specs.Prelude.{OnOk, option_map}
 use Rattle.std.specs.Cmp.Lexicographic.{pointwise, nat_list_eq_equiv}
@@ -11,7 +11,7 @@ use Rattle.rma_exposure.specs.declared.side_epochs.SideEpochs.{SideEpochs}
 use Rattle.rma_exposure.specs.declared.rank_epochs.RankEpochs.{RankEpochs}
 use Rattle.rma_exposure.specs.Opening.{Opening, posted, started, waited, completed, opening_at, opened, closed, opens_on, opens_with, closes_on}
 use Rattle.rma_exposure.specs.Matching.{numbers}
-use Rattle.rma_exposure.specs.inside.Epochs.{kept, numbers_in, pending_in, IsOpened, pending_of, is_pending, AreEpochs, AreOfRank}
+use Rattle.rma_exposure.specs.inside.Epochs.{kept, numbers_in, pending_in, IsOpened, pending_of, is_pending, HaveNoEpochs, AreEpochs, AreOfRank, IsOfRank}
 use Rattle.rma_exposure.proofs.CallLemmas.{numbers_from_push, next_pending, pending_after_push, closing_of_push, closing_at_same, opening_at_push, opening_at_same, closes_is, closes_none}
 
 numbers_push : (side : Side) (window : List ℕ) (other : ℕ) (calls : List Call) (call : Call) →
@@ -32,22 +32,48 @@ not_with side window other call is = rw is refl
 not_on : (side : Side) (window : List ℕ) (call : Call) → opened side call.what ≡ None → opens_on side window call ≡ false
 not_on side window call is = rw is refl
 
+numbers_same : (side : Side) (window : List ℕ) (other : ℕ) (calls : List Call) (call : Call) → opened side call.what ≡ None → numbers side window other (calls ++ call ∷ []) ≡ numbers side window other calls
+numbers_same side window other calls call opens =
+    numbers_push side window other calls call
+    ∙ ap (λ b. numbers side window other calls ++ cond b (length calls ∷ []) []) (not_with side window other call opens)
+    ∙ append-nil (numbers side window other calls)
+
+pending_same : (side : Side) (window : List ℕ) (calls : List Call) (call : Call) → opened side call.what ≡ None → closed side call.what ≡ None → pending_of side window (calls ++ call ∷ []) ≡ pending_of side window calls
+pending_same side window calls call opens closes =
+    pending_push side window calls call
+    ∙ ap (λ b. cond b (Some (length calls)) (cond (closes_on side window call) None (pending_of side window calls))) (not_on side window call opens)
+    ∙ ap (λ b. cond b None (pending_of side window calls)) (closes_none side window call closes)
+
 -- a call that opens and closes nothing
 pub AreEpochs_same : (side : Side) (calls : List Call) (call : Call) (epochs : SideEpochs) → opened side call.what ≡ None → closed side call.what ≡ None →
     AreEpochs side calls epochs → AreEpochs side (calls ++ call ∷ []) epochs
 AreEpochs_same side calls call epochs opens closes are = record {
-  numbers_are = λ window other.
-      are.numbers_are window other
-      ∙ sym (append-nil (numbers side window other calls))
-      ∙ ap (λ b. numbers side window other calls ++ cond b (length calls ∷ []) []) (sym (not_with side window other call opens))
-      ∙ sym (numbers_push side window other calls call);
-  pending_are = λ window.
-      are.pending_are window
-      ∙ sym (ap (λ b. cond b (Some (length calls)) (cond (closes_on side window call) None (pending_of side window calls))) (not_on side window call opens)
-      ∙ ap (λ b. cond b None (pending_of side window calls)) (closes_none side window call closes))
-      ∙ sym (pending_push side window calls call);
+  numbers_are = λ window other. are.numbers_are window other ∙ sym (numbers_same side window other calls call opens);
+  pending_are = λ window. are.pending_are window ∙ sym (pending_same side window calls call opens closes);
   openers_are = λ number. are.openers_are number ∙ ap (option_map (λ (o : Opening). o.window)) (sym (opening_at_same side calls call number opens));
   closings_are = λ number. are.closings_are number ∙ sym (closing_at_same side 0 calls call number closes);
+}
+
+-- ---- calls that open and close nothing
+
+pub no_calls_have_no_epochs : (side : Side) → HaveNoEpochs side []
+no_calls_have_no_epochs side = record { numbers_are = λ window other. refl; pending_are = λ window. refl; openers_are = λ number. refl; closings_are = λ number. refl }
+
+pub HaveNoEpochs_more : (side : Side) (calls : List Call) (call : Call) → opened side call.what ≡ None → closed side call.what ≡ None → HaveNoEpochs side calls → HaveNoEpochs side (calls ++ call ∷ [])
+HaveNoEpochs_more side calls call opens closes have = record {
+  numbers_are = λ window other. numbers_same side window other calls call opens ∙ have.numbers_are window other;
+  pending_are = λ window. pending_same side window calls call opens closes ∙ have.pending_are window;
+  openers_are = λ number. opening_at_same side calls call number opens ∙ have.openers_are number;
+  closings_are = λ number. closing_at_same side 0 calls call number closes ∙ have.closings_are number;
+}
+
+-- what represents no calls represents them too
+pub AreEpochs_none : (side : Side) (calls : List Call) (epochs : SideEpochs) → HaveNoEpochs side calls → AreEpochs side [] epochs → AreEpochs side calls epochs
+AreEpochs_none side calls epochs have are = record {
+  numbers_are = λ window other. are.numbers_are window other ∙ sym (have.numbers_are window other);
+  pending_are = λ window. are.pending_are window ∙ sym (have.pending_are window);
+  openers_are = λ number. are.openers_are number ∙ ap (option_map (λ (o : Opening). o.window)) (sym (have.openers_are number));
+  closings_are = λ number. are.closings_are number ∙ sym (have.closings_are number);
 }
 
 -- a call that opens an epoch
@@ -166,6 +192,20 @@ AreOfRank_same calls call epochs post wait start complete are = record {
   posts_are = AreEpochs_same Exposure calls call epochs.posts post wait are.posts_are;
   starts_are = AreEpochs_same Access calls call epochs.starts start complete are.starts_are;
 }
+
+-- the same of what is kept of a rank, if anything is
+pub IsOfRank_same : (calls : List Call) (call : Call) (epochs : Option RankEpochs) → posted call.what ≡ None → waited call.what ≡ None → started call.what ≡ None → completed call.what ≡ None →
+    IsOfRank calls epochs → IsOfRank (calls ++ call ∷ []) epochs
+IsOfRank_same calls call None post wait start complete have = by
+  where
+    by : (side : Side) → HaveNoEpochs side (calls ++ call ∷ [])
+    by Exposure = HaveNoEpochs_more Exposure calls call post wait (have Exposure)
+    by Access = HaveNoEpochs_more Access calls call start complete (have Access)
+IsOfRank_same calls call (Some epochs) post wait start complete are = AreOfRank_same calls call epochs post wait start complete are
+
+-- where nothing is kept of a rank
+pub none_kept : (calls : List Call) (epochs : Option RankEpochs) → None ≡ epochs → IsOfRank calls epochs → (side : Side) → HaveNoEpochs side calls
+none_kept calls epochs none are = subst (IsOfRank calls) (sym none) are
 
 -- a post or an expwait
 pub AreOfRank_posts : (calls : List Call) (call : Call) (old : RankEpochs) (posts : SideEpochs) → started call.what ≡ None → completed call.what ≡ None →

@@ -1,9 +1,7 @@
-mod CheckLemmas
 pub mod GroupLemmas
 pub mod CallLemmas
 pub mod EpochLemmas
 pub mod PositionLemmas
 pub mod RunLemmas
-pub mod WalkLemmas
 pub mod EdgeLemmas
 pub mod ClosingLemmas

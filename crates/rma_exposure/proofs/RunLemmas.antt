@@ -1,22 +1,20 @@
 -- What is kept of a run, with more calls of a rank.
-use Rattle.std.proofs.Common.{◌≡◌, ℕ, zero, suc, ◌+◌, ◌<◌, ◌≤◌, Bool, true, false, cond, ◌∷◌, ◌++◌, List, [], length, Option, Some, None, nat_eq, take, refl, sym, ap, subst, ◌∙◌, arith, append_assoc, append-nil, ◌^◌}
+use Rattle.std.proofs.Common.{◌≡◌, ℕ, zero, suc, ◌+◌, ◌<◌, ◌≤◌, Bool, true, false, cond, ◌∷◌, ◌++◌, List, [], length, Option, Some, None, nat_eq, take, refl, sym, subst, arith, ◌^◌}
 use Rattle.std.specs.Prelude.{slice_get, IfSome}
 use Rattle.std.specs.Option.{option_and_then}
-use Rattle.std.proofs.lemmas.Bool.Decides.{nat_tests}
 use Rattle.rma_base.specs.Limits.{fed_limit}
 use Rattle.std.proofs.lemmas.Bool.{eqb-true}
 use Rattle.rma_base.specs.declared.rank.Rank.{Rank}
 use Rattle.rma_call.specs.Call.{Call, RankCalls}
 use Rattle.rma_exposure.specs.declared.rank_epochs.RankEpochs.{RankEpochs}
-use Rattle.rma_exposure.specs.inside.Epochs.{kept_of, IsOfRank, Represents, with_calls}
+use Rattle.rma_exposure.specs.inside.Epochs.{kept_of, IsOfRank, Represents}
 use Rattle.rma_exposure.specs.declared.side.Side.{Side}
 use Rattle.rma_exposure.specs.declared.exposures.Exposures.{Exposures}
-use Rattle.rma_exposure.specs.Opening.{Opening, opened, opens_on, closes_on}
+use Rattle.rma_exposure.specs.Opening.{Opening, opened, opens_on, closes_on, posted, started, waited, completed}
 use Rattle.rma_exposure.specs.Closing.{first_closing, closing_at, closing_of}
-use Rattle.rma_exposure.specs.Matching.{calls_of}
-use Rattle.rma_exposure.specs.Run.{IsRun}
-use Rattle.rma_exposure.proofs.CallLemmas.{next_same, zero_next, next_zero}
-use Rattle.rma_exposure.proofs.WalkLemmas.{taken_there, taken_length}
+use Rattle.rma_run.specs.Run.{with_calls, calls_of}
+use Rattle.rma_run.proofs.CallLemmas.{none_more, one_more, next_calls}
+use Rattle.rma_exposure.proofs.EpochLemmas.{IsOfRank_same}
 
 -- more calls of a rank, of which alone something changes
 pub more_of_rank : (calls : ℕ → List Call) (rank : Rank) (more : List Call) (old new : List (Rank × RankEpochs)) →
@@ -28,28 +26,22 @@ more_of_rank calls rank more old new own others are other = by (nat_eq rank.0 ot
     by true same = rw same (subst (λ r. IsOfRank (calls r ++ more) (kept_of new r)) (eqb-true rank.0 other same) own)
     by false differ = rw differ (subst (IsOfRank (calls other)) (sym (others (record { 0 = other }) differ)) (are other))
 
+-- a call that opens and closes nothing
+pub Represents_same : (calls : ℕ → List Call) (rank : ℕ) (call : Call) (exposures : Exposures) → posted call.what ≡ None → waited call.what ≡ None → started call.what ≡ None → completed call.what ≡ None →
+    Represents calls exposures → Represents (with_calls calls rank (call ∷ [])) exposures
+Represents_same calls rank call exposures post wait start complete are other = by (nat_eq rank other)
+  where
+    by : (b : Bool) → IsOfRank (cond b (calls other ++ call ∷ []) (calls other)) (kept_of exposures.ranks.entries other)
+    by true = IsOfRank_same (calls other) call (kept_of exposures.ranks.entries other) post wait start complete (are other)
+    by false = are other
+
 -- the same calls of each rank
 pub Represents_along : (f g : ℕ → List Call) (exposures : Exposures) → ((rank : ℕ) → f rank ≡ g rank) → Represents f exposures → Represents g exposures
 Represents_along f g exposures same are = λ rank. subst (λ calls. IsOfRank calls (kept_of exposures.ranks.entries rank)) (same rank) (are rank)
 
-none_more : (calls : ℕ → List Call) (rank other : ℕ) → calls other ≡ with_calls calls rank [] other
-none_more calls rank other = by (nat_eq rank other)
-  where
-    by : (b : Bool) → calls other ≡ cond b (calls other ++ []) (calls other)
-    by true = sym (append-nil (calls other))
-    by false = refl
-
 -- before the calls of a rank are taken
 pub Represents_begun : (calls : ℕ → List Call) (rank : ℕ) (exposures : Exposures) → Represents calls exposures → Represents (with_calls calls rank []) exposures
 Represents_begun calls rank exposures are = Represents_along calls (with_calls calls rank []) exposures (none_more calls rank) are
-
-one_more : (calls : ℕ → List Call) (rank other i : ℕ) (own : List Call) (call : Call) → slice_get own i ≡ Some call →
-    with_calls (with_calls calls rank (take i own)) rank (call ∷ []) other ≡ with_calls calls rank (take (i + 1) own) other
-one_more calls rank other i own call there = by (nat_eq rank other)
-  where
-    by : (b : Bool) → cond b (cond b (calls other ++ take i own) (calls other) ++ call ∷ []) (cond b (calls other ++ take i own) (calls other)) ≡ cond b (calls other ++ take (i + 1) own) (calls other)
-    by true = append_assoc (calls other) (take i own) (call ∷ []) ∙ ap (λ l. calls other ++ l) (sym (taken_there own i call there))
-    by false = refl
 
 -- with one more call of the rank
 pub Represents_more : (calls : ℕ → List Call) (rank i : ℕ) (own : List Call) (call : Call) (exposures : Exposures) → slice_get own i ≡ Some call →
@@ -57,48 +49,11 @@ pub Represents_more : (calls : ℕ → List Call) (rank i : ℕ) (own : List Cal
 Represents_more calls rank i own call exposures there are =
     Represents_along (with_calls (with_calls calls rank (take i own)) rank (call ∷ [])) (with_calls calls rank (take (i + 1) own)) exposures (λ other. one_more calls rank other i own call there) are
 
-itself : (n : ℕ) → nat_eq n n ≡ true
-itself n = grind (arith, nat_tests)
-
--- how many calls of the rank are taken
-pub begun_length : (calls : ℕ → List Call) (rank i : ℕ) (own : List Call) (call : Call) → calls rank ≡ [] → slice_get own i ≡ Some call → length (with_calls calls rank (take i own) rank) ≡ i
-begun_length calls rank i own call none there = rw (itself rank, none) (taken_length own i call there)
-
--- ---- the calls of a run
-
-calls_at_end : (done : List RankCalls) (own : RankCalls) (other : ℕ) → cond (nat_eq (length done) other) (calls_of done other ++ own.calls) (calls_of done other) ≡ calls_of (done ++ own ∷ []) other
-calls_at_end [] own zero = refl
-calls_at_end [] own (suc m) = rw zero_next refl
-calls_at_end (d ∷ ds) own zero = rw next_zero refl
-calls_at_end (d ∷ ds) own (suc m) = rw next_same (calls_at_end ds own m)
-
-none_yet : (done : List RankCalls) → calls_of done (length done) ≡ []
-none_yet [] = refl
-none_yet (d ∷ ds) = none_yet ds
-
--- the next rank has no calls yet
-pub next_has_none : (ranks : List RankCalls) (i : ℕ) (own : RankCalls) → slice_get ranks i ≡ Some own → own.rank.0 ≡ i → calls_of (take i ranks) own.rank.0 ≡ []
-next_has_none ranks i own there is =
-    ap (calls_of (take i ranks)) (is ∙ sym (taken_length ranks i own there)) ∙ none_yet (take i ranks)
-
 -- the calls of one more rank
 pub Represents_next : (ranks : List RankCalls) (i : ℕ) (own : RankCalls) (exposures : Exposures) → slice_get ranks i ≡ Some own → own.rank.0 ≡ i →
     Represents (with_calls (calls_of (take i ranks)) own.rank.0 own.calls) exposures → Represents (calls_of (take (i + 1) ranks)) exposures
 Represents_next ranks i own exposures there is are =
-    Represents_along (with_calls (calls_of (take i ranks)) own.rank.0 own.calls) (calls_of (take (i + 1) ranks)) exposures
-    (λ other.
-    ap (λ n. with_calls (calls_of (take i ranks)) n own.calls other) (is ∙ sym (taken_length ranks i own there))
-    ∙ calls_at_end (take i ranks) own other
-    ∙ ap (λ l. calls_of l other) (sym (taken_there ranks i own there)))
-    are
-
--- no rank has more calls than there may be
-pub calls_are_few : (ranks : List RankCalls) (rank : ℕ) → IsRun ranks → length (calls_of ranks rank) ≤ fed_limit
-calls_are_few ranks rank run = by (slice_get ranks rank) refl
-  where
-    by : (o : Option RankCalls) → slice_get ranks rank ≡ o → length (calls_of ranks rank) ≤ fed_limit
-    by None is = rw is (omega arith)
-    by (Some own) is = rw is (run.few rank own is)
+    Represents_along (with_calls (calls_of (take i ranks)) own.rank.0 own.calls) (calls_of (take (i + 1) ranks)) exposures (next_calls ranks i own there is) are
 
 -- ---- closing calls are calls of the rank
 

@@ -6,11 +6,11 @@ use Rattle.rma_base.specs.declared.rank.Rank.{Rank}
 use Rattle.rma_call.specs.Call.{Call, RankCalls}
 use Rattle.rma_link.specs.declared.edge.Edge.{Edge}
 use Rattle.rma_link.specs.Point.{entry, return_of}
+use Rattle.rma_run.specs.Run.{calls_of, by_rank}
 use Rattle.rma_exposure.specs.declared.side.Side.TheVariants.{Exposure, Access}
 use Rattle.rma_exposure.specs.Opening.{Opening, opened}
 use Rattle.rma_exposure.specs.Closing.{closing_of}
-use Rattle.rma_exposure.specs.Matching.{calls_of, match_of}
-use Rattle.rma_exposure.specs.Fault.{by_rank}
+use Rattle.rma_exposure.specs.Matching.{match_of}
 
 -- the complete of an origin's start that matches the post of this number of a rank
 abbrev pub complete_for : (ℕ → List Call) → ℕ → ℕ → List ℕ → ℕ → Option ℕ

@@ -1,25 +1,17 @@
 -- Posts and starts that have no match (MPI 4.0, "One-Sided Communications").
-use Rattle.std.specs.Prelude.{ℕ, ◌+◌, List, [], ◌∷◌, ◌++◌, Bool, None, is_none, if◌then◌else◌}
-use Rattle.std.specs.List.{flat_map, list_any}
+use Rattle.std.specs.Prelude.{ℕ, List, [], ◌∷◌, ◌++◌, Bool, None, is_none, if◌then◌else◌}
+use Rattle.std.specs.List.{list_any}
 use Rattle.std.specs.Option.{option_map_or}
 use Rattle.rma_base.specs.declared.rank.Rank.{Rank}
 use Rattle.rma_base.specs.declared.match_reason.MatchReason.{MatchReason}
 use Rattle.rma_base.specs.declared.match_reason.MatchReason.TheVariants.{PostUnmatched, StartUnmatched}
 use Rattle.rma_call.specs.Call.{Call, RankCalls}
 use Rattle.rma_call.specs.declared.match_fault.MatchFault.{MatchFault}
+use Rattle.rma_run.specs.Run.{calls_of, by_rank}
 use Rattle.rma_exposure.specs.declared.side.Side.{Side}
 use Rattle.rma_exposure.specs.declared.side.Side.TheVariants.{Exposure, Access}
 use Rattle.rma_exposure.specs.Opening.{Opening, opened}
-use Rattle.rma_exposure.specs.Matching.{calls_of, match_of}
-
--- what is had of each of a rank's calls, by its number; the first of them has this number
-abbrev pub by_number : {Y : Type 0} → (ℕ → Call → List Y) → ℕ → List Call → List Y
-by_number f number [] = []
-by_number f number (call ∷ calls) = f number call ++ by_number f (number + 1) calls
-
--- what is had of each call of a run, by rank and then by line
-abbrev pub by_rank : {Y : Type 0} → (Rank → ℕ → Call → List Y) → List RankCalls → List Y
-by_rank f ranks = flat_map (λ r. by_number (f r.rank) 0 r.calls) ranks
+use Rattle.rma_exposure.specs.Matching.{match_of}
 
 -- the reason why a post, or a start, is at fault
 abbrev pub reason_of : Side → MatchReason

@@ -1,7 +1,6 @@
 pub mod Opening
 pub mod Closing
 pub mod Matching
-pub mod Run
 pub mod Fault
 pub mod Edge
 pub mod inside

@@ -1,7 +1,7 @@
 -- Which posts and starts match (MPI 4.0, "One-Sided Communications").
 use Rattle.std.specs.Prelude.{ℕ, ◌+◌, ◌==◌, List, [], ◌∷◌, Option, slice_get, position, if◌then◌else◌}
-use Rattle.std.specs.Option.{option_and_then, option_map_or, option_or}
-use Rattle.rma_call.specs.Call.{Call, RankCalls}
+use Rattle.std.specs.Option.{option_and_then, option_or}
+use Rattle.rma_call.specs.Call.{Call}
 use Rattle.rma_exposure.specs.declared.side.Side.{Side}
 use Rattle.rma_exposure.specs.declared.side.Side.TheVariants.{Exposure, Access}
 use Rattle.rma_exposure.specs.Opening.{opening_at, opens_with, opposite}
@@ -16,10 +16,6 @@ numbers_from side window other number (call ∷ calls) =
 -- the same of all calls of a rank
 abbrev pub numbers : Side → List ℕ → ℕ → List Call → List ℕ
 numbers side window other calls = numbers_from side window other 0 calls
-
--- the calls of each rank of a run, where the i-th log is that of rank i; a rank beyond the run makes none
-abbrev pub calls_of : List RankCalls → ℕ → List Call
-calls_of ranks rank = option_map_or (λ r. r.calls) (slice_get ranks rank) []
 
 -- the call of another rank that matches the call of this number of a rank: the k-th start of an origin on a window with a
 -- target in its group matches the k-th post of that target on the window with that origin in its group

@@ -4,10 +4,8 @@ ghost use Rattle.std.specs.List.{cons_option};
 ghost use Rattle.rma_base.specs.Limits.{fed_limit};
 ghost use Rattle.rma_call.specs.Call.{call_of};
 ghost use Rattle.rma_link.specs.Point.{return_of};
-ghost use Rattle.rma_exposure.specs.Matching.{calls_of};
+ghost use Rattle.rma_run.specs.Run.{IsRun, calls_of, by_number};
 ghost use Rattle.rma_exposure.specs.Closing.{closing_of};
-ghost use Rattle.rma_exposure.specs.Run.{IsRun};
-ghost use Rattle.rma_exposure.specs.Fault.{by_number};
 ghost use Rattle.rma_exposure.specs.Edge.{edge_from, edges_to, edges_at, exposure_edges};
 ghost use Rattle.rma_exposure.specs.inside.Epochs.{Represents};
 

@@ -1,14 +1,15 @@
 //! The posts and starts of a run, as its calls come.
 ghost use Rattle.std.specs.Prelude.{◌≡◌, ◌==◌, ◌++◌, ◌∷◌, [], ℕ, List, false, length, OnOk, option_copied, option_map};
 ghost use Rattle.rma_call.specs.Call.{Call, call_of};
+ghost use Rattle.rma_run.specs.Run.{with_calls};
 ghost use Rattle.rma_exposure.specs.declared.side.Side.TheVariants.{Exposure, Access};
-ghost use Rattle.rma_exposure.specs.inside.Epochs.{kept_of, IsOfRank, Represents, with_calls};
+ghost use Rattle.rma_exposure.specs.inside.Epochs.{kept_of, IsOfRank, Represents};
 ghost use Rattle.rma_exposure.specs.Opening.{opening_at};
 ghost use Rattle.rma_exposure.specs.Matching.{numbers, match_of, matched_at, partner_of};
 ghost use Rattle.rma_exposure.specs.Closing.{closing_of};
 
 use crate::rank_epochs::RankEpochs;
-use crate::side::{Side, opposite};
+use crate::side::{Side, opens_or_closes, opposite};
 use indexmap::IndexMap;
 use rma_base::{Memory, Name, Rank};
 use rma_call::CallRef;
@@ -44,6 +45,9 @@ impl Exposures {
         ensures { OnOk result ((calls : ℕ → List Call) → length (calls rank.0) ≡ number → Represents calls self.old
             → Represents (with_calls calls rank.0 (call_of call.entry ∷ [])) self.new) }
     {
+        if !opens_or_closes(call.what) {
+            return Ok(());
+        }
         take(self.alloc, &mut self.ranks, rank, number, call)
     }
 

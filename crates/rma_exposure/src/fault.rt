@@ -2,9 +2,8 @@
 ghost use Rattle.std.specs.Prelude.{◌≡◌, ◌≤◌, ◌++◌, ℕ, List, length, IfOk, OnOk};
 ghost use Rattle.rma_base.specs.Limits.{fed_limit};
 ghost use Rattle.rma_call.specs.Call.{Call, call_of};
-ghost use Rattle.rma_exposure.specs.Matching.{calls_of};
-ghost use Rattle.rma_exposure.specs.Run.{IsRun};
-ghost use Rattle.rma_exposure.specs.Fault.{by_number, reason_of, lacks_match, faults_at, faults_of, exposure_faults};
+ghost use Rattle.rma_run.specs.Run.{IsRun, calls_of, by_number};
+ghost use Rattle.rma_exposure.specs.Fault.{reason_of, lacks_match, faults_at, faults_of, exposure_faults};
 ghost use Rattle.rma_exposure.specs.inside.Epochs.{Represents};
 
 use crate::exposures::Exposures;

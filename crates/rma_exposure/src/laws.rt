@@ -1,7 +1,9 @@
 //! What the definitions of this crate come to.
-ghost use Rattle.std.specs.Prelude.{◌≡◌, ℕ, List, Some, Contains};
+ghost use Rattle.std.specs.Prelude.{◌≡◌, ℕ, List, Some, All, Contains};
 ghost use Rattle.rma_call.specs.Call.{Call, RankCalls};
 ghost use Rattle.rma_link.specs.declared.edge.Edge.{Edge};
+ghost use Rattle.rma_link.specs.Within.{IsEdgeWithin};
+ghost use Rattle.rma_run.specs.Run.{lens_of};
 ghost use Rattle.rma_exposure.specs.declared.side.Side.{Side};
 ghost use Rattle.rma_exposure.specs.Closing.{closing_of, IsClosedBy};
 ghost use Rattle.rma_exposure.specs.Edge.{exposure_edges, IsExposureEdge};
@@ -16,4 +18,9 @@ pub fn edges_are_of_matches()
 pub fn epochs_are_closed_once()
     ensures is { (side : Side) (calls : List Call) (opener closing : ℕ) → closing_of side calls opener ≡ Some closing → IsClosedBy side calls opener closing }
     ensures has { (side : Side) (calls : List Call) (opener closing : ℕ) → IsClosedBy side calls opener closing → closing_of side calls opener ≡ Some closing }
+{}
+
+/// The edges of a run are between its calls.
+pub fn exposure_edges_are_within()
+    ensures { (ranks : List RankCalls) → All (IsEdgeWithin (lens_of ranks)) (exposure_edges ranks) }
 {}

@@ -16,10 +16,8 @@ mod fault;
 pub mod laws;
 mod openings;
 mod rank_epochs;
-mod run;
 mod side;
 mod side_epochs;
 mod whole;
 
 pub use exposures::Exposures;
-pub use run::is_run;

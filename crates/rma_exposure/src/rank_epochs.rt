@@ -2,7 +2,7 @@
 ghost use Rattle.std.specs.Prelude.{◌≡◌, ◌++◌, ◌∷◌, [], List, length, OnOk};
 ghost use Rattle.rma_call.specs.Call.{Call, call_of};
 ghost use Rattle.rma_exposure.specs.declared.side.Side.{Side};
-ghost use Rattle.rma_exposure.specs.inside.Epochs.{AreEpochs, AreOfRank};
+ghost use Rattle.rma_exposure.specs.inside.Epochs.{HaveNoEpochs, AreEpochs, AreOfRank};
 
 use crate::side::Side;
 use crate::side_epochs::SideEpochs;
@@ -22,7 +22,7 @@ pub(crate) struct RankEpochs {
 impl RankEpochs {
     /// None.
     pub(crate) fn new(alloc: Global) -> RankEpochs
-        ensures { AreOfRank [] result }
+        ensures { (calls : List Call) → ((side : Side) → HaveNoEpochs side calls) → AreOfRank calls result }
     {
         RankEpochs {
             posts: SideEpochs::new(alloc),

@@ -1,7 +1,7 @@
 //! The two sides of general active target synchronisation.
-ghost use Rattle.std.specs.Prelude.{◌≡◌, option_map};
+ghost use Rattle.std.specs.Prelude.{◌≡◌, None, false, option_map};
 ghost use Rattle.rma_call.specs.Call.{what_of};
-ghost use Rattle.rma_exposure.specs.Opening.{opened, opposite, posted, started};
+ghost use Rattle.rma_exposure.specs.Opening.{opened, opposite, posted, started, waited, completed};
 
 use rma_base::{Name, RankSet};
 use rma_call::{EpochCall, WhatRef};
@@ -22,6 +22,24 @@ pub(crate) fn opposite(side: Side) -> Side
     match side {
         Side::Exposure => Side::Access,
         Side::Access => Side::Exposure,
+    }
+}
+
+/// Whether a call opens an epoch of either side, or closes one.
+pub(crate) fn opens_or_closes(what: WhatRef<'_>) -> bool
+    ensures posted { result ≡ false → posted (what_of what.entry) ≡ None }
+    ensures waited { result ≡ false → waited (what_of what.entry) ≡ None }
+    ensures started { result ≡ false → started (what_of what.entry) ≡ None }
+    ensures completed { result ≡ false → completed (what_of what.entry) ≡ None }
+{
+    match what {
+        WhatRef::Epoch(
+            EpochCall::Post { .. }
+            | EpochCall::Expwait { .. }
+            | EpochCall::Start { .. }
+            | EpochCall::Complete { .. },
+        ) => true,
+        _ => false,
     }
 }
 

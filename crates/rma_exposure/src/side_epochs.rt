@@ -6,7 +6,7 @@ ghost use Rattle.rma_exposure.specs.declared.side.Side.{Side};
 ghost use Rattle.rma_exposure.specs.Opening.{opened, closed, opening_at};
 ghost use Rattle.rma_exposure.specs.Matching.{numbers};
 ghost use Rattle.rma_exposure.specs.Closing.{closing_of};
-ghost use Rattle.rma_exposure.specs.inside.Epochs.{kept, numbers_in, pending_in, IsOpened, AreEpochs};
+ghost use Rattle.rma_exposure.specs.inside.Epochs.{kept, numbers_in, pending_in, IsOpened, HaveNoEpochs, AreEpochs};
 
 use crate::openings::Openings;
 use indexmap::IndexMap;
@@ -27,7 +27,7 @@ pub(crate) struct SideEpochs {
 impl SideEpochs {
     /// None.
     pub(crate) fn new(alloc: Global) -> SideEpochs
-        ensures { (side : Side) → AreEpochs side [] result }
+        ensures { (side : Side) (calls : List Call) → HaveNoEpochs side calls → AreEpochs side calls result }
     {
         SideEpochs {
             windows: IndexMap::new(alloc),

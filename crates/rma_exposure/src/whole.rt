@@ -2,9 +2,8 @@
 ghost use Rattle.std.specs.Prelude.{◌≡◌, ◌≤◌, [], ℕ, List, length, IfOk, OnOk};
 ghost use Rattle.rma_base.specs.Limits.{fed_limit};
 ghost use Rattle.rma_call.specs.Call.{Call};
-ghost use Rattle.rma_exposure.specs.Matching.{calls_of};
-ghost use Rattle.rma_exposure.specs.Run.{IsRun};
-ghost use Rattle.rma_exposure.specs.inside.Epochs.{Represents, with_calls};
+ghost use Rattle.rma_run.specs.Run.{IsRun, calls_of, with_calls};
+ghost use Rattle.rma_exposure.specs.inside.Epochs.{Represents};
 
 use crate::exposures::Exposures;
 use rma_base::Memory;

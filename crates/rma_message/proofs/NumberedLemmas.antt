@@ -80,10 +80,10 @@ module _ (p : End → Bool) where
 
   -- the element of a number stands somewhere, and as many before it pass
   pub record IsNumber (es : List End) (number : ℕ) (e : End) : Type 0 where
-    index : ℕ
-    there : slice_get es index ≡ Some e
-    passes : p e ≡ true
-    count : count_by p (take index es) ≡ number
+    pub index : ℕ
+    pub there : slice_get es index ≡ Some e
+    pub passes : p e ≡ true
+    pub count : count_by p (take index es) ≡ number
 
   pub of_number : (es : List End) (number : ℕ) (e : End) → slice_get (filter p es) number ≡ Some e → IsNumber es number e
   of_number [] number e there = cc

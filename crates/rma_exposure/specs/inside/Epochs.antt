@@ -60,6 +60,13 @@ pub record AreEpochs (side : Side) (calls : List Call) (epochs : SideEpochs) : T
   pub openers_are : (number : ℕ) → lookup (nat_eq number) epochs.openers.entries ≡ option_map (λ opening. opening.window) (opening_at side calls number)
   pub closings_are : (number : ℕ) → lookup (nat_eq number) epochs.closings.entries ≡ closing_of side calls number
 
+-- these calls of a rank open and close no epochs of one side
+pub record HaveNoEpochs (side : Side) (calls : List Call) : Type 0 where
+  pub numbers_are : (window : List ℕ) (other : ℕ) → numbers side window other calls ≡ []
+  pub pending_are : (window : List ℕ) → pending_of side window calls ≡ None
+  pub openers_are : (number : ℕ) → opening_at side calls number ≡ None
+  pub closings_are : (number : ℕ) → closing_of side calls number ≡ None
+
 -- what is kept represents the epochs of both sides
 pub record AreOfRank (calls : List Call) (epochs : RankEpochs) : Type 0 where
   pub posts_are : AreEpochs Exposure calls epochs.posts
@@ -73,14 +80,10 @@ is_numbered number rank = number == rank.0
 abbrev pub kept_of : List (Rank × RankEpochs) → ℕ → Option RankEpochs
 kept_of ranks rank = lookup (is_numbered rank) ranks
 
--- what is kept of a rank represents its calls: there are none where nothing is kept
+-- what is kept of a rank represents its calls: they open and close no epochs where nothing is kept
 abbrev pub IsOfRank : List Call → Option RankEpochs → Type 0
-IsOfRank calls epochs = MatchOption epochs (calls ≡ []) (AreOfRank calls)
+IsOfRank calls epochs = MatchOption epochs ((side : Side) → HaveNoEpochs side calls) (AreOfRank calls)
 
 -- what is kept represents these calls of the ranks
 abbrev pub Represents : (ℕ → List Call) → Exposures → Type 0
 Represents calls exposures = (rank : ℕ) → IsOfRank (calls rank) (kept_of exposures.ranks.entries rank)
-
--- the calls of the ranks, with more of one rank
-abbrev pub with_calls : (ℕ → List Call) → ℕ → List Call → ℕ → List Call
-with_calls calls rank more other = if rank == other then calls other ++ more else calls other

@@ -1,5 +1,6 @@
-use Rattle.rma_exposure.specs.Matching.{calls_of}
-use Rattle.rma_exposure.proofs.RunLemmas.{calls_are_few, closing_below}
+use Rattle.rma_run.specs.Run.{calls_of}
+use Rattle.rma_run.proofs.CallLemmas.{calls_are_few}
+use Rattle.rma_exposure.proofs.RunLemmas.{closing_below}
 use Rattle.rma_exposure.proofs.exposures.Exposures.closing_in.Goals as goal
 
 pub returns-clause-closing : goal.returns-clause-closing

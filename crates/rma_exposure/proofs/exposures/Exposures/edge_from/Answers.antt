@@ -1,7 +1,8 @@
 use Rattle.std.proofs.Common.{◌≡◌, Some, None, refl, sym, ◌∙◌}
+use Rattle.rma_run.specs.Run.{calls_of}
 use Rattle.rma_exposure.specs.declared.side.Side.TheVariants.{Exposure, Access}
 use Rattle.rma_exposure.specs.Closing.{closing_of}
-use Rattle.rma_exposure.specs.Matching.{calls_of, match_of}
+use Rattle.rma_exposure.specs.Matching.{match_of}
 use Rattle.rma_exposure.proofs.exposures.Exposures.edge_from.Goals as goal
 
 pub returns-in_err-start : goal.returns-in_err-start

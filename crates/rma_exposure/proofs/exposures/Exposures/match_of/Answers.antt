@@ -3,7 +3,8 @@ use Rattle.std.specs.Option.{option_and_then}
 use Rattle.std.proofs.lemmas.List.Sorted.{searched}
 use Rattle.rma_exposure.specs.Opening.{opposite}
 use Rattle.rma_exposure.specs.Matching.{numbers}
-use Rattle.rma_exposure.proofs.PositionLemmas.{Rises, rises, never_falls, position_at, position_none, copied_at, apart}
+use Rattle.rma_run.proofs.PositionLemmas.{Rises, never_falls, position_at, position_none, copied_at, apart}
+use Rattle.rma_exposure.proofs.PositionLemmas.{rises}
 use Rattle.rma_exposure.proofs.exposures.Exposures.match_of.Goals as goal
 
 pub returns-in-Ok : goal.returns-in-Ok

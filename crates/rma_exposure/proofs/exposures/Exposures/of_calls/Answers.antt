@@ -1,7 +1,8 @@
 use Rattle.std.proofs.Common.{◌≡◌, Some, slice_get, take, length, refl}
 use Rattle.std.proofs.lemmas.Option.{slice_get_read}
-use Rattle.rma_exposure.specs.Matching.{calls_of}
-use Rattle.rma_exposure.proofs.RunLemmas.{Represents_next, next_has_none}
+use Rattle.rma_run.specs.Run.{calls_of}
+use Rattle.rma_run.proofs.CallLemmas.{next_has_none}
+use Rattle.rma_exposure.proofs.RunLemmas.{Represents_next}
 use Rattle.rma_exposure.proofs.exposures.Exposures.of_calls.Goals as goal
 
 pub loop-rank-preserved : goal.loop-rank-preserved

@@ -1,5 +1,5 @@
 use Rattle.std.proofs.Common.{take}
-use Rattle.rma_exposure.specs.Matching.{calls_of}
+use Rattle.rma_run.specs.Run.{calls_of}
 use Rattle.rma_exposure.specs.inside.Epochs.{Represents}
 use Rattle.rma_exposure.proofs.exposures.Exposures.of_calls.Given as goal
 

@@ -3,10 +3,9 @@ use Rattle.std.specs.List.{flat_map}
 use Rattle.std.proofs.lemmas.Option.{slice_get_read}
 use Rattle.rma_link.specs.declared.edge.Edge.{Edge}
 use Rattle.rma_call.specs.Call.{RankCalls}
-use Rattle.rma_exposure.specs.Matching.{calls_of}
-use Rattle.rma_exposure.specs.Fault.{by_number}
+use Rattle.rma_run.specs.Run.{calls_of, by_number}
 use Rattle.rma_exposure.specs.Edge.{edges_at}
-use Rattle.rma_exposure.proofs.WalkLemmas.{flat_map_taken}
+use Rattle.rma_run.proofs.WalkLemmas.{flat_map_taken}
 use Rattle.rma_exposure.proofs.exposures.Exposures.push_edges.Goals as goal
 
 pub loop-rank-preserved : goal.loop-rank-preserved

@@ -2,9 +2,9 @@ use Rattle.std.proofs.Common.{ℕ, [], ◌++◌, Option, get_or, ap, ◌∙◌}
 use Rattle.std.specs.List.{cons_option}
 use Rattle.std.proofs.lemmas.Option.{slice_get-get_or}
 use Rattle.rma_link.specs.declared.edge.Edge.{Edge}
-use Rattle.rma_exposure.specs.Matching.{calls_of}
+use Rattle.rma_run.specs.Run.{calls_of}
 use Rattle.rma_exposure.specs.Edge.{edge_from}
-use Rattle.rma_exposure.proofs.WalkLemmas.{filter_map_taken}
+use Rattle.rma_run.proofs.WalkLemmas.{filter_map_taken}
 use Rattle.rma_exposure.proofs.exposures.Exposures.push_edges_to.Goals as goal
 
 pub loop-origin-preserved : goal.loop-origin-preserved

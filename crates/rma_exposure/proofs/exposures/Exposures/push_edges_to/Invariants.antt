@@ -1,6 +1,6 @@
 use Rattle.std.proofs.Common.{◌≡◌, ◌++◌, take}
 use Rattle.std.specs.List.{filter_map}
-use Rattle.rma_exposure.specs.Matching.{calls_of}
+use Rattle.rma_run.specs.Run.{calls_of}
 use Rattle.rma_exposure.specs.Edge.{edge_from}
 use Rattle.rma_exposure.proofs.exposures.Exposures.push_edges_to.Given as goal
 

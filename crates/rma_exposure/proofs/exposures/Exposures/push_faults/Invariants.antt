@@ -1,6 +1,6 @@
 use Rattle.std.proofs.Common.{◌≡◌, ◌++◌, take}
-use Rattle.rma_exposure.specs.Matching.{calls_of}
-use Rattle.rma_exposure.specs.Fault.{by_rank, faults_at}
+use Rattle.rma_run.specs.Run.{calls_of, by_rank}
+use Rattle.rma_exposure.specs.Fault.{faults_at}
 use Rattle.rma_exposure.proofs.exposures.Exposures.push_faults.Given as goal
 
 -- the calls of the ranks before are judged

@@ -1,9 +1,9 @@
 use Rattle.std.proofs.Common.{◌≡◌, ◌++◌, Some, slice_get, ap, ◌∙◌}
 use Rattle.rma_base.specs.declared.rank.Rank.{Rank}
 use Rattle.rma_call.specs.Call.{call_of}
-use Rattle.rma_exposure.specs.Matching.{calls_of}
+use Rattle.rma_run.specs.Run.{calls_of}
 use Rattle.rma_exposure.specs.Edge.{edges_at}
-use Rattle.rma_exposure.proofs.WalkLemmas.{by_number_taken}
+use Rattle.rma_run.proofs.WalkLemmas.{by_number_taken}
 use Rattle.rma_exposure.proofs.exposures.Exposures.push_rank_edges.Goals as goal
 
 pub loop-i-preserved : goal.loop-i-preserved

@@ -1,6 +1,5 @@
 use Rattle.std.proofs.Common.{◌≡◌, ◌++◌, take}
-use Rattle.rma_exposure.specs.Matching.{calls_of}
-use Rattle.rma_exposure.specs.Fault.{by_number}
+use Rattle.rma_run.specs.Run.{calls_of, by_number}
 use Rattle.rma_exposure.specs.Edge.{edges_at}
 use Rattle.rma_exposure.proofs.exposures.Exposures.push_rank_edges.Given as goal
 

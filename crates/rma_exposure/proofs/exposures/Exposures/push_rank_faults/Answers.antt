@@ -2,7 +2,7 @@ use Rattle.std.proofs.Common.{◌≡◌, ◌++◌, Some, slice_get, ap, ◌∙�
 use Rattle.rma_base.specs.declared.rank.Rank.{Rank}
 use Rattle.rma_call.specs.Call.{call_of}
 use Rattle.rma_exposure.specs.Fault.{faults_at}
-use Rattle.rma_exposure.proofs.WalkLemmas.{by_number_taken}
+use Rattle.rma_run.proofs.WalkLemmas.{by_number_taken}
 use Rattle.rma_exposure.proofs.exposures.Exposures.push_rank_faults.Goals as goal
 
 pub loop-i-preserved : goal.loop-i-preserved

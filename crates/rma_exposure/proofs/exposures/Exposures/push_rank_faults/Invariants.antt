@@ -1,6 +1,7 @@
 use Rattle.std.proofs.Common.{◌≡◌, ℕ, List, ◌++◌, take}
 use Rattle.rma_call.specs.Call.{Call}
-use Rattle.rma_exposure.specs.Fault.{by_number, faults_at}
+use Rattle.rma_run.specs.Run.{by_number}
+use Rattle.rma_exposure.specs.Fault.{faults_at}
 use Rattle.rma_exposure.specs.inside.Epochs.{Represents}
 use Rattle.rma_exposure.proofs.exposures.Exposures.push_rank_faults.Given as goal
 

@@ -1,8 +1,15 @@
 use Rattle.std.proofs.Common.{◌∷◌, []}
 use Rattle.rma_call.specs.Call.{call_of}
 use Rattle.rma_exposure.proofs.EpochLemmas.{OnOk_both}
-use Rattle.rma_exposure.proofs.RunLemmas.{more_of_rank}
+use Rattle.rma_exposure.proofs.RunLemmas.{more_of_rank, Represents_same}
 use Rattle.rma_exposure.proofs.exposures.Exposures.take.Goals as goal
+
+pub returns-then-not-opens_or_closes : goal.returns-then-not-opens_or_closes
+returns-then-not-opens_or_closes c = λ calls len are.
+    let call = call_of c.args.call in
+    let not = c.if-not-opens_or_closes.true in
+    Represents_same calls c.args.rank.0 call c.args.self.now
+    (c.opens_or_closes.ensures.posted not) (c.opens_or_closes.ensures.waited not) (c.opens_or_closes.ensures.started not) (c.opens_or_closes.ensures.completed not) are
 
 pub returns : goal.returns
 returns c =

@@ -1,8 +1,10 @@
 use Rattle.std.proofs.Common.{◌≡◌, ◌∷◌, [], length, Some, slice_get, take, ap, subst, ◌∙◌, arith}
 use Rattle.std.proofs.lemmas.List.{take_all}
 use Rattle.rma_call.specs.Call.{call_of}
-use Rattle.rma_exposure.specs.inside.Epochs.{Represents, with_calls}
-use Rattle.rma_exposure.proofs.RunLemmas.{Represents_begun, Represents_more, begun_length}
+use Rattle.rma_run.specs.Run.{with_calls}
+use Rattle.rma_exposure.specs.inside.Epochs.{Represents}
+use Rattle.rma_run.proofs.CallLemmas.{begun_length}
+use Rattle.rma_exposure.proofs.RunLemmas.{Represents_begun, Represents_more}
 use Rattle.rma_exposure.proofs.exposures.Exposures.take_all.Goals as goal
 
 pub loop-i-init : goal.loop-i-init

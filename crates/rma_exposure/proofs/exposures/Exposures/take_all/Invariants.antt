@@ -1,6 +1,7 @@
 use Rattle.std.proofs.Common.{◌≡◌, ℕ, List, [], take}
 use Rattle.rma_call.specs.Call.{Call}
-use Rattle.rma_exposure.specs.inside.Epochs.{Represents, with_calls}
+use Rattle.rma_run.specs.Run.{with_calls}
+use Rattle.rma_exposure.specs.inside.Epochs.{Represents}
 use Rattle.rma_exposure.proofs.exposures.Exposures.take_all.Given as goal
 
 -- the calls before are taken
