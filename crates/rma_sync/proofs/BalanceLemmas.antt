@@ -5,7 +5,7 @@ use Rattle.std.specs.Map.{lookup}
 use Rattle.std.specs.Cmp.Lexicographic.{pointwise, same_text}
 use Rattle.std.proofs.lemmas.Bool.Decides.{nat_tests}
 use Rattle.rma_call.specs.Call.{RankCalls}
-use Rattle.rma_sync.specs.declared.kind.Kind.{Kind}
+use Rattle.rma_round.specs.declared.kind.Kind.{Kind}
 use Rattle.rma_sync.specs.declared.call_count.CallCounts.{CallCounts}
 use Rattle.rma_sync.specs.Collective.{made_on}
 use Rattle.rma_sync.specs.Member.{members}

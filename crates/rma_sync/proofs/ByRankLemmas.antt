@@ -1,7 +1,7 @@
 -- The numbers of calls of each rank.
 use Rattle.std.proofs.Common.{◌≡◌, ℕ, zero, suc, List, [], ◌∷◌, ◌++◌, refl}
 use Rattle.rma_call.specs.Call.{RankCalls}
-use Rattle.rma_sync.specs.declared.kind.Kind.{Kind}
+use Rattle.rma_round.specs.declared.kind.Kind.{Kind}
 use Rattle.rma_sync.specs.Collective.{made}
 use Rattle.rma_sync.specs.inside.NameCount.{AreCounts}
 use Rattle.rma_sync.specs.inside.ByRank.{Numbers, AreCountsByRank, count_in_rank}

@@ -9,12 +9,13 @@ use Rattle.std.specs.HashMap.{HashMap}
 use Rattle.std.specs.declared.hash.FoldHasher.{FoldHasher}
 use Rattle.std.specs.declared.hash.BuildHasherDefault.{BuildHasherDefault}
 use Rattle.std.specs.Cmp.Lexicographic.{pointwise, same_text, nat_list_eq_equiv}
-use Rattle.rma_sync.specs.declared.kind.Kind.{Kind}
+use Rattle.rma_round.specs.declared.kind.Kind.{Kind}
 use Rattle.rma_sync.specs.declared.missing.MissingOfKind.{MissingOfKind}
 use Rattle.rma_base.specs.declared.rank.Rank.{Rank}
 use Rattle.rma_call.specs.Call.{Call, RankCalls}
-use Rattle.rma_sync.specs.declared.kind.Kind.TheVariants as kind
-use Rattle.rma_sync.specs.Collective.{made, named, is_on, count_of, walked, walked_all}
+use Rattle.rma_round.specs.declared.kind.Kind.TheVariants as kind
+use Rattle.rma_round.specs.Kind.{named, is_on, count_of}
+use Rattle.rma_sync.specs.Collective.{made, walked, walked_all}
 use Rattle.rma_sync.specs.inside.Scan.{IsBalanced, AreBalanced}
 use Rattle.rma_sync.specs.Member.{members}
 use Rattle.rma_sync.specs.inside.ByRank.{Numbers, AreCountsByRank, count_in_rank, is_reached}

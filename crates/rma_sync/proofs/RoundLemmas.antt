@@ -14,7 +14,7 @@ use Rattle.std.proofs.lemmas.List.Folds.{find-append}
 use Rattle.rma_call.specs.Call.{Call, RankCalls}
 use Rattle.rma_call.specs.declared.match_fault.MatchFault.{MatchFault}
 use Rattle.rma_sync.specs.declared.round.NameRounds.{NameRounds}
-use Rattle.rma_sync.specs.declared.kind.Kind.{Kind}
+use Rattle.rma_round.specs.declared.kind.Kind.{Kind}
 use Rattle.rma_sync.specs.declared.argument.Movement.{Movement}
 use Rattle.rma_sync.specs.declared.argument.Movement.TheVariants.{Bcast, Scatter, Gather, Reduce, Allreduce, Allgather, Alltoall}
 use Rattle.rma_sync.specs.declared.argument.Transfer.{Transfer}
@@ -24,7 +24,8 @@ use Rattle.rma_sync.specs.declared.call_count.CallCounts.{CallCounts}
 use Rattle.rma_sync.specs.declared.round.First.{First}
 use Rattle.rma_sync.specs.declared.round.Rounds.{Rounds}
 use Rattle.rma_sync.specs.Argument.{arguments_of, same_movement, same_transfer, same_arguments}
-use Rattle.rma_sync.specs.Collective.{RoundCall, round_calls, round_call_at, named, count_of, place_of, made_on, is_on, so_far}
+use Rattle.rma_round.specs.Kind.{named, count_of, is_on}
+use Rattle.rma_sync.specs.Collective.{RoundCall, round_calls, round_call_at, place_of, made_on, so_far}
 use Rattle.rma_sync.specs.inside.CallCount.{with_current, number_in, counted}
 use Rattle.rma_sync.specs.Round.{is_at, kept, differs, round_difference, round_differences}
 use Rattle.rma_sync.specs.inside.Round.{first_at, own_of, with_first, joined, rounds_of, IsJoined, HaveJoined, AreNameRounds, AreRounds}

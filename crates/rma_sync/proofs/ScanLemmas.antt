@@ -1,8 +1,8 @@
 -- What is scanned, at one more rank.
 use Rattle.std.proofs.Common.{◌≡◌, ℕ, ◌+◌, ◌≤◌, List, [], refl, sym, subst, ◌∙◌, append-nil, arith}
 use Rattle.rma_call.specs.Call.{RankCalls}
-use Rattle.rma_sync.specs.declared.kind.Kind.{Kind}
-use Rattle.rma_sync.specs.declared.kind.Kind.TheVariants as kind
+use Rattle.rma_round.specs.declared.kind.Kind.{Kind}
+use Rattle.rma_round.specs.declared.kind.Kind.TheVariants as kind
 use Rattle.rma_sync.specs.declared.round.Rounds.{Rounds}
 use Rattle.rma_sync.specs.declared.scan.Scan.{Scan}
 use Rattle.rma_sync.specs.Declaration.{declarations}

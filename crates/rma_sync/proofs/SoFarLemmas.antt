@@ -11,9 +11,10 @@ use Rattle.std.proofs.lemmas.List.Sums.{sum_by-append, sum_by-cons}
 use Rattle.rma_base.specs.declared.rank.Rank.{Rank}
 use Rattle.rma_call.specs.Call.{Call, RankCalls}
 use Rattle.rma_call.specs.declared.what.What.{What}
-use Rattle.rma_sync.specs.declared.kind.Kind.{Kind}
+use Rattle.rma_round.specs.declared.kind.Kind.{Kind}
 use Rattle.rma_sync.specs.declared.call_count.CallCounts.{CallCounts}
-use Rattle.rma_sync.specs.Collective.{named, is_on, count_of, made, made_on, so_far, walked, walked_all, round_call_at, round_calls}
+use Rattle.rma_round.specs.Kind.{named, is_on, count_of}
+use Rattle.rma_sync.specs.Collective.{made, made_on, so_far, walked, walked_all, round_call_at, round_calls}
 use Rattle.rma_sync.specs.Declaration.{declaration_of, declarations_of, declarations}
 use Rattle.rma_sync.specs.inside.CallCount.{counted, AreCallCounts}
 use Rattle.rma_sync.specs.inside.NameCount.{AreCounts, IsCounted}

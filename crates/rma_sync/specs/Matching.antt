@@ -13,7 +13,7 @@ use Rattle.rma_exposure.specs.Fault as exposure
 use Rattle.rma_sync.specs.Declaration.{declarations}
 use Rattle.rma_sync.specs.Attribute.{declared, same_ranks, created, same_attributes}
 use Rattle.rma_sync.specs.Difference.{differences}
-use Rattle.rma_sync.specs.declared.kind.Kind.TheVariants as kind
+use Rattle.rma_round.specs.declared.kind.Kind.TheVariants as kind
 use Rattle.rma_sync.specs.Collective.{round_calls}
 use Rattle.rma_sync.specs.Round.{round_differences}
 use Rattle.rma_sync.specs.Missing.{missing_calls, missing_data}

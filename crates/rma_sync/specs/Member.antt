@@ -3,8 +3,8 @@ use Rattle.std.specs.Prelude.{ℕ, List, [], Option, Some, option_map, map, nat_
 use Rattle.std.specs.Option.{option_map_or}
 use Rattle.std.specs.Cmp.Lexicographic.{pointwise}
 use Rattle.rma_call.specs.Call.{RankCalls}
-use Rattle.rma_sync.specs.declared.kind.Kind.{Kind}
-use Rattle.rma_sync.specs.declared.kind.Kind.TheVariants.{Collective, Free, Fence, Moving}
+use Rattle.rma_round.specs.declared.kind.Kind.{Kind}
+use Rattle.rma_round.specs.declared.kind.Kind.TheVariants.{Collective, Free, Fence, Moving}
 use Rattle.rma_sync.specs.Declaration.{declarations, first_of}
 use Rattle.rma_sync.specs.Attribute.{declared, created}
 

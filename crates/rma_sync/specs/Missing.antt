@@ -7,9 +7,10 @@ use Rattle.rma_base.specs.declared.match_reason.MatchReason.{MatchReason}
 use Rattle.rma_base.specs.declared.match_reason.MatchReason.TheVariants.{CollectiveMissing, DataMissing}
 use Rattle.rma_call.specs.Call.{Call, RankCalls}
 use Rattle.rma_call.specs.declared.match_fault.MatchFault.{MatchFault}
-use Rattle.rma_sync.specs.declared.kind.Kind.{Kind}
-use Rattle.rma_sync.specs.declared.kind.Kind.TheVariants.{Collective, Free, Fence, Moving}
-use Rattle.rma_sync.specs.Collective.{named, count_of, walked_all, made}
+use Rattle.rma_round.specs.declared.kind.Kind.{Kind}
+use Rattle.rma_round.specs.declared.kind.Kind.TheVariants.{Collective, Free, Fence, Moving}
+use Rattle.rma_round.specs.Kind.{named, count_of}
+use Rattle.rma_sync.specs.Collective.{walked_all, made}
 use Rattle.rma_sync.specs.Member.{members}
 
 -- whether some member makes no call of this number on the name, from 0

@@ -6,8 +6,8 @@ use Rattle.std.specs.Cmp.Lexicographic.{pointwise}
 use Rattle.rma_base.specs.declared.match_reason.MatchReason.{MatchReason}
 use Rattle.rma_base.specs.declared.match_reason.MatchReason.TheVariants.{CollectiveDiffers, AssertDiffers, DataDiffers}
 use Rattle.rma_call.specs.declared.match_fault.MatchFault.{MatchFault}
-use Rattle.rma_sync.specs.declared.kind.Kind.{Kind}
-use Rattle.rma_sync.specs.declared.kind.Kind.TheVariants as kind
+use Rattle.rma_round.specs.declared.kind.Kind.{Kind}
+use Rattle.rma_round.specs.declared.kind.Kind.TheVariants as kind
 use Rattle.rma_sync.specs.declared.round.First.{First}
 use Rattle.rma_sync.specs.Argument.{same_arguments}
 use Rattle.rma_sync.specs.Collective.{RoundCall}

@@ -1,18 +1,18 @@
 //! The rounds of all kinds.
 ghost use Rattle.std.specs.Prelude.{◌≡◌, ◌++◌, [], ◌∷◌, ℕ, List, true, length, OnOk};
 ghost use Rattle.rma_call.specs.Call.{Call, RankCalls, call_of, what_of};
-ghost use Rattle.rma_sync.specs.declared.kind.Kind.TheVariants as kind;
+ghost use Rattle.rma_round.specs.declared.kind.Kind.TheVariants as kind;
 ghost use Rattle.rma_sync.specs.Collective.{place_of, so_far};
 ghost use Rattle.rma_sync.specs.Missing.{missing_calls, missing_data};
 ghost use Rattle.rma_sync.specs.inside.Member.{AreMembers};
 ghost use Rattle.rma_sync.specs.inside.Round.{AreRounds};
 ghost use Rattle.rma_sync.specs.inside.Scan.{AreAllRounds};
 
-use crate::kind::{self, Kind};
 use crate::member::Members;
 use crate::round::Rounds;
 use rma_base::{Memory, Rank};
 use rma_call::{CallRef, WhatRef};
+use rma_round::{Kind, moved_on};
 use std::alloc::Global;
 
 /// The rounds of each kind.
@@ -61,7 +61,7 @@ impl AllRounds {
         ensures { (done : List RankCalls) (own : RankCalls) (before : List Call) → length done ≡ index
             → AreRounds kind.Collective (so_far done own before) index self.now.collectives → result ≡ place_of before (what_of what.entry) }
     {
-        match kind::moved_on(what) {
+        match moved_on(what) {
             Some(comm) => self.collectives.number(index, comm),
             None => 0,
         }

@@ -3,11 +3,11 @@ ghost use Rattle.std.specs.Prelude.{◌≡◌, ℕ, ◌||◌, nat_le, IfOk, Some
 ghost use Rattle.std.specs.List.{list_any};
 ghost use Rattle.rma_sync.specs.inside.ByRank.{AreCountsByRank, count_in_rank, is_reached};
 
-use crate::kind::Kind;
 use crate::name_count;
 use indexmap::IndexMap;
 use rma_base::{Memory, Name, Sequence};
 use rma_call::RankCalls;
+use rma_round::Kind;
 use std::alloc::Global;
 
 /// The numbers of the calls of the kind that each rank makes on each name.

@@ -19,7 +19,6 @@ mod call_count;
 mod declaration;
 mod difference;
 mod first_index;
-mod kind;
 mod matching;
 mod member;
 mod missing;

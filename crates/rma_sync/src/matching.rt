@@ -1,6 +1,6 @@
 //! All calls that the calls of other ranks do not match.
 ghost use Rattle.std.specs.Prelude.{◌≡◌, ◌++◌, [], true, IfOk, OnOk};
-ghost use Rattle.rma_exposure.specs.Run.{IsRun};
+ghost use Rattle.rma_run.specs.Run.{IsRun};
 ghost use Rattle.rma_sync.specs.inside.Member.{AreMembers};
 ghost use Rattle.rma_sync.specs.Missing.{missing_calls, missing_data};
 ghost use Rattle.rma_sync.specs.Matching.{match_faults};

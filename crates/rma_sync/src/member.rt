@@ -8,9 +8,9 @@ ghost use Rattle.rma_sync.specs.inside.Member.{AreMembers};
 
 use crate::attribute::WindowAttributes;
 use crate::declaration::{Declaration, Declarations};
-use crate::kind::Kind;
 use rma_base::{Memory, Name, RankSet, Sequence};
 use rma_call::RankCalls;
+use rma_round::Kind;
 use std::alloc::Global;
 
 /// The communicators and the windows of a run, with their members.

@@ -2,8 +2,8 @@
 ghost use Rattle.std.specs.Prelude.{◌≡◌, ◌+◌, ◌<◌, ◌^◌, ◌++◌, ◌∷◌, [], ℕ, List, IfOk, OnOk};
 ghost use Rattle.std.specs.List.{cons_option};
 ghost use Rattle.rma_call.specs.Call.{Call, RankCalls, call_of};
-ghost use Rattle.rma_sync.specs.declared.kind.Kind.{Kind};
-ghost use Rattle.rma_sync.specs.declared.kind.Kind.TheVariants as kind;
+ghost use Rattle.rma_round.specs.declared.kind.Kind.{Kind};
+ghost use Rattle.rma_round.specs.declared.kind.Kind.TheVariants as kind;
 ghost use Rattle.rma_sync.specs.Collective.{walked};
 ghost use Rattle.rma_sync.specs.inside.NameCount.{AreCounts, AreAllCounts};
 ghost use Rattle.rma_sync.specs.inside.Member.{AreMembers};
@@ -12,13 +12,13 @@ ghost use Rattle.rma_sync.specs.Missing.{missing_reason, fault_if, missing_of, m
 ghost use Rattle.rma_sync.specs.inside.Missing.{IsMissingOfKind, AreMissingCalls, Tells};
 
 use crate::difference::push_some;
-use crate::kind::{self, Kind};
 use crate::member::Members;
 use crate::name_count::AllCounts;
 use crate::{by_rank, name_count};
 use indexmap::IndexMap;
 use rma_base::{MatchReason, Memory, Name, Rank, Sequence};
 use rma_call::{CallRef, MatchFault, RankCalls};
+use rma_round::{Kind, named};
 use std::alloc::Global;
 
 /// What tells the missing calls of a kind.
@@ -98,7 +98,7 @@ impl MissingOfKind {
         ensures missing { OnOk result ((kind : Kind) (ranks : List RankCalls) → AreMembers ranks members.now → IsMissingOfKind kind ranks self.old
             → IsMissingOfKind kind ranks self.new) }
     {
-        let Some(name) = kind::named(self.kind, call.what) else {
+        let Some(name) = named(self.kind, call.what) else {
             return Ok(None);
         };
         let number = name_count::count(counts, name);

@@ -3,10 +3,10 @@ ghost use Rattle.std.specs.Prelude.{◌≡◌, ◌++◌, [], ◌∷◌, List, On
 ghost use Rattle.rma_call.specs.Call.{Call, call_of};
 ghost use Rattle.rma_sync.specs.inside.NameCount.{count_in, IsCounted, AreCounts, AreAllCounts};
 
-use crate::kind::{self, Kind};
 use indexmap::IndexMap;
 use rma_base::{Memory, Name};
 use rma_call::{CallList, CallRef};
+use rma_round::{Kind, named};
 use std::alloc::Global;
 
 /// How many calls of each kind a rank makes on each name.
@@ -61,7 +61,7 @@ pub(crate) fn note(
 ) -> Result<(), Memory>
     ensures { OnOk result (IsCounted kind counts.old.entries counts.new.entries (call_of call.entry)) }
 {
-    let Some(name) = kind::named(kind, call.what) else {
+    let Some(name) = named(kind, call.what) else {
         return Ok(());
     };
     if let Some(number) = counts.get_mut(name) {

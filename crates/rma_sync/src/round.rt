@@ -4,7 +4,7 @@ ghost use Rattle.std.specs.List.{cons_option};
 ghost use Rattle.std.specs.Option.{option_and_then};
 ghost use Rattle.std.specs.Cmp.Lexicographic.{pointwise};
 ghost use Rattle.rma_call.specs.Call.{Call, RankCalls, call_of};
-ghost use Rattle.rma_sync.specs.declared.kind.Kind.{Kind};
+ghost use Rattle.rma_round.specs.declared.kind.Kind.{Kind};
 ghost use Rattle.rma_sync.specs.Collective.{place_of, so_far};
 ghost use Rattle.rma_sync.specs.inside.Member.{AreMembers};
 ghost use Rattle.rma_sync.specs.inside.Scan.{AreBalanced};
@@ -15,11 +15,11 @@ ghost use Rattle.rma_sync.specs.inside.Round.{own_of, no_rounds, joined, rounds_
 use crate::argument::Arguments;
 use crate::call_count::CallCounts;
 use crate::difference::push_some;
-use crate::kind::{self, Kind};
 use crate::member::Members;
 use indexmap::IndexMap;
 use rma_base::{LineNo, MatchReason, Memory, Name, Rank, Sequence};
 use rma_call::{CallRef, MatchFault};
+use rma_round::{Kind, named};
 use std::alloc::Global;
 
 /// The first call of a round.
@@ -134,7 +134,7 @@ impl Rounds {
             → place ≡ place_of before (call_of call.entry).what
             → AreRounds kind (so_far done own before) index self.old → AreRounds kind (so_far done own (before ++ call_of call.entry ∷ [])) index self.new) }
     {
-        let Some(name) = kind::named(self.kind, call.what) else {
+        let Some(name) = named(self.kind, call.what) else {
             return Ok(());
         };
         let own = First::new(rank, place, call)?;

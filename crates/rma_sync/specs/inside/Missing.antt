@@ -3,8 +3,8 @@ use Rattle.std.specs.Prelude.{◌≡◌, ℕ, List, Option, Some, nat_eq}
 use Rattle.std.specs.Map.{lookup}
 use Rattle.std.specs.Cmp.Lexicographic.{pointwise}
 use Rattle.rma_call.specs.Call.{RankCalls}
-use Rattle.rma_sync.specs.declared.kind.Kind.{Kind}
-use Rattle.rma_sync.specs.declared.kind.Kind.TheVariants.{Collective, Free, Fence, Moving}
+use Rattle.rma_round.specs.declared.kind.Kind.{Kind}
+use Rattle.rma_round.specs.declared.kind.Kind.TheVariants.{Collective, Free, Fence, Moving}
 use Rattle.rma_sync.specs.declared.missing.MissingOfKind.{MissingOfKind}
 use Rattle.rma_sync.specs.declared.missing.MissingCalls.{MissingCalls}
 use Rattle.rma_sync.specs.inside.Member.{AreMembers}

@@ -1,10 +1,10 @@
 -- How many calls of a kind a rank makes on each name.
 use Rattle.std.specs.Prelude.{◌≡◌, ℕ, ◌+◌, List, unwrap_or, if◌then◌else◌}
 use Rattle.rma_call.specs.Call.{Call}
-use Rattle.rma_sync.specs.declared.kind.Kind.{Kind}
-use Rattle.rma_sync.specs.declared.kind.Kind.TheVariants.{Collective, Free, Fence, Moving}
+use Rattle.rma_round.specs.declared.kind.Kind.{Kind}
+use Rattle.rma_round.specs.declared.kind.Kind.TheVariants.{Collective, Free, Fence, Moving}
 use Rattle.rma_sync.specs.declared.name_count.AllCounts.{AllCounts}
-use Rattle.rma_sync.specs.Collective.{is_on, count_of}
+use Rattle.rma_round.specs.Kind.{is_on, count_of}
 use Rattle.rma_sync.specs.inside.FirstIndex.{index_of}
 
 -- the number under a name, which is 0 where there is none

@@ -6,7 +6,7 @@ use Rattle.std.specs.Cmp.Lexicographic.{pointwise}
 use Rattle.rma_base.specs.declared.rank.Rank.{Rank}
 use Rattle.rma_call.specs.Call.{Call, RankCalls}
 use Rattle.rma_call.specs.declared.match_fault.MatchFault.{MatchFault}
-use Rattle.rma_sync.specs.declared.kind.Kind.{Kind}
+use Rattle.rma_round.specs.declared.kind.Kind.{Kind}
 use Rattle.rma_sync.specs.declared.round.First.{First}
 use Rattle.rma_sync.specs.declared.round.NameRounds.{NameRounds}
 use Rattle.rma_sync.specs.declared.round.Rounds.{Rounds}

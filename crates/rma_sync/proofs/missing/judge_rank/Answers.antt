@@ -2,7 +2,7 @@ use Rattle.std.proofs.Common.{◌≡◌, Some, slice_get, [], ◌++◌, List, ta
 use Rattle.std.specs.List.{cons_option}
 use Rattle.rma_base.specs.declared.rank.Rank.{Rank}
 use Rattle.rma_call.specs.Call.{Call, call_of}
-use Rattle.rma_sync.specs.declared.kind.Kind.TheVariants as kind
+use Rattle.rma_round.specs.declared.kind.Kind.TheVariants as kind
 use Rattle.rma_sync.specs.inside.NameCount.{AreAllCounts}
 use Rattle.rma_sync.specs.Missing.{missing_of, missing_at}
 use Rattle.rma_sync.proofs.WalkLemmas.{taken_there, walked_next}

@@ -1,6 +1,6 @@
 use Rattle.std.proofs.Common.{◌≡◌, List, [], ◌++◌, take}
 use Rattle.rma_call.specs.Call.{RankCalls}
-use Rattle.rma_sync.specs.declared.kind.Kind.TheVariants as kind
+use Rattle.rma_round.specs.declared.kind.Kind.TheVariants as kind
 use Rattle.rma_sync.specs.Collective.{walked}
 use Rattle.rma_sync.specs.inside.NameCount.{AreAllCounts}
 use Rattle.rma_sync.specs.Missing.{missing_of, missing_at}

@@ -1,5 +1,5 @@
 use Rattle.std.proofs.Common.{◌≡◌, take}
-use Rattle.rma_sync.specs.declared.kind.Kind.TheVariants as kind
+use Rattle.rma_round.specs.declared.kind.Kind.TheVariants as kind
 use Rattle.rma_sync.specs.Collective.{walked_all}
 use Rattle.rma_sync.specs.Missing.{missing_of, missing_at}
 use Rattle.rma_sync.specs.inside.Missing.{AreMissingCalls}

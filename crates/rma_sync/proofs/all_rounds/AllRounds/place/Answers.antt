@@ -1,8 +1,9 @@
 use Rattle.std.proofs.Common.{◌≡◌, ℕ, List, Option, Some, ap, sym, ◌∙◌}
 use Rattle.std.specs.Option.{option_copied, option_map_or}
 use Rattle.rma_call.specs.Call.{what_of}
-use Rattle.rma_sync.specs.declared.kind.Kind.TheVariants as kind
-use Rattle.rma_sync.specs.Collective.{moved_on, count_of, made_on, so_far}
+use Rattle.rma_round.specs.declared.kind.Kind.TheVariants as kind
+use Rattle.rma_round.specs.Kind.{moved_on, count_of}
+use Rattle.rma_sync.specs.Collective.{made_on, so_far}
 use Rattle.rma_sync.specs.inside.Round.{rounds_of}
 use Rattle.rma_sync.proofs.CallCountLemmas.{number_in_is}
 use Rattle.rma_sync.proofs.SoFarLemmas.{made_now}

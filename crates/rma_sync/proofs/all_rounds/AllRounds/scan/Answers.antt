@@ -1,4 +1,4 @@
-use Rattle.rma_sync.specs.declared.kind.Kind.TheVariants as kind
+use Rattle.rma_round.specs.declared.kind.Kind.TheVariants as kind
 use Rattle.rma_sync.proofs.all_rounds.AllRounds.scan.Goals as goal
 
 pub returns : goal.returns

@@ -2,7 +2,7 @@ use Rattle.std.proofs.Common.{◌++◌, [], ap, ◌∙◌}
 use Rattle.std.specs.List.{cons_option}
 use Rattle.std.specs.Option.{option_or}
 use Rattle.rma_call.specs.Call.{call_of}
-use Rattle.rma_sync.specs.declared.kind.Kind.TheVariants as kind
+use Rattle.rma_round.specs.declared.kind.Kind.TheVariants as kind
 use Rattle.rma_sync.specs.Missing.{missing_of}
 use Rattle.rma_sync.proofs.missing.MissingCalls.judge.Goals as goal
 

@@ -1,7 +1,7 @@
 use Rattle.std.proofs.Common.{◌≡◌, List, ℕ, Some, ap, sym, ◌∙◌}
 use Rattle.std.specs.Option.{option_copied, option_and_then}
 use Rattle.rma_call.specs.Call.{call_of}
-use Rattle.rma_sync.specs.Collective.{named, count_of}
+use Rattle.rma_round.specs.Kind.{named, count_of}
 use Rattle.rma_sync.specs.inside.ByRank.{is_reached}
 use Rattle.rma_sync.specs.Missing.{missing_reason, fault_if, lacks}
 use Rattle.rma_sync.proofs.missing.MissingOfKind.judge.Goals as goal

@@ -1,5 +1,5 @@
 use Rattle.rma_call.specs.Call.{call_of}
-use Rattle.rma_sync.specs.declared.kind.Kind.TheVariants as kind
+use Rattle.rma_round.specs.declared.kind.Kind.TheVariants as kind
 use Rattle.rma_sync.proofs.SoFarLemmas.{AreCounts_push}
 use Rattle.rma_sync.proofs.name_count.AllCounts.note.Goals as goal
 

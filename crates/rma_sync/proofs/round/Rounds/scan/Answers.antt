@@ -3,9 +3,10 @@ use Rattle.std.specs.Option.{option_copied, option_and_then}
 use Rattle.std.specs.List.{cons_option}
 use Rattle.std.specs.Cmp.Lexicographic.{pointwise}
 use Rattle.rma_call.specs.Call.{call_of, what_of}
-use Rattle.rma_sync.specs.declared.kind.Kind.{Kind}
+use Rattle.rma_round.specs.declared.kind.Kind.{Kind}
 use Rattle.rma_sync.specs.declared.round.First.{First}
-use Rattle.rma_sync.specs.Collective.{named, place_of}
+use Rattle.rma_round.specs.Kind.{named}
+use Rattle.rma_sync.specs.Collective.{place_of}
 use Rattle.rma_sync.specs.inside.CallCount.{number_in}
 use Rattle.rma_sync.specs.Round.{differs}
 use Rattle.rma_sync.specs.inside.Round.{own_of, joined, rounds_of, first_at}

@@ -1,7 +1,7 @@
 //! The kinds of calls that every member of a communicator or a window has to make.
 ghost use Rattle.std.specs.Prelude.{◌≡◌, option_copied};
 ghost use Rattle.rma_call.specs.Call.{what_of};
-ghost use Rattle.rma_sync.specs.Collective.{comm_of, freed, fenced, comm_of_moving, moved_on, named};
+ghost use Rattle.rma_round.specs.Kind.{comm_of, freed, fenced, comm_of_moving, moved_on, named};
 
 use rma_base::Name;
 use rma_call::{EpochCall, FrameCall, MovingCall, WhatRef, WindowCall};
@@ -20,7 +20,7 @@ pub enum Kind {
 }
 
 /// What a call of this kind is on.
-pub(crate) fn named<'a>(kind: Kind, what: WhatRef<'a>) -> Option<&'a Name>
+pub fn named<'a>(kind: Kind, what: WhatRef<'a>) -> Option<&'a Name>
     ensures { option_copied result ≡ named kind (what_of what.entry) }
 {
     match kind {
@@ -63,7 +63,7 @@ fn fenced<'a>(what: WhatRef<'a>) -> Option<&'a Name>
 }
 
 /// The communicator on which a call moves data.
-pub(crate) fn moved_on<'a>(what: WhatRef<'a>) -> Option<&'a Name>
+pub fn moved_on<'a>(what: WhatRef<'a>) -> Option<&'a Name>
     ensures { option_copied result ≡ moved_on (what_of what.entry) }
 {
     match what {

@@ -1,0 +1,5 @@
+pub mod NumberLemmas
+pub mod KeptLemmas
+pub mod MemberLemmas
+pub mod EdgeLemmas
+pub mod MeetLemmas

@@ -1,0 +1,5 @@
+pub mod Kind
+pub mod Round
+pub mod Edge
+pub mod Meet
+pub mod inside

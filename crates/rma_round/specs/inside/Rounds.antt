@@ -1,0 +1,38 @@
+-- What is kept of the rounds of a run.
+use Rattle.std.specs.Prelude.{◌≡◌, ℕ, List, [], Option, Some, None, nat_eq, unwrap_or}
+use Rattle.std.specs.Ordering.{nat_cmp}
+use Rattle.std.specs.Map.{lookup}
+use Rattle.std.specs.BTreeMap.{is_at}
+use Rattle.std.specs.Cmp.Lexicographic.{pointwise}
+use Rattle.rma_call.specs.Call.{Call}
+use Rattle.rma_round.specs.declared.kind.Kind.{Kind}
+use Rattle.rma_round.specs.declared.kind.Kind.TheVariants.{Collective, Free, Fence, Moving}
+use Rattle.rma_round.specs.declared.name_rounds.NameRounds.{NameRounds}
+use Rattle.rma_round.specs.declared.kind_rounds.KindRounds.{KindRounds}
+use Rattle.rma_round.specs.declared.rounds.Rounds.{Rounds}
+use Rattle.rma_round.specs.Round.{numbers}
+
+-- the numbers under a rank, none where there is no such rank
+abbrev pub listed : List (ℕ × List ℕ) → ℕ → List ℕ
+listed entries rank = unwrap_or (lookup (is_at (nat_cmp rank)) entries) []
+
+-- what is kept under a name
+abbrev pub kept : List (List ℕ × NameRounds) → List ℕ → Option NameRounds
+kept names name = lookup (pointwise nat_eq name) names
+
+-- the numbers that are kept of the calls of a rank on a name
+abbrev pub numbers_in : Option NameRounds → ℕ → List ℕ
+numbers_in None rank = []
+numbers_in (Some rounds) rank = listed rounds.ranks.entries rank
+
+-- what is kept represents the calls of a kind
+pub record AreOfKind (kind : Kind) (calls : ℕ → List Call) (rounds : KindRounds) : Type 0 where
+  pub kind_is : rounds.kind ≡ kind
+  pub numbers_are : (name : List ℕ) (rank : ℕ) → numbers_in (kept rounds.names.entries name) rank ≡ numbers kind name (calls rank)
+
+-- what is kept represents these calls of the ranks
+pub record Represents (calls : ℕ → List Call) (rounds : Rounds) : Type 0 where
+  pub collectives_are : AreOfKind Collective calls rounds.collectives
+  pub frees_are : AreOfKind Free calls rounds.frees
+  pub fences_are : AreOfKind Fence calls rounds.fences
+  pub movings_are : AreOfKind Moving calls rounds.movings

@@ -1,0 +1,160 @@
+//! The rounds of one kind.
+ghost use Rattle.std.specs.Prelude.{◌≡◌, ◌++◌, ◌∷◌, [], ℕ, List, true, false, length, nat_eq, OnOk, if◌then◌else◌};
+ghost use Rattle.std.specs.Cmp.Lexicographic.{pointwise};
+ghost use Rattle.rma_call.specs.Call.{Call, RankCalls, call_of, what_of};
+ghost use Rattle.rma_run.specs.Run.{IsRun, calls_of, with_calls};
+ghost use Rattle.rma_round.specs.declared.kind.Kind.{Kind};
+ghost use Rattle.rma_round.specs.Round.{numbers, place_in, match_of, matched_at};
+ghost use Rattle.rma_round.specs.inside.Rounds.{kept, numbers_in, AreOfKind};
+ghost use Rattle.rma_round.specs.inside.Led.{led_on, led_on_name};
+
+use crate::kind::{Kind, named};
+use crate::meet::any_waits;
+use crate::name_rounds::{NameRounds, place_in};
+use indexmap::IndexMap;
+use rma_base::{Memory, Name, Rank};
+use rma_call::{CallRef, RankCalls, WhatRef};
+use rma_link::{Links, Meet};
+use std::alloc::Global;
+
+/// The rounds of one kind.
+#[derive(Drop)]
+pub(crate) struct KindRounds {
+    /// The kind.
+    kind: Kind,
+    /// The rounds on each name.
+    names: IndexMap<Name, NameRounds>,
+}
+
+impl KindRounds {
+    /// No calls.
+    pub(crate) fn new(alloc: Global, kind: Kind) -> KindRounds
+        ensures { AreOfKind kind (λ _. []) result }
+    {
+        KindRounds {
+            kind,
+            names: IndexMap::new(alloc),
+        }
+    }
+
+    /// Takes the next call of a rank, which has this number, if it is of the kind.
+    pub(crate) fn take(
+        &mut self,
+        alloc: Global,
+        rank: Rank,
+        number: u32,
+        call: CallRef<'_>,
+    ) -> Result<(), Memory>
+        ensures { OnOk result ((kind : Kind) (calls : ℕ → List Call) → length (calls rank.0) ≡ number → AreOfKind kind calls self.old
+            → AreOfKind kind (with_calls calls rank.0 (call_of call.entry ∷ [])) self.new) }
+    {
+        let Some(name) = named(self.kind, call.what) else {
+            return Ok(());
+        };
+        add(alloc, &mut self.names, rank, number, name)
+    }
+
+    /// The call of the other rank that is of the round of the call of this number of a rank, where that call is of the kind.
+    pub(crate) fn matched(
+        &self,
+        rank: Rank,
+        number: u32,
+        what: WhatRef<'_>,
+        other: Rank,
+    ) -> Option<u32>
+        ensures { (kind : Kind) (calls : ℕ → List Call) → AreOfKind kind calls self.now → result ≡ matched_at kind calls rank.0 number other.0 (what_of what.entry) }
+    {
+        match named(self.kind, what) {
+            Some(name) => self.match_of(name, rank, number, other),
+            None => None,
+        }
+    }
+
+    /// The call of the other rank that is of the round of the call of this number of a rank on the name.
+    pub(crate) fn match_of(&self, name: &Name, rank: Rank, number: u32, other: Rank) -> Option<u32>
+        ensures { (kind : Kind) (calls : ℕ → List Call) → AreOfKind kind calls self.now → result ≡ match_of kind name.now calls rank.0 number other.0 }
+    {
+        match self.names.get(name) {
+            Some(rounds) => {
+                let place = place_in(rounds.of(rank), number)?;
+                rounds.of(other).get(place).copied()
+            }
+            None => None,
+        }
+    }
+
+    /// Appends the meet of the round of the call of this number of a rank, if it is of the kind, the first of its round by rank, and
+    /// any call of the round waits for all.
+    pub(crate) fn push_meet(
+        &self,
+        alloc: Global,
+        ranks: &[RankCalls],
+        rank: Rank,
+        number: u32,
+        call: CallRef<'_>,
+        links: &mut Links,
+    ) -> Result<(), Memory>
+        requires run { IsRun ranks.now }
+        ensures edges { OnOk result (links.new.edges ≡ links.old.edges) }
+        ensures meets { OnOk result ((kind : Kind) → AreOfKind kind (calls_of ranks.now) self.now
+            → links.new.meets ≡ links.old.meets ++ led_on ranks.now rank.0 number (what_of call.entry.what) kind) }
+    {
+        match named(self.kind, call.what) {
+            Some(name) => self.push_meet_on(alloc, ranks, rank, number, name, links),
+            None => Ok(()),
+        }
+    }
+
+    /// Appends the meet of the round of the call of this number of a rank on the name, if the call is the first of its round.
+    fn push_meet_on(
+        &self,
+        alloc: Global,
+        ranks: &[RankCalls],
+        rank: Rank,
+        number: u32,
+        name: &Name,
+        links: &mut Links,
+    ) -> Result<(), Memory>
+        requires run { IsRun ranks.now }
+        ensures edges { OnOk result (links.new.edges ≡ links.old.edges) }
+        ensures meets { OnOk result ((kind : Kind) → AreOfKind kind (calls_of ranks.now) self.now
+            → links.new.meets ≡ links.old.meets ++ led_on_name ranks.now rank.0 number kind name.now) }
+    {
+        let Some(rounds) = self.names.get(name) else {
+            return Ok(());
+        };
+        let Some(place) = place_in(rounds.of(rank), number) else {
+            return Ok(());
+        };
+        if !rounds.is_led_by(rank, place) {
+            return Ok(());
+        }
+        let calls = rounds.members(alloc, place)?;
+        if calls.len() < 2 || !any_waits(ranks, calls.as_slice()) {
+            return Ok(());
+        }
+        links.push_meet(Meet { calls })
+    }
+}
+
+/// Takes the call of this number of a rank on the name.
+fn add(
+    alloc: Global,
+    names: &mut IndexMap<Name, NameRounds>,
+    rank: Rank,
+    number: u32,
+    name: &Name,
+) -> Result<(), Memory>
+    ensures own { OnOk result ((other : List ℕ) (member : ℕ) → pointwise nat_eq name.now other ≡ true
+        → numbers_in (kept names.new.entries other) member ≡ numbers_in (kept names.old.entries other) member ++ (if nat_eq rank.0 member then number ∷ [] else [])) }
+    ensures others { OnOk result ((other : List ℕ) → pointwise nat_eq name.now other ≡ false → kept names.new.entries other ≡ kept names.old.entries other) }
+{
+    if let Some(rounds) = names.get_mut(name) {
+        return rounds.add(alloc, rank, number);
+    }
+    let mut rounds = NameRounds::new(alloc);
+    rounds.add(alloc, rank, number)?;
+    let name = name.copy()?;
+    names.insert(name, rounds)?;
+    Ok(())
+}

@@ -1,0 +1,23 @@
+//! The rounds of the calls that every member of a communicator or a window has to make, and the links that they give (MPI 4.0,
+//! "Collective Communication" and "One-Sided Communications").
+//!
+//! Such a call is of a [`Kind`] and on a name: barriers and creations of windows on a communicator, calls that free a window,
+//! fences of a window, and calls that move data on a communicator. The k-th calls of a kind on a name, of all ranks that make
+//! so many, are one round.
+//!
+//! [`Rounds`] takes the calls of the ranks one at a time, in any order of the ranks, or those of whole logs at once. It answers
+//! the call of another rank that is of the round of a call, and appends the links: a meet for each round that waits for all its
+//! calls, and the edges of data that moves from a root or to it. A call costs a look-up in a table by its name and one by its rank.
+#![tactic(auto)]
+
+mod edge;
+mod kind;
+mod kind_rounds;
+pub mod laws;
+mod link;
+mod meet;
+mod name_rounds;
+mod rounds;
+
+pub use kind::{Kind, moved_on, named};
+pub use rounds::Rounds;
