@@ -1,0 +1,4 @@
+mod LinkLemmas
+mod SameLinks
+mod ToldLemmas
+pub mod ImpossibleLemmas

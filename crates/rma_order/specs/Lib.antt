@@ -1,0 +1,3 @@
+pub use Rattle.rma_run.specs.Run
+pub mod RunLinks
+pub mod Impossible

@@ -1,0 +1,94 @@
+//! The calls that are never left.
+ghost use Rattle.std.specs.Prelude.{◌≡◌, ◌++◌, [], IfOk, OnOk};
+ghost use Rattle.std.specs.List.{cons_option};
+ghost use Rattle.std.specs.Option.{option_and_then};
+ghost use Rattle.rma_run.specs.Run.{IsRun};
+ghost use Rattle.rma_order.specs.Impossible.{AreImpossibleCalls, first_at, told, told_all};
+
+use crate::call_counts::call_counts;
+use crate::links::run_links;
+use rma_base::limits::RANKS;
+use rma_base::{LineNo, Memory, Rank, Sequence};
+use rma_call::RankCalls;
+use rma_walk::{Walked, walk};
+use std::alloc::Global;
+
+/// The first call of a rank that is never left.
+#[derive(Clone, Copy, Debug, PartialEq, Eq)]
+pub struct ImpossibleCall {
+    /// The rank that makes it.
+    pub rank: Rank,
+    /// Its line.
+    pub line: LineNo,
+}
+
+/// The first call of each rank that is never left, by rank: there is none where the run is possible.
+///
+/// The time and the memory that it takes grow with the calls and their links.
+///
+/// # Errors
+///
+/// `Memory`, also where there are more ranks than a run may have.
+pub fn impossible_calls(
+    alloc: Global,
+    ranks: &[RankCalls],
+) -> Result<Sequence<ImpossibleCall>, Memory>
+    requires { IsRun ranks.now }
+    ensures { IfOk result (AreImpossibleCalls ranks.now) }
+{
+    if ranks.len() > RANKS {
+        return Err(Memory);
+    }
+    let counts = call_counts(alloc, ranks)?;
+    let links = run_links(alloc, ranks)?;
+    match walk(alloc, &counts, &links)? {
+        Walked::Order(_) => Ok(Sequence::new(alloc)),
+        Walked::Stuck(firsts) => told_all(alloc, ranks, firsts.as_slice()),
+    }
+}
+
+/// The calls of these numbers, by rank.
+fn told_all(
+    alloc: Global,
+    ranks: &[RankCalls],
+    firsts: &[Option<u32>],
+) -> Result<Sequence<ImpossibleCall>, Memory>
+    ensures { IfOk result (λ found. found ≡ told_all ranks.now firsts.now) }
+{
+    let mut found = Sequence::new(alloc);
+    for (rank, own) in ranks.iter().enumerate() {
+        push_told(&mut found, own, first_at(firsts, rank))?;
+    }
+    Ok(found)
+}
+
+/// The number of the call of the rank at an index, if it has one.
+fn first_at(firsts: &[Option<u32>], rank: usize) -> Option<u32>
+    ensures { result ≡ first_at firsts.now rank }
+{
+    match firsts.get(rank) {
+        Some(first) => *first,
+        None => None,
+    }
+}
+
+/// Appends the call of this number of a rank, if there is one.
+fn push_told(
+    found: &mut Sequence<ImpossibleCall>,
+    own: &RankCalls,
+    first: Option<u32>,
+) -> Result<(), Memory>
+    ensures { OnOk result (found.new ≡ found.old ++ cons_option (option_and_then (told own.now) first) []) }
+{
+    let Some(number) = first else {
+        return Ok(());
+    };
+    let calls = own.calls();
+    if number as usize >= calls.len() {
+        return Ok(());
+    }
+    found.push(ImpossibleCall {
+        rank: own.rank(),
+        line: calls.get(number as usize).line,
+    })
+}
