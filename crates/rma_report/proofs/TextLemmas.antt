@@ -16,6 +16,15 @@ pub word_before : (p z s q x r y w m n o l : List ℕ) → z ≡ w → x ≡ m �
     → (p ++ (z ++ ((s ++ q) ++ (x ++ (r ++ (y ++ [])))))) ++ (o ++ l) ≡ p ++ w ++ s ++ (q ++ m ++ r ++ n) ++ o ++ l
 word_before p z s q x r y w m n o l e f g = rw (e, f, g) (simp (append_assoc, append-nil))
 
+-- two numbers behind a text of two parts
+pub place_alone : (p x q s y r m n : List ℕ) → x ≡ m → y ≡ n → (p ++ q) ++ (x ++ (s ++ (y ++ (r ++ [])))) ≡ p ++ (q ++ m ++ s ++ n) ++ r
+place_alone p x q s y r m n e f = rw (e, f) (simp (append_assoc, append-nil))
+
+-- a word and two numbers in a text that ends there
+pub place_after : (p z s q x r y t w m n : List ℕ) → z ≡ w → x ≡ m → y ≡ n
+    → p ++ (z ++ ((s ++ q) ++ (x ++ (r ++ (y ++ (t ++ [])))))) ≡ p ++ w ++ s ++ (q ++ m ++ r ++ n) ++ t
+place_after p z s q x r y t w m n e f g = rw (e, f, g) (simp (append_assoc, append-nil))
+
 -- the texts of the first of a list
 pub first_texts : {X : Type 0} (f : X → List ℕ) (xs : List X) (n limit : ℕ) → n ≡ min limit (length xs) → flat_map f (take n xs) ≡ flat_map f (take limit xs)
 first_texts f xs n limit e = ap (λ k. flat_map f (take k xs)) e ∙ ap (flat_map f) (take_min limit xs)

@@ -4,11 +4,12 @@ use Rattle.rma_base.specs.declared.line.LineNo.{LineNo}
 use Rattle.rma_base.specs.declared.rank.Rank.{Rank}
 use Rattle.rma_base.specs.FormReason.{form_word}
 use Rattle.rma_base.specs.MatchReason.{match_word}
+use Rattle.rma_base.specs.EpochReason.{epoch_word}
 use Rattle.serde_json.specs.Data.{Data, null, number, unsigned, string, array, object, member, no_members}
 use Rattle.serde_json.specs.View.{items_of}
 use Rattle.serde_json.specs.Written.{compact_text}
 use Rattle.rma_report.specs.declared.finding.Finding.{Finding}
-use Rattle.rma_report.specs.declared.finding.Finding.TheVariants.{Malformed, Mismatch}
+use Rattle.rma_report.specs.declared.finding.Finding.TheVariants.{Malformed, Mismatch, Impossible, Epoch}
 
 -- a number that counts
 abbrev pub count : ℕ → Data
@@ -35,6 +36,19 @@ finding_value (Mismatch fault) =
     (member (codes "other") (other_value fault.other)
     (member (codes "rank") (count fault.rank.0)
     (member (codes "reason") (string (match_word fault.reason)) no_members))))
+    )
+finding_value (Impossible rank line) =
+    object (
+    member (codes "kind") (string (codes "impossible"))
+    (member (codes "line") (count line.0)
+    (member (codes "rank") (count rank.0) no_members))
+    )
+finding_value (Epoch rank line reason) =
+    object (
+    member (codes "kind") (string (codes "epoch"))
+    (member (codes "line") (count line.0)
+    (member (codes "rank") (count rank.0)
+    (member (codes "reason") (string (epoch_word reason)) no_members)))
     )
 
 -- the verdict, by the number of findings

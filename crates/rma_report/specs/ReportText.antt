@@ -5,8 +5,9 @@ use Rattle.rma_base.specs.declared.line.LineNo.{LineNo}
 use Rattle.rma_base.specs.declared.rank.Rank.{Rank}
 use Rattle.rma_base.specs.FormReason.{form_word}
 use Rattle.rma_base.specs.MatchReason.{match_word}
+use Rattle.rma_base.specs.EpochReason.{epoch_word}
 use Rattle.rma_report.specs.declared.finding.Finding.{Finding}
-use Rattle.rma_report.specs.declared.finding.Finding.TheVariants.{Malformed, Mismatch}
+use Rattle.rma_report.specs.declared.finding.Finding.TheVariants.{Malformed, Mismatch, Impossible, Epoch}
 
 -- where a call stands
 abbrev pub place_text : Rank → LineNo → List ℕ
@@ -21,6 +22,8 @@ other_text (Some other) = codes " with " ++ place_text other.0 other.1
 abbrev pub finding_line : Finding → List ℕ
 finding_line (Malformed rank line reason) = codes "malformed " ++ place_text rank line ++ codes " reason " ++ form_word reason ++ codes "\n"
 finding_line (Mismatch fault) = codes "mismatch " ++ match_word fault.reason ++ codes " " ++ place_text fault.rank fault.line ++ other_text fault.other ++ codes "\n"
+finding_line (Impossible rank line) = codes "impossible " ++ place_text rank line ++ codes "\n"
+finding_line (Epoch rank line reason) = codes "epoch " ++ epoch_word reason ++ codes " " ++ place_text rank line ++ codes "\n"
 
 -- the first line, on `ranks` logs of `lines` lines together
 abbrev pub header_line : ℕ → ℕ → List ℕ

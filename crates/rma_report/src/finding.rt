@@ -1,5 +1,5 @@
 //! What an audit finds.
-use rma_base::{FormReason, LineNo, Rank, Sequence};
+use rma_base::{EpochReason, FormReason, LineNo, Rank, Sequence};
 use rma_call::MatchFault;
 
 /// One thing that is wrong with the logs of a run.
@@ -16,6 +16,22 @@ pub enum Finding {
     },
     /// A call that the calls of other ranks do not match.
     Mismatch(MatchFault),
+    /// The first call of a rank that is never left, since calls wait for one another in a circle.
+    Impossible {
+        /// The rank that makes the call.
+        rank: Rank,
+        /// The line of the call.
+        line: LineNo,
+    },
+    /// The first call of a rank that stands in no epoch which allows it.
+    Epoch {
+        /// The rank that makes the call.
+        rank: Rank,
+        /// The line of the call, or that of the end of the log.
+        line: LineNo,
+        /// The rule that it breaks.
+        reason: EpochReason,
+    },
 }
 
 /// Findings in the order of the report.

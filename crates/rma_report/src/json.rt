@@ -5,7 +5,7 @@ ghost use Rattle.serde_json.specs.Written.{compact_text, has_float};
 ghost use Rattle.rma_report.specs.ReportJson.{finding_value, other_value, report_json, report_object, report_value, verdict_word};
 
 use crate::finding::{Finding, Findings};
-use rma_base::{LineNo, Memory, Rank};
+use rma_base::{EpochReason, LineNo, Memory, Rank};
 use rma_call::MatchFault;
 use serde_json::{Value, json};
 use std::alloc::{AllocError, Global};
@@ -116,6 +116,15 @@ fn finding_value(alloc: Global, finding: &Finding) -> Result<Value, Memory>
             Ok(value)
         }
         Finding::Mismatch(fault) => mismatch_value(alloc, fault),
+        Finding::Impossible { rank, line } => {
+            let value = json!(in alloc; {
+                "kind": "impossible",
+                "line": line.0,
+                "rank": rank.0,
+            })?;
+            Ok(value)
+        }
+        Finding::Epoch { rank, line, reason } => epoch_value(alloc, *rank, *line, *reason),
     }
 }
 
@@ -129,6 +138,24 @@ fn mismatch_value(alloc: Global, fault: &MatchFault) -> Result<Value, Memory>
         "other": other_value(alloc, fault.other)?,
         "rank": fault.rank.0,
         "reason": fault.reason.word(),
+    })?;
+    Ok(value)
+}
+
+/// The value of a call outside the epochs that allow it.
+fn epoch_value(
+    alloc: Global,
+    rank: Rank,
+    line: LineNo,
+    reason: EpochReason,
+) -> Result<Value, Memory>
+    ensures { IfOk result (λ value. view value ≡ finding_value (Finding.Epoch rank line reason)) }
+{
+    let value = json!(in alloc; {
+        "kind": "epoch",
+        "line": line.0,
+        "rank": rank.0,
+        "reason": reason.word(),
     })?;
     Ok(value)
 }

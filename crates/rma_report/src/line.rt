@@ -8,7 +8,7 @@ use crate::buffer::{TextBuffer, write, write_all};
 use crate::finding::Finding;
 use crate::report::WriteFault;
 use itoa::Buffer;
-use rma_base::{FormReason, LineNo, Rank};
+use rma_base::{EpochReason, FormReason, LineNo, Rank};
 use rma_call::MatchFault;
 use rma_io::Sink;
 
@@ -72,6 +72,8 @@ fn write_finding<S: Sink>(
             out, buffer, *rank, *line, *reason,
         ),
         Finding::Mismatch(fault) => write_mismatch(out, buffer, fault),
+        Finding::Impossible { rank, line } => write_impossible(out, buffer, *rank, *line),
+        Finding::Epoch { rank, line, reason } => write_epoch(out, buffer, *rank, *line, *reason),
     }
 }
 
@@ -151,6 +153,61 @@ fn write_other<S: Sink>(
         buffer,
         &[
             " with rank ",
+            rank_digits.format(rank.0),
+            " line ",
+            line_digits.format(line.0),
+            "\n",
+        ],
+    )
+}
+
+/// Writes the line of a call that is never left.
+fn write_impossible<S: Sink>(
+    out: &mut S,
+    buffer: &mut TextBuffer,
+    rank: Rank,
+    line: LineNo,
+) -> Result<(), WriteFault>
+    ensures { IsBuffered (S.output out.old) buffer.old.bytes
+        (finding_line (Finding.Impossible rank line))
+        result buffer.new.bytes (S.output out.new) }
+{
+    let mut rank_digits = Buffer::new();
+    let mut line_digits = Buffer::new();
+    write_all(
+        out,
+        buffer,
+        &[
+            "impossible rank ",
+            rank_digits.format(rank.0),
+            " line ",
+            line_digits.format(line.0),
+            "\n",
+        ],
+    )
+}
+
+/// Writes the line of a call outside the epochs that allow it.
+fn write_epoch<S: Sink>(
+    out: &mut S,
+    buffer: &mut TextBuffer,
+    rank: Rank,
+    line: LineNo,
+    reason: EpochReason,
+) -> Result<(), WriteFault>
+    ensures { IsBuffered (S.output out.old) buffer.old.bytes
+        (finding_line (Finding.Epoch rank line reason))
+        result buffer.new.bytes (S.output out.new) }
+{
+    let mut rank_digits = Buffer::new();
+    let mut line_digits = Buffer::new();
+    write_all(
+        out,
+        buffer,
+        &[
+            "epoch ",
+            reason.word(),
+            " rank ",
             rank_digits.format(rank.0),
             " line ",
             line_digits.format(line.0),
