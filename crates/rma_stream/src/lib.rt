@@ -8,7 +8,10 @@
 #![tactic(auto)]
 
 mod audit;
+mod epochs;
 pub mod laws;
+mod matching;
+mod order;
 mod outcome;
 mod pass;
 

@@ -1,20 +1,19 @@
 //! The outcomes of all logs, and what each pass finds in them.
-ghost use Rattle.std.specs.Prelude.{◌≡◌, ◌≤◌, ℕ, List, [], length, IfOk, OnOk, map, ◌++◌, ◌∷◌};
+ghost use Rattle.std.specs.Prelude.{◌≡◌, ◌≤◌, ℕ, List, [], length, IfOk, OnOk, ◌++◌, ◌∷◌};
 ghost use Rattle.rma_book.specs.declared.fault.BookEnd.{BookEnd};
-ghost use Rattle.rma_report.specs.declared.finding.Finding.TheVariants.{Mismatch};
-ghost use Rattle.rma_sync.specs.Matching.{match_faults};
 ghost use Rattle.rma_stream.specs.inside.Feeding.{HaveBooks};
 ghost use Rattle.rma_stream.specs.inside.Outcome.{AreOutcomes};
-ghost use Rattle.rma_stream.specs.Findings.{AreEnds, found_by};
+ghost use Rattle.rma_stream.specs.Findings.{AreEnds, Finds};
 
+use crate::epochs::epoch_findings;
+use crate::matching::mismatches;
+use crate::order::impossible_findings;
 use crate::pass::Pass;
 use rma_base::limits::RANKS;
 use rma_base::{Memory, Rank, Sequence};
 use rma_book::{BookEnd, RankBook};
 use rma_call::RankCalls;
-use rma_exposure::is_run;
 use rma_report::{Finding, FindingList};
-use rma_sync::match_faults;
 use std::alloc::Global;
 
 /// The outcomes of some logs.
@@ -62,31 +61,13 @@ impl Outcomes {
 
     /// The findings of a pass.
     pub(crate) fn findings(&self, alloc: Global, pass: Pass) -> Result<FindingList, Memory>
-        ensures { IfOk result (λ found. (ends : List BookEnd) → AreOutcomes ends self.now → found ≡ found_by ends pass) }
+        ensures { IfOk result (λ found. (ends : List BookEnd) → AreOutcomes ends self.now → Finds ends pass found) }
     {
         match pass {
             Pass::BadLines => self.bad.copy(),
             Pass::Matching => mismatches(alloc, &self.calls),
+            Pass::Order => impossible_findings(alloc, &self.calls),
+            Pass::Epochs => epoch_findings(alloc, &self.calls),
         }
     }
-}
-
-/// The calls that the calls of other ranks do not match, as findings.
-///
-/// # Errors
-///
-/// `Memory` where there is none left, and where these are not the calls of all ranks of a run: no log is bad where this is asked,
-/// so they are.
-fn mismatches(alloc: Global, calls: &[RankCalls]) -> Result<FindingList, Memory>
-    ensures { IfOk result (λ list. list ≡ map Mismatch (match_faults calls.now)) }
-{
-    if !is_run(calls) {
-        return Err(Memory);
-    }
-    let faults = match_faults(alloc, calls)?;
-    let mut list = Sequence::new(alloc);
-    for fault in faults.as_slice() {
-        list.push(Finding::Mismatch(*fault))?;
-    }
-    Ok(list)
 }

@@ -1,7 +1,7 @@
 //! The passes of an audit.
-ghost use Rattle.std.specs.Prelude.{◌≡◌, List, map, IfOk};
+ghost use Rattle.std.specs.Prelude.{◌≡◌, List, IfOk};
 ghost use Rattle.rma_book.specs.declared.fault.BookEnd.{BookEnd};
-ghost use Rattle.rma_stream.specs.Findings.{passes, found_by, first_failing};
+ghost use Rattle.rma_stream.specs.Findings.{passes, Finds, IsFirstFailing};
 ghost use Rattle.rma_stream.specs.inside.Outcome.{AreOutcomes};
 
 use crate::outcome::Outcomes;
@@ -16,13 +16,17 @@ pub enum Pass {
     BadLines,
     /// The calls that the calls of other ranks do not match.
     Matching,
+    /// The first call of each rank that is never left, where calls wait for one another in a circle.
+    Order,
+    /// The first call of each rank that stands in no epoch which allows it.
+    Epochs,
 }
 
 /// All passes, in their order.
-pub(crate) fn all_passes() -> [Pass; 2]
+pub(crate) fn all_passes() -> [Pass; 4]
     ensures { result ≡ passes }
 {
-    [Pass::BadLines, Pass::Matching]
+    [Pass::BadLines, Pass::Matching, Pass::Order, Pass::Epochs]
 }
 
 /// The findings of the first of these passes that fails, and none where each succeeds.
@@ -31,7 +35,7 @@ pub(crate) fn first_failing(
     outcomes: &Outcomes,
     passes: &[Pass],
 ) -> Result<FindingList, Memory>
-    ensures { IfOk result (λ found. (ends : List BookEnd) → AreOutcomes ends outcomes.now → found ≡ first_failing (map (found_by ends) passes.now)) }
+    ensures { IfOk result (λ found. (ends : List BookEnd) → AreOutcomes ends outcomes.now → IsFirstFailing (Finds ends) passes.now found) }
 {
     for pass in passes {
         let found = outcomes.findings(alloc, *pass)?;

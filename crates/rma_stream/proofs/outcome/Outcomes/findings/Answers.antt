@@ -1,15 +1,39 @@
-use Rattle.std.proofs.Common.{map, IfOk, Result, Ok, Err, ap, sym, ◌∙◌}
+use Rattle.std.proofs.Common.{◌≡◌, List, map, IfOk, Result, Ok, Err, sym, subst, ◌∙◌}
+use Rattle.std.specs.List.{filter_map}
+use Rattle.rma_base.specs.declared.memory.Memory.{Memory}
+use Rattle.rma_call.specs.Call.{RankCalls}
+use Rattle.rma_book.specs.declared.fault.BookEnd.{BookEnd}
+use Rattle.rma_report.specs.declared.finding.Finding.{Finding}
 use Rattle.rma_report.specs.declared.finding.Finding.TheVariants.{Mismatch}
 use Rattle.rma_sync.specs.Matching.{match_faults}
-use Rattle.rma_stream.specs.Findings.{found_by}
+use Rattle.rma_order.specs.declared.impossible.ImpossibleCall.{ImpossibleCall}
+use Rattle.rma_order.specs.Impossible.{AreImpossibleCalls}
+use Rattle.rma_window.specs.Creation.{creations}
+use Rattle.rma_window.specs.Windows.{windows_by}
+use Rattle.rma_stream.specs.Findings.{Finds, calls_in, epoch_finding, impossible}
+use Rattle.rma_stream.specs.declared.pass.Pass.TheVariants.{Matching, Order, Epochs}
+use Rattle.rma_stream.specs.declared.pass.Pass.{Pass}
+use Rattle.rma_stream.specs.declared.outcome.Outcomes.{Outcomes}
+use Rattle.rma_stream.specs.inside.Outcome.{AreOutcomes}
 use Rattle.rma_stream.proofs.outcome.Outcomes.findings.Goals as goal
 
--- what holds of an answer, where something that says more does
-more : {T E : Type 0} (P Q : T → Type 0) (answer : Result T E) → ((value : T) → P value → Q value) → IfOk answer P → IfOk answer Q
-more P Q (Ok value) says has = says value has
-more P Q (Err error) says has = has
+-- what a pass finds in calls, where these are the calls of outcomes
+found_in : (pass own : Pass) (kept : Outcomes) (calls : List RankCalls) (answer : Result (List Finding) Memory) → calls ≡ kept.calls.items → pass ≡ own
+    → ((ends : List BookEnd) → calls ≡ calls_in ends → IfOk answer (Finds ends own)) → IfOk answer (λ found. (ends : List BookEnd) → AreOutcomes ends kept → Finds ends pass found)
+found_in pass own kept calls (Ok found) same is finds = λ ends are. subst (λ p. Finds ends p found) (sym is) (finds ends (same ∙ are.calls_are))
+found_in pass own kept calls (Err memory) same is finds = tt
 
 pub returns-in-Matching : goal.returns-in-Matching
 returns-in-Matching c =
-    more _ _ c.mismatches.result
-    (λ found is ends are. is ∙ ap (λ calls. map Mismatch (match_faults calls)) (c.deref.ensures.value ∙ are.calls_are) ∙ ap (found_by ends) (sym c.in-Matching.is)) c.mismatches.ensures
+    found_in c.args.pass Matching c.args.self.now c.deref.result.now c.mismatches.result c.deref.ensures.value c.in-Matching.is
+    (λ ends same. subst (λ (calls : List RankCalls). IfOk c.mismatches.result (λ found. found ≡ map Mismatch (match_faults calls))) same c.mismatches.ensures)
+
+pub returns-in-Order : goal.returns-in-Order
+returns-in-Order c =
+    found_in c.args.pass Order c.args.self.now c.deref-in-Order.result.now c.impossible_findings.result c.deref-in-Order.ensures.value c.in-Order.is
+    (λ ends same. subst (λ (calls : List RankCalls). IfOk c.impossible_findings.result (λ found. (told : List ImpossibleCall) × AreImpossibleCalls calls told × (found ≡ map impossible told))) same c.impossible_findings.ensures)
+
+pub returns-in-Epochs : goal.returns-in-Epochs
+returns-in-Epochs c =
+    found_in c.args.pass Epochs c.args.self.now c.deref-in-Epochs.result.now c.epoch_findings.result c.deref-in-Epochs.ensures.value c.in-Epochs.is
+    (λ ends same. subst (λ (calls : List RankCalls). IfOk c.epoch_findings.result (λ found. found ≡ filter_map (epoch_finding (windows_by (creations calls))) calls)) same c.epoch_findings.ensures)
