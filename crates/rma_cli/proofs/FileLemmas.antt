@@ -1,11 +1,11 @@
 -- What is known of files, while they are read.
-use Rattle.std.proofs.Common.{◌≡◌, ◌≢◌, ℕ, ◌<◌, ◌+◌, List, [], ◌∷◌, ◌++◌, length, get_or, set, take, All, sym, subst, ap, ◌∙◌, inl, inr, arith, length-append}
+use Rattle.std.proofs.Common.{refl, ◌≡◌, ◌≢◌, ℕ, ◌<◌, ◌+◌, List, [], ◌∷◌, ◌++◌, length, get_or, set, take, All, sym, subst, ap, ◌∙◌, inl, inr, arith, length-append}
 use Rattle.std.specs.Prelude.{Option, None, Some, Contains, remove}
 use Rattle.std.specs.Io.KnownBytes.{IsAtEnd, Consumes, Keeps}
 use Rattle.std.proofs.Math.Seq.{map-set_same}
 use Rattle.std.proofs.Math.ListN.{get_or-map}
 use Rattle.std.proofs.lemmas.Bool.{cases_eq, cases_lt}
-use Rattle.std.proofs.lemmas.List.{get_or-set_same, get_or-set_other, get_or_append_left, get_or_default, length-set, length-map, map-set, map_push}
+use Rattle.std.proofs.lemmas.List.{get_or-set_same, get_or-set_other, get_or_append_left, get_or_default, length-set, length-map, map-set, get_or_push}
 use Rattle.std.proofs.lemmas.List as list
 use Rattle.std.proofs.lemmas.List.Elements.{Contains-append_left, Contains-push, All-push}
 use Rattle.std.proofs.lemmas.List.Edits.{length-remove, get_or-remove_below, get_or-remove_above}
@@ -13,8 +13,8 @@ use Rattle.std.proofs.lemmas.Grind.{in_remove}
 use Rattle.rma_io.specs.Known.{StillKnown}
 use Rattle.rma_io.specs.LogBytes.{LogBytes, unknown, log_of, Stays, TakesFrom}
 use Rattle.rma_io.specs.Source.{AreRead}
-use Rattle.rma_cli.specs.Files.{OpenFile, bytes_of, logs_of, names_of}
-use Rattle.rma_cli.specs.inside.Files.{OthersEnded, NothingTaken}
+use Rattle.rma_cli.specs.Files.{Progress, Open, Closed, Ended, IsOpen, AreOneByOne, LogFile, left_of, bytes_of, logs_of, names_of}
+use Rattle.rma_cli.specs.inside.Files.{IsReadToEnd, OthersEnded, OneOpen, NothingTaken}
 use Rattle.rma_io.proofs.LogBytesLemmas.{Keeps_same}
 
 Contains_remove : (xs : List ℕ) (index x : ℕ) → index < length xs → x ≢ get_or xs index x → Contains xs x → Contains (remove xs index) x
@@ -24,16 +24,32 @@ Contains_remove xs index x within other (k, there, is) =
       | inr ne ↦ (in_remove xs index k x within there (sym is) ne).1
     ]
 
--- all files were seen to end
-pub AreRead_ended : (logs : List LogBytes) → OthersEnded [] logs → AreRead logs
-AreRead_ended logs ended rank d within =
-    subst (λ (log : LogBytes). IsAtEnd log.left) (get_or_default logs rank unknown d within) (ended rank within (λ (k, none, is). absurd (omega (arith, none))))
-
 Keeps_trans : (a b c : Option (List ℕ)) → Keeps a b → Keeps b c → Keeps a c
 Keeps_trans None b c kept then = tt
 Keeps_trans (Some xs) None c kept then = absurd kept
 Keeps_trans (Some xs) (Some ys) None kept then = absurd then
 Keeps_trans (Some xs) (Some ys) (Some zs) kept then = then ∙ kept
+
+-- all files were read to their ends
+pub all_ended : (files : List LogFile) → OthersEnded [] files → All (λ file. file.progress ≡ Ended) files
+all_ended files ended rank d within = ended rank d within (λ (k, none, is). absurd (omega (arith, none)))
+
+pub AreRead_ended : (files : List LogFile) → OthersEnded [] files → AreRead (logs_of files)
+AreRead_ended files ended rank d within =
+    let n = length-map files bytes_of in
+    let file : LogFile = record { name = []; progress = Ended } in
+    subst (λ (log : LogBytes). IsAtEnd log.left) (sym (list.get_or-map bytes_of files rank file d (omega arith)))
+    (subst (λ (progress : Progress). IsAtEnd (left_of progress)) (sym (all_ended files ended rank file (omega arith))) refl)
+
+-- nothing is left of a file that was read to its end
+pub Keeps_end : (progress : Progress) → IsReadToEnd progress → Keeps (left_of progress) (Some [])
+Keeps_end (Open None) at_end = tt
+Keeps_end (Open (Some xs)) at_end = sym at_end
+Keeps_end Closed at_end = absurd at_end
+Keeps_end Ended at_end = refl
+
+pub Keeps_ended : (before : Option (List ℕ)) (progress : Progress) → Keeps before (left_of progress) → IsReadToEnd progress → Keeps before (Some [])
+Keeps_ended before progress kept at_end = Keeps_trans before (left_of progress) (Some []) kept (Keeps_end progress at_end)
 
 Keeps_Consumes : (a b c : Option (List ℕ)) (piece : List ℕ) → Keeps a b → Consumes b c piece → Consumes a c piece
 Keeps_Consumes None b c piece kept then = tt
@@ -42,57 +58,57 @@ Keeps_Consumes (Some xs) (Some ys) None piece kept then = absurd then
 Keeps_Consumes (Some xs) (Some ys) (Some zs) piece kept then = sym kept ∙ then
 
 -- what is known of a file, after one of them was read
-log_of_set_same : (files : List OpenFile) (rank : ℕ) (file : OpenFile) → rank < length files
+log_of_set_same : (files : List LogFile) (rank : ℕ) (file : LogFile) → rank < length files
     → log_of (logs_of (set files rank file)) rank ≡ bytes_of file
 log_of_set_same files rank file within =
     let n = length-map files bytes_of in
     ap (λ (logs : List LogBytes). log_of logs rank) (map-set bytes_of files rank file)
     ∙ get_or-set_same (logs_of files) rank (bytes_of file) unknown (omega arith)
 
-log_of_set_other : (files : List OpenFile) (rank other : ℕ) (file : OpenFile) → other ≢ rank
+log_of_set_other : (files : List LogFile) (rank other : ℕ) (file : LogFile) → other ≢ rank
     → log_of (logs_of (set files rank file)) other ≡ log_of (logs_of files) other
 log_of_set_other files rank other file ne =
     ap (λ (logs : List LogBytes). log_of logs other) (map-set bytes_of files rank file)
     ∙ get_or-set_other (logs_of files) rank other (bytes_of file) unknown ne
 
-log_of_read : (files : List OpenFile) (rank : ℕ) (file : OpenFile) → rank < length files → file ≡ get_or files rank file
+log_of_read : (files : List LogFile) (rank : ℕ) (file : LogFile) → rank < length files → file ≡ get_or files rank file
     → log_of (logs_of files) rank ≡ bytes_of file
 log_of_read files rank file within is = list.get_or-map bytes_of files rank file unknown within ∙ ap bytes_of (sym is)
 
--- a file that was not seen to end was read
-pub OthersEnded_read : (unended : List ℕ) (files : List OpenFile) (rank : ℕ) (after : OpenFile) → Contains unended rank
-    → OthersEnded unended (logs_of files) → OthersEnded unended (logs_of (set files rank after))
-OthersEnded_read unended files rank after contained ended other within not =
+-- a file that was not read to its end was read
+pub OthersEnded_read : (unended : List ℕ) (files : List LogFile) (rank : ℕ) (after : LogFile) → Contains unended rank
+    → OthersEnded unended files → OthersEnded unended (set files rank after)
+OthersEnded_read unended files rank after contained ended other d within not =
     elim (cases_eq other rank) [
       | inl same ↦ absurd (not (subst (λ (r : ℕ). Contains unended r) (sym same) contained))
       | inr ne ↦
-          subst (λ (log : LogBytes). IsAtEnd log.left) (sym (log_of_set_other files rank other after ne))
-          (ended other (omega (arith, length-map files bytes_of, length-map (set files rank after) bytes_of, length-set files rank after)) not)
+          subst (λ (file : LogFile). file.progress ≡ Ended) (sym (get_or-set_other files rank other after d ne))
+          (ended other d (omega (arith, length-set files rank after)) not)
     ]
 
--- a file was seen to end
-pub OthersEnded_end : (unended : List ℕ) (files : List OpenFile) (index rank : ℕ) (after : OpenFile) → index < length unended
-    → rank ≡ get_or unended index rank → rank < length files → IsAtEnd after.left
-    → OthersEnded unended (logs_of files) → OthersEnded (remove unended index) (logs_of (set files rank after))
-OthersEnded_end unended files index rank after there is rank_there at_end ended other within not =
+-- a file was read to its end
+pub OthersEnded_end : (unended : List ℕ) (files : List LogFile) (index rank : ℕ) (after : LogFile) → index < length unended
+    → rank ≡ get_or unended index rank → rank < length files → after.progress ≡ Ended
+    → OthersEnded unended files → OthersEnded (remove unended index) (set files rank after)
+OthersEnded_end unended files index rank after there is rank_there at_end ended other d within not =
     elim (cases_eq other rank) [
       | inl same ↦
-          subst (λ (log : LogBytes). IsAtEnd log.left)
-          (sym (ap (λ (r : ℕ). log_of (logs_of (set files rank after)) r) same ∙ log_of_set_same files rank after rank_there)) at_end
+          subst (λ (file : LogFile). file.progress ≡ Ended)
+          (sym (ap (λ (r : ℕ). get_or (set files rank after) r d) same ∙ get_or-set_same files rank after d rank_there)) at_end
       | inr ne ↦
-          subst (λ (log : LogBytes). IsAtEnd log.left) (sym (log_of_set_other files rank other after ne))
-          (ended other (omega (arith, length-map files bytes_of, length-map (set files rank after) bytes_of, length-set files rank after))
+          subst (λ (file : LogFile). file.progress ≡ Ended) (sym (get_or-set_other files rank other after d ne))
+          (ended other d (omega (arith, length-set files rank after))
           (λ contained. not (Contains_remove unended index other there (λ e. ne (e ∙ get_or_default unended index other rank there ∙ sym is)) contained)))
     ]
 
-pub names_of_set : (files : List OpenFile) (rank : ℕ) (before after : OpenFile) → before ≡ get_or files rank before
+pub names_of_set : (files : List LogFile) (rank : ℕ) (before after : LogFile) → before ≡ get_or files rank before
     → after.name ≡ before.name → names_of (set files rank after) ≡ names_of files
 names_of_set files rank before after is same =
-    map-set_same (λ (file : OpenFile). file.name) files rank after before (same ∙ ap (λ (file : OpenFile). file.name) is)
+    map-set_same (λ (file : LogFile). file.name) files rank after before (same ∙ ap (λ (file : LogFile). file.name) is)
 
 -- nothing is known of the bytes taken of files
-none_taken : (files : List OpenFile) (rank : ℕ) → (log_of (logs_of files) rank).taken ≡ None
-none_taken files rank = ap (λ (log : LogBytes). log.taken) (get_or-map bytes_of files rank (record { name = []; left = None }))
+none_taken : (files : List LogFile) (rank : ℕ) → (log_of (logs_of files) rank).taken ≡ None
+none_taken files rank = ap (λ (log : LogBytes). log.taken) (get_or-map bytes_of files rank (record { name = []; progress = Closed }))
 
 Stays_left : (before after : LogBytes) → before.taken ≡ None → after.taken ≡ None → Keeps before.left after.left → Stays before after
 Stays_left before after b a kept = record {
@@ -102,8 +118,8 @@ Stays_left before after b a kept = record {
 }
 
 -- a file was read, and nothing was taken of it
-pub NothingTaken_read : (initial files : List OpenFile) (rank : ℕ) (before after : OpenFile) → rank < length files
-    → before ≡ get_or files rank before → after.name ≡ before.name → Keeps before.left after.left
+pub NothingTaken_read : (initial files : List LogFile) (rank : ℕ) (before after : LogFile) → rank < length files
+    → before ≡ get_or files rank before → after.name ≡ before.name → Keeps (left_of before.progress) (left_of after.progress)
     → NothingTaken initial files → NothingTaken initial (set files rank after)
 NothingTaken_read initial files rank before after within is same kept nothing = record {
   same_files = length-set files rank after ∙ nothing.same_files;
@@ -115,7 +131,7 @@ NothingTaken_read initial files rank before after within is same kept nothing = 
         | inl e ↦
             subst (λ (r : ℕ). Keeps (log_of (logs_of files) r).left (log_of (logs_of (set files rank after)) r).left) (sym e)
             (subst (λ (log : LogBytes). Keeps log.left (log_of (logs_of (set files rank after)) rank).left) (sym (log_of_read files rank before within is))
-            (subst (λ (log : LogBytes). Keeps before.left log.left) (sym (log_of_set_same files rank after within)) kept))
+            (subst (λ (log : LogBytes). Keeps (left_of before.progress) log.left) (sym (log_of_set_same files rank after within)) kept))
         | inr ne ↦
             subst (λ (log : LogBytes). Keeps (log_of (logs_of files) other).left log.left) (sym (log_of_set_other files rank other after ne))
             (Keeps_same (log_of (logs_of files) other).left)
@@ -123,8 +139,8 @@ NothingTaken_read initial files rank before after within is same kept nothing = 
 }
 
 -- a file was read, and this piece was taken of it
-pub TakesFrom_read : (initial files : List OpenFile) (rank : ℕ) (piece : List ℕ) (before after : OpenFile) → rank < length files
-    → before ≡ get_or files rank before → Consumes before.left after.left piece
+pub TakesFrom_read : (initial files : List LogFile) (rank : ℕ) (piece : List ℕ) (before after : LogFile) → rank < length files
+    → before ≡ get_or files rank before → Consumes (left_of before.progress) (left_of after.progress) piece
     → NothingTaken initial files → TakesFrom rank piece (logs_of initial) (logs_of (set files rank after))
 TakesFrom_read initial files rank piece before after within is consumes nothing = record {
   takes = record {
@@ -133,7 +149,7 @@ TakesFrom_read initial files rank piece before after within is consumes nothing 
         (sym (none_taken (set files rank after) rank)) tt;
     left =
         subst (λ (log : LogBytes). Consumes (log_of (logs_of initial) rank).left log.left piece) (sym (log_of_set_same files rank after within))
-        (Keeps_Consumes _ before.left _ piece
+        (Keeps_Consumes _ (left_of before.progress) _ piece
         (subst (λ (log : LogBytes). Keeps (log_of (logs_of initial) rank).left log.left) (log_of_read files rank before within is) (nothing.stay rank).left)
         consumes);
   };
@@ -142,19 +158,60 @@ TakesFrom_read initial files rank piece before after within is consumes nothing 
 }
 
 -- one more file was opened
-pub OthersEnded_open : (unended : List ℕ) (files : List OpenFile) (file : OpenFile) → OthersEnded unended (logs_of files)
-    → OthersEnded (unended ++ length files ∷ []) (logs_of (files ++ file ∷ []))
-OthersEnded_open unended files file ended rank within not =
-    let n = length-map files bytes_of in
-    let m = length-map (files ++ file ∷ []) bytes_of in
+pub OthersEnded_open : (unended : List ℕ) (files : List LogFile) (file : LogFile) → OthersEnded unended files
+    → OthersEnded (unended ++ length files ∷ []) (files ++ file ∷ [])
+OthersEnded_open unended files file ended rank d within not =
     let l = length-append files (file ∷ []) in
     elim (cases_lt rank (length files)) [
       | inl old ↦
-          subst (λ (log : LogBytes). IsAtEnd log.left)
-          (sym (ap (λ (logs : List LogBytes). log_of logs rank) (map_push bytes_of files file)
-          ∙ get_or_append_left (logs_of files) (bytes_of file ∷ []) unknown rank (omega arith)))
-          (ended rank (omega arith) (λ contained. not (Contains-append_left unended (length files ∷ []) rank contained)))
+          subst (λ (log : LogFile). log.progress ≡ Ended) (sym (get_or_append_left files (file ∷ []) d rank old))
+          (ended rank d old (λ contained. not (Contains-append_left unended (length files ∷ []) rank contained)))
       | inr new ↦ absurd (not (subst (λ (r : ℕ). Contains (unended ++ length files ∷ []) r) (omega arith) (Contains-push unended (length files))))
+    ]
+
+-- at most one file is open, where none is but the first that is still to be read
+pub OneOpen_one : (unended : List ℕ) (files : List LogFile) → OneOpen unended files → AreOneByOne files
+OneOpen_one unended files one rank other d within within_other is_open is_open_other =
+    let first = one rank d within is_open in
+    let second = one other d within_other is_open_other in
+    sym first.1 ∙ get_or_default unended 0 rank other first.0 ∙ second.1
+
+pub OneOpen_read : (unended : List ℕ) (files : List LogFile) (rank : ℕ) (after : LogFile) → 0 < length unended → get_or unended 0 rank ≡ rank
+    → OneOpen unended files → OneOpen unended (set files rank after)
+OneOpen_read unended files rank after some first one other d within is_open =
+    elim (cases_eq other rank) [
+      | inl same ↦ (some, subst (λ (r : ℕ). get_or unended 0 r ≡ r) (sym same) first)
+      | inr ne ↦
+          one other d (omega (arith, length-set files rank after))
+          (subst (λ (file : LogFile). IsOpen file.progress) (get_or-set_other files rank other after d ne) is_open)
+    ]
+
+pub OneOpen_end : (unended : List ℕ) (files : List LogFile) (rank : ℕ) (after : LogFile) → 0 < length unended → get_or unended 0 rank ≡ rank
+    → rank < length files → after.progress ≡ Ended → OneOpen unended files → OneOpen (remove unended 0) (set files rank after)
+OneOpen_end unended files rank after some first there at_end one other d within is_open =
+    elim (cases_eq other rank) [
+      | inl same ↦
+          absurd (subst (λ (progress : Progress). IsOpen progress)
+          (ap (λ (file : LogFile). file.progress) (ap (λ (r : ℕ). get_or (set files rank after) r d) same ∙ get_or-set_same files rank after d there) ∙ at_end) is_open)
+      | inr ne ↦
+          let was = one other d (omega (arith, length-set files rank after))
+          (subst (λ (file : LogFile). IsOpen file.progress) (get_or-set_other files rank other after d ne) is_open) in
+          absurd (ne (sym was.1 ∙ get_or_default unended 0 other rank some ∙ first))
+    ]
+
+pub OneOpen_open : (unended : List ℕ) (files : List LogFile) (file : LogFile) → file.progress ≡ Closed → OneOpen unended files
+    → OneOpen (unended ++ length files ∷ []) (files ++ file ∷ [])
+OneOpen_open unended files file closed one rank d within is_open =
+    let l = length-append files (file ∷ []) in
+    let m = length-append unended (length files ∷ []) in
+    elim (cases_lt rank (length files)) [
+      | inl old ↦
+          let was = one rank d old (subst (λ (log : LogFile). IsOpen log.progress) (get_or_append_left files (file ∷ []) d rank old) is_open) in
+          (omega arith, get_or_append_left unended (length files ∷ []) rank 0 was.0 ∙ was.1)
+      | inr new ↦
+          let last : rank ≡ length files = omega arith in
+          absurd (subst (λ (progress : Progress). IsOpen progress)
+          (ap (λ (log : LogFile). log.progress) (get_or_push files file d rank (sym last)) ∙ closed) is_open)
     ]
 
 -- a read that gave no bytes
@@ -164,7 +221,7 @@ Keeps_nothing (Some xs) None n room zero consumed = consumed
 Keeps_nothing (Some xs) (Some ys) n room zero consumed = sym (consumed ∙ ap (λ m. take m room ++ ys) zero)
 
 -- the ranks not seen to end are ranks of files
-pub ranks_read : (unended : List ℕ) (files : List OpenFile) (rank : ℕ) (after : OpenFile) → All (λ r. r < length files) unended
+pub ranks_read : (unended : List ℕ) (files : List LogFile) (rank : ℕ) (after : LogFile) → All (λ r. r < length files) unended
     → All (λ r. r < length (set files rank after)) unended
 ranks_read unended files rank after ranks k d l = omega (arith, ranks k d l, length-set files rank after)
 
@@ -176,7 +233,7 @@ ranks_remove unended n index there ranks k d l =
       | inr after ↦ subst (λ r. r < n) (sym (get_or-remove_above unended index d k after there)) (ranks (k + 1) d (omega arith))
     ]
 
-pub ranks_open : (unended : List ℕ) (files : List OpenFile) (file : OpenFile) → All (λ r. r < length files) unended
+pub ranks_open : (unended : List ℕ) (files : List LogFile) (file : LogFile) → All (λ r. r < length files) unended
     → All (λ r. r < length (files ++ file ∷ [])) (unended ++ length files ∷ [])
 ranks_open unended files file ranks =
     let n = length-append files (file ∷ []) in

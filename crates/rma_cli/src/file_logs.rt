@@ -1,11 +1,12 @@
 //! Files as the logs of a run.
-ghost use Rattle.std.specs.Prelude.{◌≡◌, ◌+◌, ◌^◌, ◌<◌, ◌≤◌, [], ◌∷◌, ◌++◌, vec_len, vec_capacity, length, IfErr, OnOk, OnErr};
+ghost use Rattle.std.specs.Prelude.{◌≡◌, ◌+◌, ◌^◌, ◌<◌, ◌≤◌, false, vec_len, vec_capacity, length, IfOk, IfErr, OnOk, OnErr};
 ghost use Rattle.std.proofs.Common.{sym, ◌∙◌};
 ghost use Rattle.std.proofs.lemmas.List.{length-map};
 ghost use Rattle.rma_io.specs.Count.{raised};
 ghost use Rattle.std.specs.Io.{ReadsAtMost};
 ghost use Rattle.std.specs.Io.KnownBytes.{ReadConsumes};
-ghost use Rattle.rma_cli.specs.Files.{no_files};
+ghost use Rattle.rma_cli.specs.Files.{unopened, IsJustOpened};
+ghost use Rattle.rma_cli.specs.inside.Files.{progress_of};
 
 use rma_io::{Failed, Logs, OpenFault, Pull, Pulls};
 use std::alloc::{AllocError, Global};
@@ -17,69 +18,180 @@ use std::rt::Files;
 /// The most bytes that one read of a file takes.
 const CHUNK: usize = 65_536;
 
-/// An open file.
+/// The most files that stay open together.
+const OPEN: usize = 256;
+
+/// How far the file of a log is read.
+#[derive(Drop)]
+enum Reading<F: Read + Drop> {
+    /// It is open.
+    Open(F),
+    /// It was opened once, as a test, and is closed until the log is read.
+    Closed,
+    /// It was read to its end, and is closed.
+    Ended,
+}
+
+/// A log.
 #[derive(Drop)]
 struct LogFile<F: Read + Drop> {
+    // The name of its file.
     name: String,
-    file: F,
+    // How far that is read.
+    file: Reading<F>,
 }
 
 impl<F: Read + Drop> Model for LogFile<F> {
     ghost use Rattle.std.specs.Prelude.{string_bytes};
-    ghost use Rattle.rma_cli.specs.Files.{OpenFile};
+    ghost use Rattle.rma_cli.specs.Files as files;
+    ghost use Rattle.rma_cli.specs.inside.Files.{progress_of};
 
-    ghost Value = { OpenFile };
+    ghost Value = { files.LogFile };
 
-    ghost view = { λ s. record { name = string_bytes s.name; left = F.remaining s.file } };
+    ghost view = { λ s. record { name = string_bytes s.name; progress = progress_of F.remaining s.file } };
 }
 
-impl<F: Read + Drop> LogFile<F> {
-    /// Reads at most one chunk, and counts a read that failed.
-    fn read(&mut self, room: &mut [u8], faults: &mut u64) -> Result<usize, Failed>
-        ensures bound { ReadsAtMost result room.new }
-        ensures bytes { ReadConsumes self.old.left self.new.left result room.new }
-        ensures name { self.new.name ≡ self.old.name }
-        ensures counted { OnErr result (faults.new ≡ raised faults.old 1) }
-        ensures not_counted { OnOk result (faults.new ≡ faults.old) }
-    {
-        let most = room.len().min(CHUNK);
-        match self.file.read(&mut room[..most]) {
-            Ok(len) => Ok(len),
-            Err(_) => {
-                *faults = faults.saturating_add(1);
-                Err(Failed)
-            }
+/// Counts one more fault.
+fn count(faults: &mut u64)
+    ensures { faults.new ≡ raised faults.old 1 }
+{
+    *faults = faults.saturating_add(1);
+}
+
+/// Opens a file, and counts an open that failed.
+///
+/// # Errors
+///
+/// `Failed` where the file could not be opened, for whatever reason.
+fn opened<R: Files>(system: &R, name: &str, faults: &mut u64) -> Result<R::File, Failed>
+    ensures counted { OnErr result (faults.new ≡ raised faults.old 1) }
+    ensures not_counted { OnOk result (faults.new ≡ faults.old) }
+{
+    match fs::open(system, name) {
+        Ok(file) => Ok(file),
+        Err(_) => {
+            count(faults);
+            Err(Failed)
         }
     }
 }
 
-/// Files that are read in chunks, one after the other, in the order of their names.
+/// Reads at most one chunk of a file, and counts a read that failed.
+///
+/// # Errors
+///
+/// `Failed` where the file could not be read: nothing was taken of it.
+fn read_chunk<F: Read>(file: &mut F, room: &mut [u8], faults: &mut u64) -> Result<usize, Failed>
+    ensures bound { ReadsAtMost result room.new }
+    ensures bytes { ReadConsumes (F.remaining file.old) (F.remaining file.new) result room.new }
+    ensures counted { OnErr result (faults.new ≡ raised faults.old 1) }
+    ensures not_counted { OnOk result (faults.new ≡ faults.old) }
+{
+    let most = room.len().min(CHUNK);
+    match file.read(&mut room[..most]) {
+        Ok(len) => Ok(len),
+        Err(_) => {
+            count(faults);
+            Err(Failed)
+        }
+    }
+}
+
+impl<F: Read + Drop> LogFile<F> {
+    ghost use Rattle.rma_cli.specs.Files.{left_of, IsOpen};
+    ghost use Rattle.rma_cli.specs.Files as files;
+    ghost use Rattle.rma_cli.specs.inside.Files.{IsReadToEnd};
+
+    /// Reads at most one chunk, and counts what failed. A file that is closed is opened for it, and then stays open.
+    ///
+    /// # Errors
+    ///
+    /// `Failed` where the file could not be opened or read: nothing was taken of the log.
+    fn read<R: Files<File = F>>(
+        &mut self,
+        system: &R,
+        room: &mut [u8],
+        faults: &mut u64,
+    ) -> Result<usize, Failed>
+        ensures bound { ReadsAtMost result room.new }
+        ensures bytes { ReadConsumes (left_of self.old.progress) (left_of self.new.progress) result room.new }
+        ensures open { IfOk result (λ len. 0 < len → IsOpen self.new.progress) }
+        ensures end { IfOk result (λ len. len ≡ 0 → 0 < length room.new → IsReadToEnd self.new.progress) }
+        ensures name { self.new.name ≡ self.old.name }
+        ensures counted { OnErr result (faults.new ≡ raised faults.old 1) }
+        ensures not_counted { OnOk result (faults.new ≡ faults.old) }
+    {
+        match &mut self.file {
+            Reading::Open(file) => read_chunk(file, room, faults),
+            Reading::Closed => self.read_first(system, room, faults),
+            Reading::Ended => Ok(0),
+        }
+    }
+
+    /// Opens a file that is closed, and reads at most one chunk of it.
+    ///
+    /// # Errors
+    ///
+    /// As [`LogFile::read`].
+    fn read_first<R: Files<File = F>>(
+        &mut self,
+        system: &R,
+        room: &mut [u8],
+        faults: &mut u64,
+    ) -> Result<usize, Failed>
+        requires { self.old.progress ≡ files.Closed }
+        ensures bound { ReadsAtMost result room.new }
+        ensures open { OnOk result (IsOpen self.new.progress) }
+        ensures end { IfOk result (λ len. len ≡ 0 → 0 < length room.new → IsReadToEnd self.new.progress) }
+        ensures name { self.new.name ≡ self.old.name }
+        ensures counted { OnErr result (faults.new ≡ raised faults.old 1) }
+        ensures not_counted { OnOk result (faults.new ≡ faults.old) }
+    {
+        let mut file = opened(system, &self.name, faults)?;
+        let answer = read_chunk(&mut file, room, faults);
+        self.file = Reading::Open(file);
+        answer
+    }
+
+    /// Closes a file that was read to its end.
+    fn close(&mut self)
+        requires { IsReadToEnd self.old.progress }
+        ensures { self.new ≡ record self.old { progress = files.Ended } }
+    {
+        self.file = Reading::Ended;
+    }
+}
+
+/// Files that are read in chunks: up to 256 in turns, in the order of their names, and more one after the other.
 #[derive(Drop)]
 pub struct FileLogs<R: Files + Drop> {
     system: R,
     alloc: Global,
-    // The open file of each rank.
+    // Whether files are read in turns, and stay open until they end. Else one file is open at a time.
+    in_turns: bool,
+    // The log of each rank.
     files: Vec<LogFile<R::File>>,
-    // The ranks whose files were not seen to end, in order, and the index of the next one to read.
+    // The ranks whose files were not read to their ends, in order, and the index of the next one to read.
     unended: Vec<u32>,
     next: usize,
     // The name last refused.
     refused: Option<String>,
     // How many bytes were read of all files.
     taken: u64,
+    // How often a file could not be opened or read.
     faults: u64,
 }
 
 impl<R: Files + Drop> Model for FileLogs<R> {
-    ghost use Rattle.std.specs.Prelude.{◌<◌, length, option_map, string_bytes, All};
-    ghost use Rattle.rma_cli.specs.Files.{Files, logs_of};
-    ghost use Rattle.rma_cli.specs.inside.Files.{OthersEnded};
+    ghost use Rattle.std.specs.Prelude.{◌≡◌, ◌<◌, false, length, option_map, string_bytes, All};
+    ghost use Rattle.rma_cli.specs.Files.{Files};
+    ghost use Rattle.rma_cli.specs.inside.Files.{OthersEnded, OneOpen};
 
     ghost Value = { Files };
 
     ghost view = { λ s. record {
+      in_turns = s.in_turns;
       files = s.files.items;
-      unended = s.unended.items;
       refused = option_map string_bytes s.refused;
       taken = s.taken;
       faults = s.faults;
@@ -87,19 +199,22 @@ impl<R: Files + Drop> Model for FileLogs<R> {
 
     ghost invariant = { λ s. record {
       ranks : All (λ rank. rank < length s.files.items) s.unended.items;
-      ended : OthersEnded s.unended.items (logs_of s.files.items);
+      ended : OthersEnded s.unended.items s.files.items;
       next : 0 < s.next → s.next < length s.unended.items;
+      first : s.in_turns ≡ false → s.next ≡ 0;
+      one : s.in_turns ≡ false → OneOpen s.unended.items s.files.items;
     } };
 }
 
 impl<R: Files + Drop> FileLogs<R> {
-    /// No file is opened yet.
-    pub fn new(system: R, alloc: Global) -> Self
-        ensures { result ≡ no_files }
+    /// No file is opened yet. `names` is how many will be at most: up to 256 are read in turns, and more one after the other.
+    pub fn new(system: R, alloc: Global, names: usize) -> Self
+        ensures { result ≡ unopened names }
     {
         FileLogs {
             system,
             alloc,
+            in_turns: names <= OPEN,
             files: Vec::new(alloc),
             unended: Vec::new(alloc),
             next: 0,
@@ -135,9 +250,33 @@ fn wrapped(index: usize, len: usize) -> usize
     if index < len { index } else { 0 }
 }
 
+/// The index of the file to read after some bytes of this one came: in turns the next one, and else the same.
+fn index_after(index: usize, in_turns: bool, len: usize) -> usize
+    requires { index < len }
+    ensures same { in_turns ≡ false → result ≡ index }
+    ensures within { 0 < result → result < len }
+{
+    if in_turns {
+        wrapped(index + 1, len)
+    } else {
+        index
+    }
+}
+
+/// A file that was just opened: in turns it stays open, and else it is closed.
+fn kept<F: Read + Drop>(in_turns: bool, file: F) -> Reading<F>
+    ensures { IsJustOpened in_turns (progress_of F.remaining result) }
+{
+    if in_turns {
+        Reading::Open(file)
+    } else {
+        Reading::Closed
+    }
+}
+
 impl<R: Files + Drop> Pulls for FileLogs<R> {
     ghost use Rattle.std.specs.Prelude.{◌≡◌};
-    ghost use Rattle.rma_cli.specs.Files.{source_of, opened_of, SawEnds};
+    ghost use Rattle.rma_cli.specs.Files.{source_of, opened_of, SawEnds, AreOneByOne};
     ghost use Rattle.rma_io.specs.Source.{IsPulled};
 
     ghost source = { source_of };
@@ -150,16 +289,19 @@ impl<R: Files + Drop> Pulls for FileLogs<R> {
         ensures pulled { IsPulled (source_of self.old) room.new result (source_of self.new) }
         ensures stays { opened_of self.new ≡ opened_of self.old }
         ensures ends { SawEnds result self.new }
+        ensures order { self.new.in_turns ≡ self.old.in_turns }
+        ensures one { self.new.in_turns ≡ false → AreOneByOne self.new.files }
     {
         while self.next < self.unended.len() {
             let rank = self.unended[self.next];
             let file = &mut self.files[rank as usize];
-            match file.read(room, &mut self.faults) {
+            match file.read(&self.system, room, &mut self.faults) {
                 Ok(0) => {
+                    file.close();
                     let _ = self.unended.remove(self.next);
                 }
                 Ok(len) => {
-                    self.next = wrapped(self.next + 1, self.unended.len());
+                    self.next = index_after(self.next, self.in_turns, self.unended.len());
                     self.taken += len as u64;
                     return Ok(Pull::Bytes { rank, len });
                 }
@@ -172,7 +314,7 @@ impl<R: Files + Drop> Pulls for FileLogs<R> {
 }
 
 impl<R: Files + Drop> Logs for FileLogs<R> {
-    ghost use Rattle.rma_cli.specs.Files.{source_of, opened_of, bytes_of};
+    ghost use Rattle.rma_cli.specs.Files.{source_of, opened_of, bytes_of, AddsFile, AreOneByOne};
     ghost use Rattle.rma_io.specs.Source.{IsOpened};
 
     ghost opened = { opened_of };
@@ -180,8 +322,10 @@ impl<R: Files + Drop> Logs for FileLogs<R> {
     fn open(&mut self, name: &str) -> Result<(), OpenFault>
         requires few { length self.old.files + 1 < 2 ^ 32 }
         ensures opened { IsOpened (source_of self.old) (opened_of self.old) name.now result (source_of self.new) (opened_of self.new) }
-        ensures unended { OnOk result (self.new.unended ≡ self.old.unended ++ length self.old.files ∷ []) }
-        ensures kept { OnErr result (self.new.unended ≡ self.old.unended) }
+        ensures added { OnOk result (AddsFile self.old self.new) }
+        ensures kept { OnErr result (self.new.files ≡ self.old.files) }
+        ensures order { self.new.in_turns ≡ self.old.in_turns }
+        ensures one { self.new.in_turns ≡ false → AreOneByOne self.new.files }
     {
         let Ok(copy) = String::from_str(self.alloc, name) else {
             return Err(OpenFault::Memory);
@@ -191,13 +335,14 @@ impl<R: Files + Drop> Logs for FileLogs<R> {
         match fs::open(&self.system, name) {
             Ok(file) => {
                 let rank = self.files.len() as u32;
+                let file = kept(self.in_turns, file);
                 let _ = self.files.push(LogFile { name: copy, file });
                 let _ = self.unended.push(rank);
                 Ok(())
             }
             Err(error) if error.kind() == ErrorKind::OutOfMemory => Err(OpenFault::Memory),
             Err(_) => {
-                self.faults = self.faults.saturating_add(1);
+                count(&mut self.faults);
                 self.refused = Some(copy);
                 Err(OpenFault::Failed)
             }
@@ -212,6 +357,7 @@ impl<R: Files + Drop> Logs for FileLogs<R> {
 #[cfg(test)]
 mod tests {
     use super::*;
+    use std::ops::Range;
     use std::process::Abort;
     use std::test::Fail;
 
@@ -226,19 +372,26 @@ mod tests {
         logs.pull(room)
     }
 
+    fn open(
+        rt: &impl Abort,
+        logs: &mut FileLogs<HostRuntime>,
+        name: &str,
+    ) -> Result<(), OpenFault> {
+        assert!(rt; logs.files.len() < 1 << 20);
+        logs.open(name)
+    }
+
     #[test]
     fn files_are_read_chunk_by_chunk_in_turn(rt: HostRuntime) -> Result<(), Fail> {
         fs::write(&rt, "short", "abc")?;
         fs::write(&rt, "empty", "")?;
         let text = vec![in rt.alloc(); b'x'; CHUNK + 2]?;
         fs::write(&rt, "long", text.as_slice())?;
-        let mut logs = FileLogs::new(rt, rt.alloc());
+        let mut logs = FileLogs::new(rt, rt.alloc(), OPEN);
         for name in ["short", "empty", "long", "short"] {
-            assert!(rt; logs.files.len() < 4);
-            assert_eq!(rt; logs.open(name), Ok(()));
+            assert_eq!(rt; open(&rt, &mut logs, name), Ok(()));
         }
-        assert!(rt; logs.files.len() < 5);
-        assert_eq!(rt; logs.open("absent"), Err(OpenFault::Failed));
+        assert_eq!(rt; open(&rt, &mut logs, "absent"), Err(OpenFault::Failed));
         assert_eq!(rt; logs.faults, 1);
         let mut room = vec![in rt.alloc(); b'.'; CHUNK + 9]?;
         for (rank, len) in [(0, 3), (2, CHUNK), (3, 3), (2, 2)] {
@@ -248,11 +401,40 @@ mod tests {
         assert!(rt; room.as_slice().starts_with(b"xxc"));
         let answer = pulled(&rt, &mut logs, room.as_mut_slice());
         assert_eq!(rt; answer, Ok(Pull::Done));
-        assert!(rt; logs.files.len() < 5);
-        assert_eq!(rt; logs.open("."), Ok(()));
+        assert_eq!(rt; open(&rt, &mut logs, "."), Ok(()));
         let answer = pulled(&rt, &mut logs, room.as_mut_slice());
         assert_eq!(rt; answer, Err(Failed));
         assert_eq!(rt; logs.faults, 2);
+        Ok(())
+    }
+
+    /// Reads the three bytes of these logs, two of them at once.
+    fn read_logs(rt: &impl Abort, logs: &mut FileLogs<HostRuntime>, ranks: Range<u32>) {
+        let mut room = [0; 2];
+        for rank in ranks {
+            for len in [2, 1] {
+                let answer = pulled(rt, logs, &mut room);
+                assert_eq!(rt; answer, Ok(Pull::Bytes { rank, len }));
+            }
+        }
+    }
+
+    #[test]
+    fn many_files_are_read_one_after_the_other(rt: HostRuntime) -> Result<(), Fail> {
+        let mut logs = FileLogs::new(rt, rt.alloc(), 300);
+        for rank in 0..300 {
+            let name = format!(in rt.alloc(); "{rank}")?;
+            fs::write(&rt, name.as_str(), "abc")?;
+            assert_eq!(rt; open(&rt, &mut logs, name.as_str()), Ok(()));
+        }
+        assert_eq!(rt; open(&rt, &mut logs, "absent"), Err(OpenFault::Failed));
+        read_logs(&rt, &mut logs, 0..200);
+        fs::remove_file(&rt, "200")?;
+        assert_eq!(rt; pulled(&rt, &mut logs, &mut [0]), Err(Failed));
+        assert_eq!(rt; logs.faults, 2);
+        fs::write(&rt, "200", "abc")?;
+        read_logs(&rt, &mut logs, 200..300);
+        assert_eq!(rt; pulled(&rt, &mut logs, &mut [0]), Ok(Pull::Done));
         Ok(())
     }
 }

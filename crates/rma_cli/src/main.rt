@@ -15,7 +15,7 @@ use file_logs::FileLogs;
 use rma_audit::{Status, run};
 use standard_output::StandardOutput;
 use std::process::ExitCode;
-use word::words_given;
+use word::{names_in, words_given};
 
 /// The answer to the words of the command line.
 fn answer(rt: HostRuntime) -> Status {
@@ -23,7 +23,7 @@ fn answer(rt: HostRuntime) -> Status {
         Ok(words) => words,
         Err(status) => return status,
     };
-    let mut logs = FileLogs::new(rt, rt.alloc());
+    let mut logs = FileLogs::new(rt, rt.alloc(), names_in(&words));
     let mut output = StandardOutput::new(rt.stdout(), rt);
     run(rt.alloc(), words.as_slice(), &mut logs, &mut output)
 }

@@ -1,5 +1,10 @@
 //! The words of the command line.
+ghost use Rattle.std.specs.Prelude.{◌≡◌, ◌⊎◌, length, map, string_bytes};
+ghost use Rattle.rma_command.specs.Words as asked;
+ghost use Rattle.rma_command.specs.Words.{IsAudit, AreFaulty};
+
 use rma_audit::Status;
+use rma_command::Command;
 use std::alloc::Global;
 use std::env::{Env, FillError};
 
@@ -41,4 +46,14 @@ fn word_at<R: Env>(rt: &R, alloc: Global, index: usize) -> Result<Option<String>
         }
     }
     Err(Status::Memory)
+}
+
+/// How many logs the words name; none where they are no command.
+pub fn names_in(words: &[String]) -> usize
+    ensures { AreFaulty (map string_bytes words.now) ⊎ ((command : asked.Command) × IsAudit (map string_bytes words.now) command × (result ≡ length command.names)) }
+{
+    match Command::of_words(words) {
+        Some(command) => command.names.len(),
+        None => 0,
+    }
 }
