@@ -1,5 +1,6 @@
 //! What the top call answers over sources and sinks in memory, with ample memory.
 use rma_audit::{Status, run};
+use rma_base::limits::RANKS;
 use rma_io::{MemoryLogs, MemorySink, SureLogs, SureSink};
 use std::alloc::{AllocError, Global};
 use std::process::Abort;
@@ -143,7 +144,7 @@ fn files(alloc: Global, logs: &[&str]) -> Result<Vec<(String, Vec<u8>)>, AllocEr
 fn byte_by_byte(alloc: Global, ranks: usize) -> Result<Vec<(u32, u32)>, AllocError> {
     let mut cuts = Vec::new(alloc);
     for _ in 0..300 {
-        for rank in 0..ranks.min(64) {
+        for rank in 0..ranks.min(RANKS) {
             cuts.push((rank as u32, 1))?;
         }
     }
@@ -215,7 +216,7 @@ fn check_cuts(
 /// The logs from the lowest rank, a byte of each in turn, and from the last rank.
 fn check_case(rt: &impl Abort, alloc: Global, case: &Case) -> Result<(), Fail> {
     let ranks = case.logs.len();
-    let last = ranks.saturating_sub(1).min(64) as u32;
+    let last = ranks.saturating_sub(1).min(RANKS) as u32;
     let each = byte_by_byte(alloc, ranks)?;
     check_cuts(rt, alloc, case, &[])?;
     check_cuts(rt, alloc, case, each.as_slice())?;

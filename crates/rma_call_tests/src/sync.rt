@@ -4,7 +4,7 @@ use rma_call::{
     Assertion, Assertions, CallList, EpochCall, FrameCall, MatchFault, MovingCall, RankCalls,
     SyncCall, What, WindowCall,
 };
-use rma_exposure::is_run;
+use rma_run::is_run;
 use rma_sync::match_faults;
 use std::alloc::Global;
 use std::process::Abort;

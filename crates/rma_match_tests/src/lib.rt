@@ -1,4 +1,4 @@
-//! Tests of how messages, and how posts and starts, match, through public calls: small runs with what is to be answered of each,
+//! Tests of how messages, posts and starts, and the calls of rounds, match, through public calls: small runs with what is to be answered of each,
 //! worked out by hand.
 #![tactic(auto)]
 
@@ -6,5 +6,7 @@
 mod exposure;
 #[cfg(test)]
 mod message;
+#[cfg(test)]
+mod round;
 #[cfg(test)]
 mod shorthand;
