@@ -10,7 +10,7 @@ A case is a file checks/cases/NAME.json with these members; all but shows, words
     logs        each name with the text of the log, or with a list of pairs [count, text], whose texts are repeated and
                 joined; in a text that is repeated {k} is the number of the copy, from 0, and {k:05} that in five digits
     each_rank   in place of logs: ranks, a number, and text, from which the log of each rank is made: {rank} and
-                {ranks} in it are filled in
+                {ranks} in it are filled in; but, which may be left out, gives the text of some ranks in its place
     fifos       the logs are FIFOs, into which their texts are written in pieces: pieces, the bytes of the pieces, which
                 are taken over and over, and pause, the seconds between two pieces
     output      where standard output goes: a file, or the words closed pipe; what is written there is not compared
@@ -44,8 +44,7 @@ class Case:
         self.seconds = members.get("seconds")
         self.wanted = members.get("stdout", "").encode(), members.get("stderr", "").encode(), members["status"]
         if "each_rank" in members:
-            ranks, text = members["each_rank"]["ranks"], members["each_rank"]["text"]
-            self.logs = {str(it): text.replace("{rank}", str(it)).replace("{ranks}", str(ranks)) for it in range(ranks)}
+            self.logs = logs_of_ranks(**members["each_rank"])
 
     def needs_the_proved_program(self):
         """Whether a run of the sources cannot show it: that has an output of its own, takes words that are UTF-8, and finds no
@@ -83,6 +82,12 @@ class Case:
                 if at >= len(text):
                     return
                 time.sleep(self.fifos["pause"])
+
+
+def logs_of_ranks(ranks, text, but=None):
+    """The log of each rank, from one text, but for some that have another."""
+    texts = {str(rank): text for rank in range(ranks)} | (but or {})
+    return {rank: text.replace("{rank}", rank).replace("{ranks}", str(ranks)) for rank, text in texts.items()}
 
 
 def pairs_of(log):
