@@ -112,10 +112,12 @@ impl Layout {
         }
     }
 
-    /// Whether no byte is touched.
+    /// Whether no byte is touched. The runs ascend, and each has a byte.
     pub fn is_empty(&self) -> bool
-        ensures { IsTrue result ↔ (self.now.runs ≡ []) }
+        ensures empty { IsTrue result ↔ (self.now.runs ≡ []) }
+        ensures in_order { IsCanonical self.now.runs }
     {
+        let _ = &self.stored;
         self.len() == 0
     }
 

@@ -1,9 +1,9 @@
 -- The calls of entries, with one more call or one more value in a table.
-use Rattle.std.proofs.Common.{◌≡◌, ℕ, zero, suc, ◌<◌, ◌≤◌, List, [], ◌∷◌, ◌++◌, length, map, get_or, Option, Some, None, IfSome, slice_get, refl, sym, ap, ◌∙◌, arith}
+use Rattle.std.proofs.Common.{◌≡◌, ℕ, zero, suc, ◌<◌, ◌≤◌, List, [], ◌∷◌, ◌++◌, length, map, get_or, Option, Some, None, IfSome, slice_get, refl, sym, ap, subst, ◌∙◌, arith}
 use Rattle.std.specs.Prelude.{option_map, All}
 use Rattle.std.specs.Option.{option_and_then}
 use Rattle.std.proofs.lemmas.List.{map-append, get_or_append_left}
-use Rattle.std.proofs.lemmas.Option.{get_or_from_slice_get, slice_get-get_or}
+use Rattle.std.proofs.lemmas.Option.{get_or_from_slice_get, slice_get-get_or, slice_get-map, slice_get_within, none-some}
 use Rattle.rma_call.specs.declared.what.What.{What}
 use Rattle.rma_call.specs.declared.call_list.Entry.{Entry}
 use Rattle.rma_call.specs.Call.{Call}
@@ -46,3 +46,20 @@ pub calls_with_call : (whats : List What) (sites : List (List ℕ)) (es : List E
 calls_with_call whats sites es e site value below is at =
     map-append (entry_call whats sites) es (e ∷ [])
     ∙ rw (is, site_of sites site below, get_or_from_slice_get whats e.what value beyond at)
+
+-- an entry has the number of what its call does
+entry_names : (whats : List What) (sites : List (List ℕ)) (es : List Entry) → All (IsBelow (length whats) (length sites)) es → (i : ℕ) (e : Entry) → slice_get es i ≡ Some e →
+    slice_get whats e.what ≡ option_map (λ call. call.what) (slice_get (entry_calls whats sites es) i)
+entry_names whats sites es below i e at =
+    slice_get-get_or whats e.what beyond (subst (IsBelow (length whats) (length sites)) (get_or_from_slice_get es i e e at) (below i e (slice_get_within es i e at))).0
+    ∙ sym (ap (option_map (λ call. call.what)) (slice_get-map (entry_call whats sites) es i ∙ ap (option_map (entry_call whats sites)) at))
+
+-- so each call has such a number
+pub each_is_named : (whats : List What) (sites : List (List ℕ)) (es : List Entry) → All (IsBelow (length whats) (length sites)) es → (i : ℕ) (call : Call) →
+    slice_get (entry_calls whats sites es) i ≡ Some call → (number : ℕ) × (slice_get whats number ≡ Some call.what)
+each_is_named whats sites es below i call at =
+    by (slice_get es i) refl
+  where
+    by : (found : Option Entry) → slice_get es i ≡ found → (number : ℕ) × (slice_get whats number ≡ Some call.what)
+    by (Some e) there = (e.what, entry_names whats sites es below i e there ∙ ap (option_map (λ c. c.what)) at)
+    by None there = absurd (none-some call (sym (slice_get-map (entry_call whats sites) es i ∙ ap (option_map (entry_call whats sites)) there) ∙ at))

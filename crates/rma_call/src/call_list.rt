@@ -1,8 +1,8 @@
 //! The calls of a rank, with each value that they share stated once.
-ghost use Rattle.std.specs.Prelude.{◌≡◌, ◌+◌, ◌<◌, ◌^◌, ◌++◌, [], ◌∷◌, length, slice_get, Some, IfSome, IfOk, OnOk, OnErr};
+ghost use Rattle.std.specs.Prelude.{◌≡◌, ◌+◌, ◌<◌, ◌^◌, ◌++◌, [], ◌∷◌, ℕ, length, slice_get, option_map, Some, IfSome, IfOk, OnOk, OnErr};
 ghost use Rattle.std.specs.Option.{option_and_then};
 ghost use Rattle.rma_call.specs.declared.what.What.{What};
-ghost use Rattle.rma_call.specs.Call.{no_calls, call_of, what_of};
+ghost use Rattle.rma_call.specs.Call.{Call, no_calls, call_of, what_of};
 ghost use Rattle.rma_call.specs.inside.CallList.{number_of};
 
 use crate::groups::{Groups, Place, next_number};
@@ -102,6 +102,24 @@ impl CallList {
             what: self.groups.get(self.places[entry.what as usize]),
             request: number_of(entry.request),
         }
+    }
+
+    /// The number of what the call at the index does.
+    #[inline]
+    pub fn what_number(&self, i: usize) -> u32
+        requires { i < length self.now.calls }
+        ensures within { result < length self.now.whats }
+        ensures what { slice_get self.now.whats result ≡ option_map (λ call. call.what) (slice_get self.now.calls i) }
+    {
+        self.entries[i].what
+    }
+
+    /// How many numbers there are of what calls do: one for each call that does something new. What each call does has one.
+    pub fn whats(&self) -> usize
+        ensures count { result ≡ length self.now.whats }
+        ensures each { (i : ℕ) (call : Call) → slice_get self.now.calls i ≡ Some call → (number : ℕ) × (slice_get self.now.whats number ≡ Some call.what) }
+    {
+        self.places.len()
     }
 
     /// What calls do that have this number.
