@@ -1,3 +1,4 @@
 pub mod Assertion
 pub mod Call
+pub mod Group
 pub mod inside

@@ -1,10 +1,12 @@
 //! The calls of a rank, with each value that they share stated once.
-ghost use Rattle.std.specs.Prelude.{◌≡◌, ◌+◌, ◌<◌, ◌^◌, ◌++◌, [], ◌∷◌, ℕ, length, slice_get, option_map, Some, IfSome, IfOk, OnOk, OnErr};
+ghost use Rattle.std.specs.Prelude.{◌≡◌, ◌+◌, ◌<◌, ◌^◌, ◌++◌, [], ◌∷◌, ℕ, length, slice_get, option_map, Some, false, IfSome, IfOk, OnOk, OnErr};
 ghost use Rattle.std.specs.Option.{option_and_then};
 ghost use Rattle.rma_call.specs.declared.what.What.{What};
 ghost use Rattle.rma_call.specs.Call.{Call, no_calls, call_of, what_of};
+ghost use Rattle.rma_call.specs.Group.{group_of};
 ghost use Rattle.rma_call.specs.inside.CallList.{number_of};
 
+use crate::group::Group;
 use crate::groups::{Groups, Place, next_number};
 use crate::what::{What, WhatRef};
 use rma_base::{LineNo, Memory, Site};
@@ -120,6 +122,13 @@ impl CallList {
         ensures each { (i : ℕ) (call : Call) → slice_get self.now.calls i ≡ Some call → (number : ℕ) × (slice_get self.now.whats number ≡ Some call.what) }
     {
         self.places.len()
+    }
+
+    /// Whether a call may be of the group: where not, none is.
+    pub fn has(&self, group: Group) -> bool
+        ensures { result ≡ false → (i : ℕ) (call : Call) → slice_get self.now.calls i ≡ Some call → group_of call.what ≡ group → ⊥ }
+    {
+        self.groups.len_of(group) != 0
     }
 
     /// What calls do that have this number.

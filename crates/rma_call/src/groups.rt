@@ -1,10 +1,11 @@
 //! Tables of what calls do, one for each group of calls.
 ghost use Rattle.std.specs.Prelude.{◌≡◌, ◌+◌, ◌<◌, ◌^◌, ◌++◌, ◌∷◌, [], length, IfOk, OnOk, OnErr};
 ghost use Rattle.rma_call.specs.Call.{what_of};
-ghost use Rattle.rma_call.specs.inside.Groups.{Grows, IsThere, what_at};
+ghost use Rattle.rma_call.specs.inside.Groups.{Grows, IsThere, what_at, len_of};
 
 use crate::epoch::EpochCall;
 use crate::frame::FrameCall;
+use crate::group::Group;
 use crate::local::LocalCall;
 use crate::message::MessageCall;
 use crate::moving::MovingCall;
@@ -49,6 +50,21 @@ impl Groups {
             movings: Vec::new(alloc),
             rmas: Vec::new(alloc),
             locals: Vec::new(alloc),
+        }
+    }
+
+    /// How much stands in the table of the group.
+    pub(crate) fn len_of(&self, group: Group) -> usize
+        ensures { result ≡ len_of self.now group }
+    {
+        match group {
+            Group::Frame => self.frames.len(),
+            Group::Message => self.messages.len(),
+            Group::Window => self.windows.len(),
+            Group::Epoch => self.epochs.len(),
+            Group::Moving => self.movings.len(),
+            Group::Rma => self.rmas.len(),
+            Group::Local => self.locals.len(),
         }
     }
 

@@ -1,5 +1,5 @@
 -- Tables of what calls do, one for each group of calls.
-use Rattle.std.specs.Prelude.{◌≡◌, ◌<◌, List, [], length, map, get_or, None, false}
+use Rattle.std.specs.Prelude.{◌≡◌, ◌<◌, ℕ, List, [], length, map, get_or, None, false}
 use Rattle.rma_call.specs.declared.frame.FrameCall.TheVariants.{Barrier}
 use Rattle.rma_call.specs.declared.message.MessageCall.TheVariants.{Wait}
 use Rattle.rma_call.specs.declared.window.WindowCall.TheVariants.{Free}
@@ -14,6 +14,8 @@ use Rattle.rma_call.specs.declared.local.LocalCall.{LocalCall}
 use Rattle.rma_call.specs.declared.local.LocalAccess.TheVariants.{Load}
 use Rattle.rma_bytes.specs.Layout.{Layout}
 use Rattle.rma_call.specs.declared.what.SyncCall.TheVariants as sync
+use Rattle.rma_call.specs.declared.group.Group.{Group}
+use Rattle.rma_call.specs.declared.group.Group.TheVariants as group
 use Rattle.rma_call.specs.declared.groups.Groups.{Groups}
 use Rattle.rma_call.specs.declared.groups.Place.{Place}
 use Rattle.rma_call.specs.declared.groups.Place.TheVariants.{Frame, Message, Window, Epoch, Moving, Rma, Local}
@@ -56,3 +58,13 @@ whats_at groups places = map (what_at groups) places
 -- each place keeps what stands there
 abbrev pub Grows : Groups → Groups → Type 0
 Grows old new = (place : Place) → IsThere old place → IsThere new place × (what_at new place ≡ what_at old place)
+
+-- how much stands in the table of a group
+abbrev pub len_of : Groups → Group → ℕ
+len_of groups group.Frame = length groups.frames.items
+len_of groups group.Message = length groups.messages.items
+len_of groups group.Window = length groups.windows.items
+len_of groups group.Epoch = length groups.epochs.items
+len_of groups group.Moving = length groups.movings.items
+len_of groups group.Rma = length groups.rmas.items
+len_of groups group.Local = length groups.locals.items
