@@ -1,4 +1,5 @@
 pub mod MatchLemmas
+pub mod NoMessageLemmas
 pub mod NumberLemmas
 pub mod NumberedLemmas
 pub mod ReceiveLemmas

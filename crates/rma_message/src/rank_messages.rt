@@ -3,7 +3,7 @@ ghost use Rattle.std.specs.Prelude.{◌≡◌, ◌≤◌, ◌++◌, [], ◌∷�
 ghost use Rattle.rma_base.specs.Limits.{fed_limit};
 ghost use Rattle.rma_call.specs.Call.{call_of};
 ghost use Rattle.rma_message.specs.Receive.{posted, waited};
-ghost use Rattle.rma_message.specs.RankMessages.{no_messages, sent_end, with_call, messages_by};
+ghost use Rattle.rma_message.specs.RankMessages.{no_messages, sent_end, with_call, with_calls, messages_by};
 
 use crate::end::End;
 use crate::key::Key;
@@ -11,7 +11,7 @@ use crate::receive::{Completion, Receive, complete};
 use indexmap::IndexMap;
 use rma_base::limits::FED;
 use rma_base::{LineNo, Memory, Name, Rank, Sequence};
-use rma_call::{CallRef, MessageCall, RankCalls, Received, WhatRef};
+use rma_call::{CallList, CallRef, Group, MessageCall, RankCalls, Received, WhatRef};
 use std::alloc::Global;
 use std::marker::Model;
 
@@ -67,10 +67,21 @@ impl RankMessages {
             return Err(Memory);
         }
         let mut messages = RankMessages::new(alloc, own.rank());
-        for i in 0..calls.len() {
-            messages.take(i as u32, calls.get(i))?;
+        if calls.has(Group::Message) {
+            messages.take_all(calls)?;
         }
         Ok(messages)
+    }
+
+    /// Takes all calls of a list, of which none is taken yet.
+    fn take_all(&mut self, calls: &CallList) -> Result<(), Memory>
+        requires { length calls.now.calls ≤ fed_limit }
+        ensures { OnOk result (self.new ≡ with_calls self.old 0 calls.now.calls) }
+    {
+        for i in 0..calls.len() {
+            self.take(i as u32, calls.get(i))?;
+        }
+        Ok(())
     }
 
     /// The rank.
