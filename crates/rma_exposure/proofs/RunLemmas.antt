@@ -1,11 +1,17 @@
 -- What is kept of a run, with more calls of a rank.
-use Rattle.std.proofs.Common.{◌≡◌, ℕ, zero, suc, ◌+◌, ◌<◌, ◌≤◌, Bool, true, false, cond, ◌∷◌, ◌++◌, List, [], length, Option, Some, None, nat_eq, take, refl, sym, subst, arith, ◌^◌}
+use Rattle.std.proofs.Common.{◌≡◌, ℕ, zero, suc, ◌+◌, ◌<◌, ◌≤◌, Bool, true, false, cond, ◌∷◌, ◌++◌, List, [], length, Option, Some, None, nat_eq, take, append_assoc, refl, sym, subst, arith, ◌^◌}
 use Rattle.std.specs.Prelude.{slice_get, IfSome}
 use Rattle.std.specs.Option.{option_and_then}
 use Rattle.rma_base.specs.Limits.{fed_limit}
 use Rattle.std.proofs.lemmas.Bool.{eqb-true}
 use Rattle.rma_base.specs.declared.rank.Rank.{Rank}
 use Rattle.rma_call.specs.Call.{Call, RankCalls}
+use Rattle.rma_call.specs.Group.{group_of}
+use Rattle.rma_call.specs.declared.group.Group.TheVariants as group
+use Rattle.rma_call.specs.declared.what.What.{What}
+use Rattle.rma_call.specs.declared.what.What.TheVariants.{Sync, Rma, Local}
+use Rattle.rma_call.specs.declared.what.SyncCall.TheVariants as sync
+use Rattle.rma_exposure.specs.declared.side.Side.TheVariants.{Exposure, Access}
 use Rattle.rma_exposure.specs.declared.rank_epochs.RankEpochs.{RankEpochs}
 use Rattle.rma_exposure.specs.inside.Epochs.{kept_of, IsOfRank, Represents}
 use Rattle.rma_exposure.specs.declared.side.Side.{Side}
@@ -35,6 +41,21 @@ Represents_same calls rank call exposures post wait start complete are other = b
     by true = IsOfRank_same (calls other) call (kept_of exposures.ranks.entries other) post wait start complete (are other)
     by false = are other
 
+-- a call of another group does not
+neither : (what : What) → (group_of what ≡ group.Epoch → ⊥) → (posted what ≡ None) × (waited what ≡ None) × (started what ≡ None) × (completed what ≡ None)
+neither (Sync (sync.Frame call)) other = (refl, refl, refl, refl)
+neither (Sync (sync.Message call)) other = (refl, refl, refl, refl)
+neither (Sync (sync.Window call)) other = (refl, refl, refl, refl)
+neither (Sync (sync.Epoch call)) other = absurd (other refl)
+neither (Sync (sync.Moving call)) other = (refl, refl, refl, refl)
+neither (Rma call) other = (refl, refl, refl, refl)
+neither (Local call) other = (refl, refl, refl, refl)
+
+-- so it opens no epoch of either side
+pub opens_none : (side : Side) (what : What) → (group_of what ≡ group.Epoch → ⊥) → opened side what ≡ None
+opens_none Exposure what other = (neither what other).0
+opens_none Access what other = (neither what other).2
+
 -- the same calls of each rank
 pub Represents_along : (f g : ℕ → List Call) (exposures : Exposures) → ((rank : ℕ) → f rank ≡ g rank) → Represents f exposures → Represents g exposures
 Represents_along f g exposures same are = λ rank. subst (λ calls. IsOfRank calls (kept_of exposures.ranks.entries rank)) (same rank) (are rank)
@@ -42,6 +63,20 @@ Represents_along f g exposures same are = λ rank. subst (λ calls. IsOfRank cal
 -- before the calls of a rank are taken
 pub Represents_begun : (calls : ℕ → List Call) (rank : ℕ) (exposures : Exposures) → Represents calls exposures → Represents (with_calls calls rank []) exposures
 Represents_begun calls rank exposures are = Represents_along calls (with_calls calls rank []) exposures (none_more calls rank) are
+
+-- with calls of other groups
+pub Represents_others : (own : List Call) (calls : ℕ → List Call) (rank : ℕ) (exposures : Exposures) → ((i : ℕ) (call : Call) → slice_get own i ≡ Some call → group_of call.what ≡ group.Epoch → ⊥) →
+    Represents calls exposures → Represents (with_calls calls rank own) exposures
+Represents_others [] calls rank exposures others are = Represents_begun calls rank exposures are
+Represents_others (call ∷ own) calls rank exposures others are =
+    let not = neither call.what (others 0 call refl) in
+    let one = Represents_same calls rank call exposures not.0 not.1 not.2 not.3 are in
+    Represents_along (with_calls (with_calls calls rank (call ∷ [])) rank own) (with_calls calls rank (call ∷ own)) exposures (λ other. by (nat_eq rank other) other)
+    (Represents_others own (with_calls calls rank (call ∷ [])) rank exposures (λ i c at. others (suc i) c at) one)
+  where
+    by : (b : Bool) (other : ℕ) → cond b (cond b (calls other ++ call ∷ []) (calls other) ++ own) (cond b (calls other ++ call ∷ []) (calls other)) ≡ cond b (calls other ++ call ∷ own) (calls other)
+    by true other = append_assoc (calls other) (call ∷ []) own
+    by false other = refl
 
 -- with one more call of the rank
 pub Represents_more : (calls : ℕ → List Call) (rank i : ℕ) (own : List Call) (call : Call) (exposures : Exposures) → slice_get own i ≡ Some call →

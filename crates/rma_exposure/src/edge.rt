@@ -12,7 +12,7 @@ ghost use Rattle.rma_exposure.specs.inside.Epochs.{Represents};
 use crate::exposures::Exposures;
 use crate::side::{Side, opened};
 use rma_base::{Memory, Name, Point, Rank, RankSet};
-use rma_call::{CallRef, RankCalls};
+use rma_call::{CallRef, Group, RankCalls};
 use rma_link::{Edge, Links, Member};
 
 impl Exposures {
@@ -48,6 +48,9 @@ impl Exposures {
         ensures meets { OnOk result (links.new.meets ≡ links.old.meets) }
     {
         let calls = rank.calls();
+        if !calls.has(Group::Epoch) {
+            return Ok(());
+        }
         for i in 0..calls.len() {
             self.push_edges_at(ranks, rank.rank(), i as u32, calls.get(i), links)?;
         }

@@ -9,7 +9,7 @@ ghost use Rattle.rma_exposure.specs.inside.Epochs.{Represents};
 use crate::exposures::Exposures;
 use crate::side::{Side, opened};
 use rma_base::{MatchReason, Memory, Name, Rank, RankSet, Sequence};
-use rma_call::{CallRef, MatchFault, RankCalls};
+use rma_call::{CallRef, Group, MatchFault, RankCalls};
 use std::alloc::Global;
 
 impl Exposures {
@@ -59,6 +59,9 @@ impl Exposures {
             → faults.new ≡ faults.old ++ by_number (faults_at side calls rank.now.rank) 0 rank.now.calls) }
     {
         let calls = rank.calls();
+        if !calls.has(Group::Epoch) {
+            return Ok(());
+        }
         for i in 0..calls.len() {
             self.judge(side, rank.rank(), i as u32, calls.get(i), faults)?;
         }

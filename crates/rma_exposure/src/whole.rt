@@ -7,7 +7,7 @@ ghost use Rattle.rma_exposure.specs.inside.Epochs.{Represents};
 
 use crate::exposures::Exposures;
 use rma_base::Memory;
-use rma_call::RankCalls;
+use rma_call::{Group, RankCalls};
 use std::alloc::Global;
 
 impl Exposures {
@@ -34,6 +34,9 @@ impl Exposures {
             → Represents (with_calls calls rank.now.rank.0 rank.now.calls) self.new) }
     {
         let calls = rank.calls();
+        if !calls.has(Group::Epoch) {
+            return Ok(());
+        }
         for i in 0..calls.len() {
             self.take(rank.rank(), i as u32, calls.get(i))?;
         }

@@ -18,6 +18,11 @@ use Rattle.rma_base.specs.declared.rank.Rank.{Rank}
 use Rattle.rma_base.specs.declared.window.WinModel.{WinModel}
 use Rattle.rma_base.specs.declared.window.AccOps.{AccOps}
 use Rattle.rma_call.specs.Call.{Call}
+use Rattle.rma_call.specs.Group.{group_of}
+use Rattle.rma_call.specs.declared.group.Group.TheVariants as group
+use Rattle.rma_call.specs.declared.what.What.{What}
+use Rattle.rma_call.specs.declared.what.What.TheVariants.{Sync, Rma, Local}
+use Rattle.rma_call.specs.declared.what.SyncCall.TheVariants as sync
 use Rattle.rma_window.specs.declared.part.Part.{Part}
 use Rattle.rma_window.specs.declared.window_id.WindowId.{WindowId}
 use Rattle.rma_window.specs.Creation.{Creation, attributes_by, creation_of, creations_from, is_by, names_by, part_by}
@@ -325,3 +330,19 @@ found_at_number windows name = by (position (is_named name) windows) ∙ at_posi
 
     at_position : {X : Type 0} (p : X → Bool) (xs : List X) → option_and_then (slice_get xs) (position p xs) ≡ find p xs
     at_position p xs = grind (arith, nat_tests, find_at p xs, slice_get_past xs (position_or_len p xs))
+
+creates_none : (rank : Rank) (number : ℕ) (what : What) → (group_of what ≡ group.Window → ⊥) → creation_of rank number what ≡ None
+creates_none rank number (Sync (sync.Frame call)) other = refl
+creates_none rank number (Sync (sync.Message call)) other = refl
+creates_none rank number (Sync (sync.Window call)) other = absurd (other refl)
+creates_none rank number (Sync (sync.Epoch call)) other = refl
+creates_none rank number (Sync (sync.Moving call)) other = refl
+creates_none rank number (Rma call) other = refl
+creates_none rank number (Local call) other = refl
+
+-- calls of other groups create no window
+pub creations_none : (rank : Rank) (number : ℕ) (calls : List Call) → ((i : ℕ) (call : Call) → slice_get calls i ≡ Some call → group_of call.what ≡ group.Window → ⊥) → creations_from rank number calls ≡ []
+creations_none rank number [] others = refl
+creations_none rank number (call ∷ calls) others =
+    ap (λ found. cons_option found (creations_from rank (number + 1) calls)) (creates_none rank number call.what (others 0 call refl))
+    ∙ creations_none rank (number + 1) calls (λ i c at. others (suc i) c at)

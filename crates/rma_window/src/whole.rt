@@ -7,7 +7,7 @@ ghost use Rattle.rma_window.specs.Windows.{attributes_of, is_named, name_of, par
 
 use crate::windows::Windows;
 use rma_base::{Memory, Rank};
-use rma_call::{CallRef, RankCalls};
+use rma_call::{CallRef, Group, RankCalls};
 use std::alloc::Global;
 
 impl Windows {
@@ -34,6 +34,9 @@ impl Windows {
         ensures { OnOk result (self.new ≡ fold with_creation self.old (creations_from rank.now.rank 0 rank.now.calls)) }
     {
         let calls = rank.calls();
+        if !calls.has(Group::Window) {
+            return Ok(());
+        }
         for i in 0..calls.len() {
             self.take_next(rank.rank(), i, calls.get(i))?;
         }

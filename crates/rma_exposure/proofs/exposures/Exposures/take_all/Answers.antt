@@ -4,7 +4,7 @@ use Rattle.rma_call.specs.Call.{call_of}
 use Rattle.rma_run.specs.Run.{with_calls}
 use Rattle.rma_exposure.specs.inside.Epochs.{Represents}
 use Rattle.rma_run.proofs.CallLemmas.{begun_length}
-use Rattle.rma_exposure.proofs.RunLemmas.{Represents_begun, Represents_more}
+use Rattle.rma_exposure.proofs.RunLemmas.{Represents_begun, Represents_more, Represents_others}
 use Rattle.rma_exposure.proofs.exposures.Exposures.take_all.Goals as goal
 
 pub loop-i-init : goal.loop-i-init
@@ -28,3 +28,7 @@ returns c = λ calls none are.
     let own = c.args.rank.now.calls in
     let whole : take c.loop-i.i own ≡ own = take_all c.loop-i.i own (rw (← c.calls-calls.ensures) (omega arith)) in
     subst (λ l. Represents (with_calls calls c.args.rank.now.rank.0 l) c.loop-i.self) whole (c.loop-i.invariant calls none are)
+
+pub returns-then-not-has : goal.returns-then-not-has
+returns-then-not-has c = λ calls none are.
+    Represents_others c.args.rank.now.calls calls c.args.rank.now.rank.0 c.args.self.now (λ i call at. c.has.ensures c.if-not-has.true i call (rw (← c.calls-calls.ensures) at at)) are
