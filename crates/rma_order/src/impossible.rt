@@ -3,6 +3,7 @@ ghost use Rattle.std.specs.Prelude.{◌≡◌, ◌++◌, [], IfOk, OnOk};
 ghost use Rattle.std.specs.List.{cons_option};
 ghost use Rattle.std.specs.Option.{option_and_then};
 ghost use Rattle.rma_run.specs.Run.{IsRun};
+ghost use Rattle.rma_match.specs.Matches.{AreMatches};
 ghost use Rattle.rma_order.specs.Impossible.{AreImpossibleCalls, first_at, told, told_all};
 
 use crate::call_counts::call_counts;
@@ -10,6 +11,7 @@ use crate::links::run_links;
 use rma_base::limits::RANKS;
 use rma_base::{LineNo, Memory, Rank, Sequence};
 use rma_call::RankCalls;
+use rma_match::Matches;
 use rma_walk::{Walked, walk};
 use std::alloc::Global;
 
@@ -22,7 +24,7 @@ pub struct ImpossibleCall {
     pub line: LineNo,
 }
 
-/// The first call of each rank that is never left, by rank: there is none where the run is possible.
+/// The first call of each rank that is never left in a run with these matches, by rank: there is none where the run is possible.
 ///
 /// The time and the memory that it takes grow with the calls and their links.
 ///
@@ -32,15 +34,17 @@ pub struct ImpossibleCall {
 pub fn impossible_calls(
     alloc: Global,
     ranks: &[RankCalls],
+    matches: &Matches,
 ) -> Result<Sequence<ImpossibleCall>, Memory>
-    requires { IsRun ranks.now }
+    requires run { IsRun ranks.now }
+    requires matches { AreMatches ranks.now matches.now }
     ensures { IfOk result (AreImpossibleCalls ranks.now) }
 {
     if ranks.len() > RANKS {
         return Err(Memory);
     }
     let counts = call_counts(alloc, ranks)?;
-    let links = run_links(alloc, ranks)?;
+    let links = run_links(alloc, ranks, matches)?;
     match walk(alloc, &counts, &links)? {
         Walked::Order(_) => Ok(Sequence::new(alloc)),
         Walked::Stuck(firsts) => told_all(alloc, ranks, firsts.as_slice()),

@@ -1,6 +1,7 @@
 //! All calls that the calls of other ranks do not match.
 ghost use Rattle.std.specs.Prelude.{◌≡◌, ◌++◌, [], true, IfOk, OnOk};
 ghost use Rattle.rma_run.specs.Run.{IsRun};
+ghost use Rattle.rma_match.specs.Matches.{AreMatches};
 ghost use Rattle.rma_sync.specs.inside.Member.{AreMembers};
 ghost use Rattle.rma_sync.specs.Missing.{missing_calls, missing_data};
 ghost use Rattle.rma_sync.specs.Matching.{match_faults};
@@ -12,24 +13,27 @@ use crate::missing::{MissingFaults, missing_calls};
 use crate::scan::Scan;
 use rma_base::{MatchReason, Memory, Sequence};
 use rma_call::{MatchFault, RankCalls};
-use rma_exposure::Exposures;
-use rma_message::Messages;
+use rma_match::Matches;
 use std::alloc::Global;
 
-/// The faults of matching of a run, by reason in the order of the report, then by rank, then by line.
+/// The faults of matching of a run with these matches, by reason in the order of the report, then by rank, then by line.
 ///
 /// # Errors
 ///
 /// `Memory` where memory ran out.
-pub fn match_faults(alloc: Global, ranks: &[RankCalls]) -> Result<Sequence<MatchFault>, Memory>
-    requires { IsRun ranks.now }
+pub fn match_faults(
+    alloc: Global,
+    ranks: &[RankCalls],
+    matches: &Matches,
+) -> Result<Sequence<MatchFault>, Memory>
+    requires run { IsRun ranks.now }
+    requires matches { AreMatches ranks.now matches.now }
     ensures { IfOk result (λ faults. faults ≡ match_faults ranks.now) }
 {
-    let mut faults = Messages::of_calls(alloc, ranks)?.faults(alloc)?;
+    let mut faults = matches.messages.faults(alloc)?;
     let rounds = RoundFaults::of_calls(alloc, ranks)?;
-    let exposures = Exposures::of_calls(alloc, ranks)?;
     append(&mut faults, &rounds.first)?;
-    append(&mut faults, &exposures.faults(alloc, ranks)?)?;
+    append(&mut faults, &matches.exposures.faults(alloc, ranks)?)?;
     append(&mut faults, &rounds.last)?;
     Ok(faults)
 }

@@ -18,22 +18,27 @@ all_edges : (ranks : List RankCalls) (messages : Messages) (none first second th
 all_edges ranks messages none first second third are start one two three =
     three ∙ ap (λ (es : List Edge). es ++ round_edges ranks) (two ∙ ap (λ (es : List Edge). es ++ exposure_edges ranks) (one ∙ ap (λ (es : List Edge). es ++ edges_in messages) start ∙ ap edges_in are))
 
+-- the links, once all are appended
+module _ (c : goal.In_ok-push_links) where
+  abbrev links : Links
+  links = c.push_links.new.links
+
+  taken : c.push_edges.new.links ≡ record c.new-links.result { edges = c.new-links.result.edges ++ edges_in c.args.matches.now.messages }
+  taken = c.in_ok-push_edges.ensures
+
+  edges : links.edges ≡ (links_of c.args.ranks.now).edges
+  edges = all_edges c.args.ranks.now c.args.matches.now.messages c.new-links.result.edges c.push_edges.new.links.edges c.push_edges-2.new.links.edges links.edges
+      c.requires.matches.messages c.new-links.ensures.edges (ap (λ (l : Links). l.edges) taken) c.in_ok-push_edges-2.ensures.edges c.in_ok-push_links.ensures.edges
+
+  meets : HasMeets links.meets [] (round_meets c.args.ranks.now)
+  meets =
+      let before = c.in_ok-push_edges-2.ensures.meets ∙ ap (λ (l : Links). l.meets) taken ∙ c.new-links.ensures.meets in
+      subst (λ (ms : List Meet). HasMeets links.meets ms (round_meets c.args.ranks.now)) before c.in_ok-push_links.ensures.meets
+
 pub returns-clause-same : goal.returns-clause-same
-returns-clause-same c =
-    let ranks = c.args.ranks.now in
-    let taken = c.in_ok-push_edges.ensures in
-    let edges = all_edges ranks c.in_ok-messages.messages c.new-links.result.edges c.push_edges.new.links.edges c.push_edges-2.new.links.edges c.push_links.new.links.edges c.in_ok-messages.ensures.messages
-    c.new-links.ensures.edges (ap (λ (l : Links). l.edges) taken) c.in_ok-push_edges-2.ensures.edges c.in_ok-push_links.ensures.edges in
-    let before = c.in_ok-push_edges-2.ensures.meets ∙ ap (λ (l : Links). l.meets) taken ∙ c.new-links.ensures.meets in
-    let meets = subst (λ (ms : List Meet). HasMeets c.push_links.new.links.meets ms (round_meets ranks)) before c.in_ok-push_links.ensures.meets in
-    links_are_same ranks c.push_links.new.links edges meets
+returns-clause-same c = links_are_same c.args.ranks.now (links c) (edges c) (meets c)
 
 pub returns-clause-within : goal.returns-clause-within
 returns-clause-within c =
     let ranks = c.args.ranks.now in
-    let taken = c.in_ok-push_edges.ensures in
-    let edges = all_edges ranks c.in_ok-messages.messages c.new-links.result.edges c.push_edges.new.links.edges c.push_edges-2.new.links.edges c.push_links.new.links.edges c.in_ok-messages.ensures.messages
-    c.new-links.ensures.edges (ap (λ (l : Links). l.edges) taken) c.in_ok-push_edges-2.ensures.edges c.in_ok-push_links.ensures.edges in
-    let before = c.in_ok-push_edges-2.ensures.meets ∙ ap (λ (l : Links). l.meets) taken ∙ c.new-links.ensures.meets in
-    let meets = subst (λ (ms : List Meet). HasMeets c.push_links.new.links.meets ms (round_meets ranks)) before c.in_ok-push_links.ensures.meets in
-    same_within ranks c.push_links.new.links edges meets (links_are_within ranks c.requires.in_order)
+    same_within ranks (links c) (edges c) (meets c) (links_are_within ranks c.requires.run.in_order)

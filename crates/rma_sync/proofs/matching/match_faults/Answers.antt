@@ -8,7 +8,7 @@ use Rattle.rma_sync.proofs.matching.match_faults.Goals as goal
 pub returns : goal.returns
 returns c =
     let ranks = c.args.ranks.now in
-    let messages = c.in_ok-faults.ensures ∙ ap faults_in c.in_ok-of_calls.ensures.messages in
+    let messages = c.in_ok-faults.ensures ∙ ap faults_in c.requires.matches.messages in
     let rounds = appended c.in_ok-append.ensures messages c.in_ok-rounds.ensures.first in
     let exposures = appended c.in_ok-append-2.ensures rounds c.in_ok-faults-2.ensures in
     appended c.in_ok-append-3.ensures exposures c.in_ok-rounds.ensures.last
