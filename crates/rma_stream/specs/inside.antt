@@ -1,2 +1,3 @@
 pub mod Feeding
 pub mod Outcome
+pub mod Run

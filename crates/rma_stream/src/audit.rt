@@ -6,6 +6,7 @@ ghost use Rattle.rma_stream.specs.Findings.{AreFindings, count_of_lines};
 
 use crate::outcome::Outcomes;
 use crate::pass::{all_passes, first_failing};
+use crate::run::Run;
 use rma_base::limits::RANKS;
 use rma_base::{Memory, Rank};
 use rma_book::{RankBook, SharedSites};
@@ -104,7 +105,8 @@ impl Audit {
         let ranks = self.books.len() as u32;
         let lines = count_lines(&self.books);
         let outcomes = Outcomes::of(self.alloc, self.books)?;
-        let list = first_failing(self.alloc, &outcomes, &all_passes())?;
+        let run = Run::of(self.alloc, outcomes)?;
+        let list = first_failing(self.alloc, &run, &all_passes())?;
         Ok(Findings { ranks, lines, list })
     }
 }

@@ -14,5 +14,6 @@ mod matching;
 mod order;
 mod outcome;
 mod pass;
+mod run;
 
 pub use audit::Audit;

@@ -1,14 +1,10 @@
-//! The outcomes of all logs, and what each pass finds in them.
+//! The outcomes of all logs.
 ghost use Rattle.std.specs.Prelude.{◌≡◌, ◌≤◌, ℕ, List, [], length, IfOk, OnOk, ◌++◌, ◌∷◌};
 ghost use Rattle.rma_book.specs.declared.fault.BookEnd.{BookEnd};
 ghost use Rattle.rma_stream.specs.inside.Feeding.{HaveBooks};
 ghost use Rattle.rma_stream.specs.inside.Outcome.{AreOutcomes};
-ghost use Rattle.rma_stream.specs.Findings.{AreEnds, Finds};
+ghost use Rattle.rma_stream.specs.Findings.{AreEnds};
 
-use crate::epochs::epoch_findings;
-use crate::matching::mismatches;
-use crate::order::impossible_findings;
-use crate::pass::Pass;
 use rma_base::limits::RANKS;
 use rma_base::{Memory, Rank, Sequence};
 use rma_book::{BookEnd, RankBook};
@@ -20,9 +16,9 @@ use std::alloc::Global;
 #[derive(Drop)]
 pub(crate) struct Outcomes {
     /// The first bad lines, by rank.
-    bad: FindingList,
+    pub(crate) bad: FindingList,
     /// The calls of the logs without one, by rank.
-    calls: Vec<RankCalls>,
+    pub(crate) calls: Vec<RankCalls>,
 }
 
 impl Outcomes {
@@ -57,17 +53,5 @@ impl Outcomes {
             })?,
         }
         Ok(())
-    }
-
-    /// The findings of a pass.
-    pub(crate) fn findings(&self, alloc: Global, pass: Pass) -> Result<FindingList, Memory>
-        ensures { IfOk result (λ found. (ends : List BookEnd) → AreOutcomes ends self.now → Finds ends pass found) }
-    {
-        match pass {
-            Pass::BadLines => self.bad.copy(),
-            Pass::Matching => mismatches(alloc, &self.calls),
-            Pass::Order => impossible_findings(alloc, &self.calls),
-            Pass::Epochs => epoch_findings(alloc, &self.calls),
-        }
     }
 }

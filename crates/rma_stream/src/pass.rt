@@ -3,8 +3,9 @@ ghost use Rattle.std.specs.Prelude.{◌≡◌, List, IfOk};
 ghost use Rattle.rma_book.specs.declared.fault.BookEnd.{BookEnd};
 ghost use Rattle.rma_stream.specs.Findings.{passes, Finds, IsFirstFailing};
 ghost use Rattle.rma_stream.specs.inside.Outcome.{AreOutcomes};
+ghost use Rattle.rma_stream.specs.inside.Run.{IsMatched};
 
-use crate::outcome::Outcomes;
+use crate::run::Run;
 use rma_base::{Memory, Sequence};
 use rma_report::FindingList;
 use std::alloc::Global;
@@ -32,13 +33,14 @@ pub(crate) fn all_passes() -> [Pass; 4]
 /// The findings of the first of these passes that fails, and none where each succeeds.
 pub(crate) fn first_failing(
     alloc: Global,
-    outcomes: &Outcomes,
+    run: &Run,
     passes: &[Pass],
 ) -> Result<FindingList, Memory>
-    ensures { IfOk result (λ found. (ends : List BookEnd) → AreOutcomes ends outcomes.now → IsFirstFailing (Finds ends) passes.now found) }
+    requires { IsMatched run.now }
+    ensures { IfOk result (λ found. (ends : List BookEnd) → AreOutcomes ends run.now.outcomes → IsFirstFailing (Finds ends) passes.now found) }
 {
     for pass in passes {
-        let found = outcomes.findings(alloc, *pass)?;
+        let found = run.findings(alloc, *pass)?;
         if !found.is_empty() {
             return Ok(found);
         }

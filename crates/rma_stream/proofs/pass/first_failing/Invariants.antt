@@ -8,4 +8,4 @@ use Rattle.rma_stream.proofs.pass.first_failing.Given as goal
 -- no pass so far fails
 abbrev pub invariant-loop-pass : goal.invariant-loop-pass
 invariant-loop-pass l =
-    (ends : List BookEnd) → AreOutcomes ends l.outcomes → (found : List Finding) → IsFirstFailing (Finds ends) (drop l.pass-index l.passes) found → IsFirstFailing (Finds ends) l.passes found
+    (ends : List BookEnd) → AreOutcomes ends l.run.outcomes → (found : List Finding) → IsFirstFailing (Finds ends) (drop l.pass-index l.passes) found → IsFirstFailing (Finds ends) l.passes found

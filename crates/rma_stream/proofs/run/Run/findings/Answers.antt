@@ -15,7 +15,7 @@ use Rattle.rma_stream.specs.declared.pass.Pass.TheVariants.{Matching, Order, Epo
 use Rattle.rma_stream.specs.declared.pass.Pass.{Pass}
 use Rattle.rma_stream.specs.declared.outcome.Outcomes.{Outcomes}
 use Rattle.rma_stream.specs.inside.Outcome.{AreOutcomes}
-use Rattle.rma_stream.proofs.outcome.Outcomes.findings.Goals as goal
+use Rattle.rma_stream.proofs.run.Run.findings.Goals as goal
 
 -- what a pass finds in calls, where these are the calls of outcomes
 found_in : (pass own : Pass) (kept : Outcomes) (calls : List RankCalls) (answer : Result (List Finding) Memory) → calls ≡ kept.calls.items → pass ≡ own
@@ -25,15 +25,15 @@ found_in pass own kept calls (Err memory) same is finds = tt
 
 pub returns-in-Matching : goal.returns-in-Matching
 returns-in-Matching c =
-    found_in c.args.pass Matching c.args.self.now c.deref.result.now c.mismatches.result c.deref.ensures.value c.in-Matching.is
+    found_in c.args.pass Matching c.args.self.now.outcomes c.as_slice-calls.result.now c.mismatches.result c.as_slice-calls.ensures c.in-Matching.is
     (λ ends same. subst (λ (calls : List RankCalls). IfOk c.mismatches.result (λ found. found ≡ map Mismatch (match_faults calls))) same c.mismatches.ensures)
 
 pub returns-in-Order : goal.returns-in-Order
 returns-in-Order c =
-    found_in c.args.pass Order c.args.self.now c.deref-in-Order.result.now c.impossible_findings.result c.deref-in-Order.ensures.value c.in-Order.is
+    found_in c.args.pass Order c.args.self.now.outcomes c.as_slice-calls.result.now c.impossible_findings.result c.as_slice-calls.ensures c.in-Order.is
     (λ ends same. subst (λ (calls : List RankCalls). IfOk c.impossible_findings.result (λ found. (told : List ImpossibleCall) × AreImpossibleCalls calls told × (found ≡ map impossible told))) same c.impossible_findings.ensures)
 
 pub returns-in-Epochs : goal.returns-in-Epochs
 returns-in-Epochs c =
-    found_in c.args.pass Epochs c.args.self.now c.deref-in-Epochs.result.now c.epoch_findings.result c.deref-in-Epochs.ensures.value c.in-Epochs.is
+    found_in c.args.pass Epochs c.args.self.now.outcomes c.as_slice-calls.result.now c.epoch_findings.result c.as_slice-calls.ensures c.in-Epochs.is
     (λ ends same. subst (λ (calls : List RankCalls). IfOk c.epoch_findings.result (λ found. found ≡ filter_map (epoch_finding (windows_by (creations calls))) calls)) same c.epoch_findings.ensures)
