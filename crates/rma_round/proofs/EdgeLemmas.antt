@@ -1,9 +1,9 @@
 -- The edges of a run, one by one.
-use Rattle.std.proofs.Common.{◌≡◌, ℕ, ◌<◌, Bool, true, false, cond, List, [], Option, Some, None, nat_eq, get_or, refl, sym, ap, subst, ◌∙◌}
+use Rattle.std.proofs.Common.{◌≡◌, ℕ, ◌<◌, Bool, true, false, cond, List, [], ◌∷◌, Option, Some, None, nat_eq, get_or, slice_get, position, refl, sym, ap, subst, ◌∙◌}
 use Rattle.std.specs.Prelude.{All, Contains, option_map}
 use Rattle.std.specs.List.{cons_option}
 use Rattle.std.specs.Option.{option_and_then}
-use Rattle.std.proofs.lemmas.Option.{slice_get_within}
+use Rattle.std.proofs.lemmas.Option.{slice_get_within, none-some}
 use Rattle.rma_call.specs.Call.{Call, RankCalls}
 use Rattle.rma_link.specs.declared.edge.Edge.{Edge}
 use Rattle.rma_link.specs.Point.{entry, return_of}
@@ -12,7 +12,9 @@ use Rattle.rma_run.specs.Run.{AreInOrder, calls_of, lens_of}
 use Rattle.rma_run.proofs.CallLemmas.{lens_are, number_below}
 use Rattle.rma_run.proofs.ContainLemmas.{has_first, has_none, first_or_later, in_by_rank, by_rank_has, IsCallIn, all_from_contains}
 use Rattle.rma_round.specs.declared.kind.Kind.TheVariants.{Moving}
-use Rattle.rma_round.specs.Round.{match_of}
+use Rattle.rma_round.specs.declared.kind_rounds.KindRounds.{KindRounds}
+use Rattle.rma_round.specs.Round.{numbers, match_of}
+use Rattle.rma_round.specs.inside.Rounds.{kept, numbers_in, AreOfKind}
 use Rattle.rma_round.specs.Edge.{Rooted, rooted_of, edge_with, edge_of, edge_at, edges_at, round_edges, IsRoundEdge}
 use Rattle.rma_round.proofs.NumberLemmas.{match_is}
 
@@ -59,6 +61,20 @@ edge_has ranks edge is =
     let from : edge_at (calls_of ranks) is.own.rank is.number is.call.what ≡ Some edge = rw (is.moves, is.is_not_root, is.matched) (ap Some is.leads) in
     by_rank_has (edges_at (calls_of ranks)) ranks is.own is.number is.call edge (record { of_run = is.of_run; there = is.there })
     (subst (λ o. Contains (cons_option o []) edge) (sym from) (has_first edge []))
+
+none_there : {X : Type 0} (xs : List X) → ((x : X) → Contains xs x → ⊥) → [] ≡ xs
+none_there [] none = refl
+none_there (x ∷ xs) none = absurd (none x (has_first x xs))
+
+-- where no call moves data there is no edge
+pub no_edges : (ranks : List RankCalls) (rounds : KindRounds) → AreOfKind Moving (calls_of ranks) rounds → rounds.names.entries ≡ [] → [] ≡ round_edges ranks
+no_edges ranks rounds are none =
+    none_there (round_edges ranks)
+    (λ edge has.
+    let is = edge_is ranks edge has in
+    let no : [] ≡ numbers Moving is.at.comm (calls_of ranks is.own.rank.0) = ap (λ names. numbers_in (kept names is.at.comm) is.own.rank.0) (sym none) ∙ are.numbers_are is.at.comm is.own.rank.0 in
+    let unmatched : None ≡ Some is.root_call = ap (λ l. option_and_then (slice_get (numbers Moving is.at.comm (calls_of ranks is.at.root.0))) (position (λ m. nat_eq m is.number) l)) no ∙ is.matched in
+    none-some is.root_call unmatched)
 
 edge_within : (ranks : List RankCalls) (edge : Edge) → AreInOrder ranks → IsRoundEdge ranks edge → IsEdgeWithin (lens_of ranks) edge
 edge_within ranks edge in_order is = subst (IsEdgeWithin (lens_of ranks)) is.leads (by is.at.to_root)

@@ -7,11 +7,12 @@ use Rattle.rma_call.specs.Call.{Call, RankCalls}
 use Rattle.rma_run.specs.Run.{calls_of, with_calls}
 use Rattle.rma_run.proofs.CallLemmas.{none_more, one_more, next_calls}
 use Rattle.rma_round.specs.declared.kind.Kind.{Kind}
+use Rattle.rma_round.specs.declared.kind.Kind.TheVariants.{Collective, Free, Fence, Moving}
 use Rattle.rma_round.specs.declared.kind_rounds.KindRounds.{KindRounds}
 use Rattle.rma_round.specs.declared.rounds.Rounds.{Rounds}
 use Rattle.rma_round.specs.Kind.{named, is_on}
 use Rattle.rma_round.specs.Round.{numbers}
-use Rattle.rma_round.specs.inside.Rounds.{kept, numbers_in, AreOfKind, Represents}
+use Rattle.rma_round.specs.inside.Rounds.{kept, numbers_in, AreOfKind, of_kind, Represents}
 use Rattle.rma_round.proofs.NumberLemmas.{numbers_push, numbers_same}
 
 module _ (kind : Kind) where
@@ -76,6 +77,12 @@ module _ (kind : Kind) where
     kind_is = are.kind_is;
     numbers_are = λ name rank. are.numbers_are name rank ∙ ap (numbers kind name) (same rank);
   }
+
+pub Represents_of_kind : (kind : Kind) (calls : ℕ → List Call) (rounds : Rounds) → Represents calls rounds → AreOfKind kind calls (of_kind kind rounds)
+Represents_of_kind Collective calls rounds are = are.collectives_are
+Represents_of_kind Free calls rounds are = are.frees_are
+Represents_of_kind Fence calls rounds are = are.fences_are
+Represents_of_kind Moving calls rounds are = are.movings_are
 
 -- the same calls of each rank
 Represents_along : (f g : ℕ → List Call) (rounds : Rounds) → ((rank : ℕ) → f rank ≡ g rank) → Represents f rounds → Represents g rounds

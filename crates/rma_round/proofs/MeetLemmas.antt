@@ -1,9 +1,16 @@
 -- The meets of a run, each once and each at every call that waits for all.
-use Rattle.std.proofs.Common.{◌≡◌, ℕ, suc, ◌+◌, ◌<◌, ◌≤◌, inl, inr, ⊎_elim, Bool, true, false, cond, ◌&&◌, ◌||◌, ◌∷◌, ◌++◌, List, [], length, map, Option, Some, None, nat_eq, nat_le, get_or, slice_get, refl, sym, ap, subst, ◌∙◌, arith, append_assoc, append-nil}
+use Rattle.std.proofs.Common.{◌≡◌, ℕ, zero, suc, max, fold, nat_cmp, unwrap_or, ◌+◌, ◌<◌, ◌≤◌, inl, inr, ⊎_elim, Bool, true, false, cond, ◌||◌, ◌∷◌, ◌++◌, List, [], length, map, Option, Some, None, nat_le, get_or, slice_get, refl, sym, ap, subst, ◌∙◌, arith, append_assoc, append-nil}
 use Rattle.std.specs.Prelude.{All, Contains, option_map}
 use Rattle.std.specs.List.{flat_map, list_any, cons_option}
 use Rattle.std.specs.List.Sorted.{IsStrictlyIncreasing}
 use Rattle.std.specs.Option.{option_map_or}
+use Rattle.std.specs.Map.{lookup}
+use Rattle.std.specs.BTreeMap.{is_at}
+use Rattle.std.specs.Cmp.Lexicographic.{same_text}
+use Rattle.std.proofs.Math.Nat.{le-max_left, le-max_right}
+use Rattle.std.proofs.lemmas.Bool.{cases_lt}
+use Rattle.std.proofs.lemmas.Option.{slice_get_within}
+use Rattle.std.proofs.lemmas.Map.Views.{Contains-from_lookup}
 use Rattle.std.proofs.lemmas.Bool.Decides.{nat_tests}
 use Rattle.std.proofs.lemmas.List.Elements.{Contains-append_left, Contains-append_right, Contains-append_cases}
 use Rattle.rma_base.specs.declared.rank.Rank.{Rank}
@@ -11,8 +18,8 @@ use Rattle.rma_call.specs.Call.{Call, RankCalls}
 use Rattle.rma_link.specs.declared.meet.Meet.{Meet}
 use Rattle.rma_link.specs.declared.meet.Member.{Member}
 use Rattle.rma_link.specs.Within.{IsMemberWithin, IsMeetWithin}
-use Rattle.rma_run.specs.Run.{AreInOrder, calls_of, lens_of, by_rank}
-use Rattle.rma_run.proofs.CallLemmas.{itself, calls_are_own, number_below}
+use Rattle.rma_run.specs.Run.{AreInOrder, calls_of, lens_of}
+use Rattle.rma_run.proofs.CallLemmas.{calls_are_own, number_below}
 use Rattle.rma_run.proofs.PositionLemmas.{Rises, AreFrom, from_cons, from_rest, rises_cons}
 use Rattle.rma_run.proofs.ContainLemmas.{has_first, has_later, has_none, first_or_later, in_flat_map, flat_map_has, in_filter_map, filter_map_has, in_by_rank, by_rank_has, IsCallIn, all_from_contains}
 use Rattle.rma_round.specs.declared.kind.Kind.{Kind}
@@ -20,7 +27,11 @@ use Rattle.rma_round.specs.declared.kind.Kind.TheVariants.{Collective, Free, Fen
 use Rattle.rma_round.specs.Kind.{named}
 use Rattle.rma_round.specs.Round.{numbers, place_in}
 use Rattle.rma_round.specs.Meet.{waits_for_all, member_at, round_at, meet_of, meets_on, kinds, meets_at, round_meets, IsRoundMeet, HasMeets}
-use Rattle.rma_round.specs.inside.Led.{is_led_by, member_waits, led_meet, led_on_name, led_on, led_at}
+use Rattle.rma_round.specs.declared.name_rounds.NameRounds.{NameRounds}
+use Rattle.rma_round.specs.declared.rounds.Rounds.{Rounds}
+use Rattle.rma_round.specs.inside.Rounds.{listed, kept, numbers_in, of_kind, Represents}
+use Rattle.rma_round.specs.inside.Met.{longest, member_waits, met, before_round, name_meets, kind_meets, all_meets}
+use Rattle.rma_round.proofs.KeptLemmas.{Represents_of_kind}
 use Rattle.rma_round.proofs.NumberLemmas.{call_at, place_is, place_has}
 
 pub four_appended : (x a b c d : List Meet) → (((x ++ a) ++ b) ++ c) ++ d ≡ x ++ (a ++ (b ++ (c ++ (d ++ []))))
@@ -164,13 +175,13 @@ module _ (ranks : List RankCalls) (in_order : AreInOrder ranks) (kind : Kind) (n
       let one = in_filter_map (member_at kind name place) ranks member has in
       member_of member one.0 one.1 (slice_get (numbers kind name one.0.calls) place) refl one.2
 
-  -- ---- each meet is had at the first call of its round
+  -- ---- each meet is had once, of its round
 
   waits_of : (member : Member) (call : Call) → slice_get (calls_of ranks member.rank.0) member.call ≡ Some call → member_waits ranks member ≡ waits_for_all call.what
   waits_of member call there = ap (λ o. option_map_or (λ (c : Call). waits_for_all c.what) o false) there
 
-  of_led : (rank : ℕ) (meet : Meet) (a b : Bool) → list_any (member_waits ranks) (round_at kind name ranks place) ≡ b → Contains (cond (a && b) (meet_of (round_at kind name ranks place)) []) meet → IsRoundMeet ranks meet
-  of_led rank meet true true any has =
+  of_met : (meet : Meet) (b : Bool) → list_any (member_waits ranks) (round_at kind name ranks place) ≡ b → Contains (cond b (meet_of (round_at kind name ranks place)) []) meet → IsRoundMeet ranks meet
+  of_met meet true any has =
       let some = any_has (member_waits ranks) (round_at kind name ranks place) any in
       let m = of_round some.0 some.1 in
       let one = in_meet_of (round_at kind name ranks place) meet has in
@@ -189,61 +200,91 @@ module _ (ranks : List RankCalls) (in_order : AreInOrder ranks) (kind : Kind) (n
         several = one.0;
         calls_are = one.1;
       }
-  of_led rank meet true false any has = has_none meet has
-  of_led rank meet false true any has = has_none meet has
-  of_led rank meet false false any has = has_none meet has
+  of_met meet false any has = has_none meet has
 
-  -- the first call of the round, where some call of it waits for all
-  at_first : (meet : Meet) (members : List Member) → members ≡ round_at kind name ranks place → list_any (member_waits ranks) members ≡ true → Contains (meet_of members) meet
-      → Contains (by_rank (led_at ranks) ranks) meet
-  at_first meet [] are any has = absurd (cc)
-  at_first meet (h ∷ t) are any has =
-      let m = of_round h (subst (λ (l : List Member). Contains l h) are (has_first h t)) in
-      let leads : nat_eq h.rank.0 m.own.rank.0 ≡ true = ap (λ (r : Rank). nat_eq h.rank.0 r.0) m.rank_is ∙ itself h.rank.0 in
-      let led : Contains (led_meet ranks m.own.rank.0 (h ∷ t)) meet = rw (leads, any) has in
-      by_rank_has (led_at ranks) ranks m.own h.call m.call meet m.isin
-      (flat_map_has (led_on ranks m.own.rank.0 h.call m.call.what) kinds kind meet (kinds_have kind)
-      (rw (m.is_named, m.is_at) (subst (λ (l : List Member). Contains (led_meet ranks m.own.rank.0 l) meet) are led)))
+module _ (f : ℕ → List Meet) (meet : Meet) where
+  -- what is had of the first rounds is had of one of them
+  in_before_round : (n : ℕ) → Contains (before_round f n) meet → (place : ℕ) × Contains (f place) meet
+  in_before_round zero has = has_none meet has
+  in_before_round (suc n) has =
+      ⊎_elim
+      (λ (before : Contains (before_round f n) meet). in_before_round n before)
+      (λ (here : Contains (f n) meet). (n, here))
+      (Contains-append_cases (before_round f n) (f n) meet has)
 
-of_led_place : (ranks : List RankCalls) (in_order : AreInOrder ranks) (rank : ℕ) (meet : Meet) (kind : Kind) (name : List ℕ) (o : Option ℕ)
-    → Contains (option_map_or (λ place. led_meet ranks rank (round_at kind name ranks place)) o []) meet → IsRoundMeet ranks meet
-of_led_place ranks in_order rank meet kind name None has = has_none meet has
-of_led_place ranks in_order rank meet kind name (Some place) has =
-    of_led ranks in_order kind name place rank meet (is_led_by rank (round_at kind name ranks place)) (list_any (member_waits ranks) (round_at kind name ranks place)) refl has
+  before_round_has : (n place : ℕ) → place < n → Contains (f place) meet → Contains (before_round f n) meet
+  before_round_has zero place lt has = absurd (omega arith)
+  before_round_has (suc n) place lt has =
+      ⊎_elim
+      (λ (before : place < n). Contains-append_left (before_round f n) (f n) meet (before_round_has n place before has))
+      (λ (from : n ≤ place). let is : place ≡ n = omega arith in Contains-append_right (before_round f n) (f n) meet (subst (λ k. Contains (f k) meet) is has))
+      (cases_lt place n)
 
-of_led_name : (ranks : List RankCalls) (in_order : AreInOrder ranks) (rank number : ℕ) (meet : Meet) (kind : Kind) (o : Option (List ℕ))
-    → Contains (option_map_or (led_on_name ranks rank number kind) o []) meet → IsRoundMeet ranks meet
-of_led_name ranks in_order rank number meet kind None has = has_none meet has
-of_led_name ranks in_order rank number meet kind (Some name) has = of_led_place ranks in_order rank meet kind name (place_in kind name (calls_of ranks rank) number) has
+longest_from : (es : List (ℕ × List ℕ)) (n : ℕ) → n ≤ fold (λ most e. max most (length e.1)) n es
+longest_from [] n = omega arith
+longest_from (e ∷ es) n = let one = le-max_left n (length e.1) in let rest = longest_from es (max n (length e.1)) in omega arith
 
-led_is : (ranks : List RankCalls) → AreInOrder ranks → (meet : Meet) → Contains (by_rank (led_at ranks) ranks) meet → IsRoundMeet ranks meet
-led_is ranks in_order meet has =
-    let one = in_by_rank (led_at ranks) ranks meet has in
-    let k = in_flat_map (led_on ranks one.0.rank.0 one.1 one.2.what) kinds meet one.4 in
-    of_led_name ranks in_order one.0.rank.0 one.1 meet k.0 (named k.0 one.2.what) k.2
+-- no rank has more calls than the longest
+listed_within : (rank : ℕ) (es : List (ℕ × List ℕ)) (n : ℕ) → length (listed es rank) ≤ fold (λ most e. max most (length e.1)) n es
+listed_within rank [] n = omega arith
+listed_within rank (e ∷ es) n = by (is_at (nat_cmp rank) e.0) (listed_within rank es (max n (length e.1)))
+  where
+    by : (b : Bool) → length (listed es rank) ≤ fold (λ most x. max most (length x.1)) (max n (length e.1)) es
+        → length (unwrap_or (cond b (Some e.1) (lookup (is_at (nat_cmp rank)) es)) []) ≤ fold (λ most x. max most (length x.1)) (max n (length e.1)) es
+    by true rest = let own = le-max_right n (length e.1) in let from = longest_from es (max n (length e.1)) in omega arith
+    by false rest = rest
 
-is_led : (ranks : List RankCalls) → AreInOrder ranks → (meet : Meet) → IsRoundMeet ranks meet → Contains (by_rank (led_at ranks) ranks) meet
-is_led ranks in_order meet is =
-    let calls = calls_are_own ranks is.own in_order is.of_run in
-    let own : Member = record { rank = is.own.rank; call = is.number } in
-    let at : slice_get (numbers is.kind is.name is.own.calls) is.place ≡ Some is.number =
-    ap (λ l. slice_get (numbers is.kind is.name l) is.place) (sym calls) ∙ place_has is.kind is.name (calls_of ranks is.own.rank.0) is.place is.number is.is_at in
-    let has_own : Contains (round_at is.kind is.name ranks is.place) own =
-    filter_map_has (member_at is.kind is.name is.place) ranks is.own own is.of_run (ap (option_map (λ (c : ℕ). let m : Member = record { rank = is.own.rank; call = c } in m)) at) in
-    let there : slice_get (calls_of ranks is.own.rank.0) is.number ≡ Some is.call = ap (λ l. slice_get l is.number) calls ∙ is.there in
-    let waits : member_waits ranks own ≡ true = waits_of ranks in_order is.kind is.name is.place own is.call there ∙ is.waits in
-    at_first ranks in_order is.kind is.name is.place meet (round_at is.kind is.name ranks is.place) refl (has_any (member_waits ranks) (round_at is.kind is.name ranks is.place) own waits has_own)
-    (meet_of_has (round_at is.kind is.name ranks is.place) meet is.several is.calls_are)
+module _ (ranks : List RankCalls) (rounds : Rounds) (in_order : AreInOrder ranks) (are : Represents (calls_of ranks) rounds) where
+  all_is : (meet : Meet) → Contains (all_meets ranks rounds) meet → IsRoundMeet ranks meet
+  all_is meet has =
+      let k = in_flat_map (kind_meets ranks rounds) kinds meet has in
+      let e = in_flat_map (name_meets ranks k.0) (of_kind k.0 rounds).names.entries meet k.2 in
+      let p = in_before_round (λ place. met ranks (round_at k.0 e.0.0 ranks place)) meet (longest e.0.1.ranks.entries) e.2 in
+      of_met ranks in_order k.0 e.0.0 p.0 meet (list_any (member_waits ranks) (round_at k.0 e.0.0 ranks p.0)) refl p.1
 
--- so the meets are those of the run
-pub has_meets : (ranks : List RankCalls) → AreInOrder ranks → (before : List Meet) → HasMeets (before ++ by_rank (led_at ranks) ranks) before (round_meets ranks)
-has_meets ranks in_order before meet = (
-  (λ has. ⊎_elim (λ old. inl old) (λ led. inr (meet_has ranks meet (led_is ranks in_order meet led))) (Contains-append_cases before (by_rank (led_at ranks) ranks) meet has)),
-  (λ either. ⊎_elim
-      (λ old. Contains-append_left before (by_rank (led_at ranks) ranks) meet old)
-      (λ new. Contains-append_right before (by_rank (led_at ranks) ranks) meet (is_led ranks in_order meet (meet_is ranks meet new)))
-      either),
-)
+  -- a round of which a call waits has its meet
+  met_has : (meet : Meet) (is : IsRoundMeet ranks meet) → Contains (met ranks (round_at is.kind is.name ranks is.place)) meet
+  met_has meet is =
+      let calls = calls_are_own ranks is.own in_order is.of_run in
+      let own : Member = record { rank = is.own.rank; call = is.number } in
+      let at : slice_get (numbers is.kind is.name is.own.calls) is.place ≡ Some is.number =
+      ap (λ l. slice_get (numbers is.kind is.name l) is.place) (sym calls) ∙ place_has is.kind is.name (calls_of ranks is.own.rank.0) is.place is.number is.is_at in
+      let has_own : Contains (round_at is.kind is.name ranks is.place) own =
+      filter_map_has (member_at is.kind is.name is.place) ranks is.own own is.of_run (ap (option_map (λ (c : ℕ). let m : Member = record { rank = is.own.rank; call = c } in m)) at) in
+      let there : slice_get (calls_of ranks is.own.rank.0) is.number ≡ Some is.call = ap (λ l. slice_get l is.number) calls ∙ is.there in
+      let waits : member_waits ranks own ≡ true = waits_of ranks in_order is.kind is.name is.place own is.call there ∙ is.waits in
+      let any : list_any (member_waits ranks) (round_at is.kind is.name ranks is.place) ≡ true = has_any (member_waits ranks) (round_at is.kind is.name ranks is.place) own waits has_own in
+      rw any (meet_of_has (round_at is.kind is.name ranks is.place) meet is.several is.calls_are)
+
+  is_all : (meet : Meet) → IsRoundMeet ranks meet → Contains (all_meets ranks rounds) meet
+  is_all meet is =
+      flat_map_has (kind_meets ranks rounds) kinds is.kind meet (kinds_have is.kind)
+      (by (kept names is.name) refl ((Represents_of_kind is.kind (calls_of ranks) rounds are).numbers_are is.name is.own.rank.0))
+    where
+      names : List (List ℕ × NameRounds)
+      names = (of_kind is.kind rounds).names.entries
+
+      at : slice_get (numbers is.kind is.name (calls_of ranks is.own.rank.0)) is.place ≡ Some is.number
+      at = place_has is.kind is.name (calls_of ranks is.own.rank.0) is.place is.number is.is_at
+
+      by : (o : Option NameRounds) → kept names is.name ≡ o → numbers_in o is.own.rank.0 ≡ numbers is.kind is.name (calls_of ranks is.own.rank.0) → Contains (kind_meets ranks rounds is.kind) meet
+      by None found same = let none = ap (λ l. slice_get l is.place) same ∙ at in absurd (cc)
+      by (Some own) found same =
+          let there = slice_get_within (numbers is.kind is.name (calls_of ranks is.own.rank.0)) is.place is.number at in
+          let few = listed_within is.own.rank.0 own.ranks.entries 0 in
+          let long : length (listed own.ranks.entries is.own.rank.0) ≡ length (numbers is.kind is.name (calls_of ranks is.own.rank.0)) = ap length same in
+          flat_map_has (name_meets ranks is.kind) names (is.name, own) meet (Contains-from_lookup (λ x y e. same_text x y (sym e)) is.name own names found)
+          (before_round_has (λ place. met ranks (round_at is.kind is.name ranks place)) meet (longest own.ranks.entries) is.place (omega arith) (met_has meet is))
+
+  -- so the meets are those of the run
+  pub has_meets : (before : List Meet) → HasMeets (before ++ all_meets ranks rounds) before (round_meets ranks)
+  has_meets before meet = (
+    (λ has. ⊎_elim (λ old. inl old) (λ new. inr (meet_has ranks meet (all_is meet new))) (Contains-append_cases before (all_meets ranks rounds) meet has)),
+    (λ either. ⊎_elim
+        (λ old. Contains-append_left before (all_meets ranks rounds) meet old)
+        (λ new. Contains-append_right before (all_meets ranks rounds) meet (is_all meet (meet_is ranks meet new)))
+        either),
+  )
 
 -- ---- the meets of a run are between its calls
 

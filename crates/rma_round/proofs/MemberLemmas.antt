@@ -1,5 +1,5 @@
 -- The calls of a round, by what is kept of the ranks that make them.
-use Rattle.std.proofs.Common.{◌≡◌, ◌≢◌, ℕ, zero, suc, ◌+◌, ◌-◌, ◌<◌, ◌≤◌, ◌⊎◌, inl, inr, true, false, ◌∷◌, List, [], length, Option, Some, None, nat_eq, nat_cmp, nat_lt, eqb, slice_get, refl, sym, ap, subst, ◌∙◌, arith}
+use Rattle.std.proofs.Common.{◌≡◌, ◌≢◌, ℕ, suc, ◌+◌, ◌-◌, ◌<◌, ◌≤◌, ◌⊎◌, inl, inr, true, false, ◌∷◌, ◌++◌, List, [], length, max, take, get_or, Some, None, nat_eq, nat_cmp, eqb, slice_get, refl, sym, ap, subst, ◌∙◌, arith}
 use Rattle.std.specs.Prelude.{option_map}
 use Rattle.std.specs.List.{filter_map, cons_option, AllByRecursion}
 use Rattle.std.specs.List.Sorted.{IsStrictlySortedBy}
@@ -7,23 +7,21 @@ use Rattle.std.specs.Map.{keys_of}
 use Rattle.std.specs.BTreeMap.{is_at}
 use Rattle.std.specs.Cmp.{ranked, unsigned_tied}
 use Rattle.std.proofs.lemmas.Bool.Decides.{nat_tests, eqb_tells}
-use Rattle.std.proofs.lemmas.Bool.{lt-ltb}
-use Rattle.std.proofs.lemmas.Option.{slice_get_past, slice_get_within}
+use Rattle.std.proofs.lemmas.Option.{slice_get_past, slice_get-map, slice_get-get_or}
+use Rattle.std.proofs.lemmas.List.{get_or-map, length-map}
+use Rattle.std.proofs.lemmas.List.Sums.{fold_more}
 use Rattle.std.specs.declared.cmp.Ordering.TheVariants.{Less}
 use Rattle.rma_base.specs.declared.rank.Rank.{Rank}
 use Rattle.rma_call.specs.Call.{RankCalls}
 use Rattle.rma_link.specs.declared.meet.Member.{Member}
 use Rattle.rma_run.specs.Run.{AreInOrder, calls_of}
+use Rattle.rma_run.proofs.WalkLemmas.{filter_map_taken}
 use Rattle.rma_round.specs.declared.kind.Kind.{Kind}
+use Rattle.rma_round.specs.declared.name_rounds.RankRounds.{RankRounds}
 use Rattle.rma_round.specs.Round.{numbers}
 use Rattle.rma_round.specs.Meet.{member_at, round_at}
-use Rattle.rma_round.specs.inside.Rounds.{listed}
-use Rattle.rma_round.specs.inside.Led.{member_in, leads_in, is_led_by}
-
-past_end : (ns : List ℕ) (place : ℕ) → slice_get ns place ≡ None → nat_lt place (length ns) ≡ false
-past_end [] place at = grind (arith, nat_tests)
-past_end (n ∷ ns) zero at = absurd (cc)
-past_end (n ∷ ns) (suc place) at = let rest = past_end ns place at in grind (arith, nat_tests, rest)
+use Rattle.rma_round.specs.inside.Rounds.{listed, row_entry, row_entries}
+use Rattle.rma_round.specs.inside.Met.{member_in, longest}
 
 -- ranks ascend, from this one on
 abbrev Ascend : ℕ → List (ℕ × List ℕ) → Type 0
@@ -141,19 +139,6 @@ module _ (place : ℕ) where
         by [] above fs_are others = skip [] tt fs_are (others [] tt (λ d. fs_are (suc d)))
         by (e ∷ fs) above fs_are others = first e fs above fs_are others (eqb_tells e.0 n)
 
-  -- the first of the ranks that have a call
-  leads_first : (rank : ℕ) (es : List (ℕ × List ℕ)) → leads_in place rank es ≡ is_led_by rank (filter_map (member_in place) es)
-  leads_first rank [] = refl
-  leads_first rank (e ∷ es) = by (slice_get e.1 place) refl (leads_first rank es)
-    where
-      by : (o : Option ℕ) → slice_get e.1 place ≡ o → leads_in place rank es ≡ is_led_by rank (filter_map (member_in place) es) → leads_in place rank (e ∷ es) ≡ is_led_by rank (filter_map (member_in place) (e ∷ es))
-      by None at rest = rw (at, past_end e.1 place at) rest
-      by (Some call) at rest = rw (at, lt-ltb place (length e.1) (slice_get_within e.1 place call at)) refl
-
--- a rank that has a call comes first of those that are left
-pub leads_here : (place rank : ℕ) (e : ℕ × List ℕ) (es : List (ℕ × List ℕ)) → place < length e.1 → nat_eq e.0 rank ≡ leads_in place rank (e ∷ es)
-leads_here place rank e es lt = rw (lt-ltb place (length e.1) lt) refl
-
 module _ (place : ℕ) (kind : Kind) (name : List ℕ) (ranks : List RankCalls) (es : List (ℕ × List ℕ)) (in_order : AreInOrder ranks) (sorted : IsStrictlySortedBy nat_cmp (keys_of es))
     (are : (other : ℕ) → listed es other ≡ numbers kind name (calls_of ranks other)) where
   -- the calls of a round are those of the ranks that are kept
@@ -162,5 +147,16 @@ module _ (place : ℕ) (kind : Kind) (name : List ℕ) (ranks : List RankCalls) 
       members_from place kind name 0 ranks es (λ i own there. in_order i own there ∙ (let e : i ≡ 0 + i = omega arith in e)) (ascend_from 0 es (all_from_zero es) sorted)
       (λ d. ap (listed es) (let e : 0 + d ≡ d = omega arith in e) ∙ are d)
 
-  pub leads_are : (rank : ℕ) → leads_in place rank es ≡ is_led_by rank (round_at kind name ranks place)
-  leads_are rank = leads_first place rank es ∙ ap (is_led_by rank) members_are
+-- the longest with one rank more
+pub longest_taken : (rows : List RankRounds) (i : ℕ) (row : RankRounds) → i < length rows →
+    longest (take (i + 1) (row_entries rows)) ≡ max (longest (take i (row_entries rows))) (length (get_or rows i row).numbers.now)
+longest_taken rows i row lt =
+    fold_more (λ most e. max most (length e.1)) 0 (row_entries rows) i (row_entry row) (rw length-map lt)
+    ∙ ap (λ e. max (longest (take i (row_entries rows))) (length e.1)) (get_or-map row_entry rows i row (row_entry row) lt)
+
+-- the calls of a round with those of one rank more
+pub members_taken : (place : ℕ) (rows : List RankRounds) (i : ℕ) (row : RankRounds) → i < length rows →
+    filter_map (member_in place) (take i (row_entries rows)) ++ cons_option (member_in place (row_entry (get_or rows i row))) [] ≡ filter_map (member_in place) (take (i + 1) (row_entries rows))
+members_taken place rows i row lt =
+    filter_map_taken (member_in place) (row_entries rows) i (row_entry (get_or rows i row)) []
+    (slice_get-map row_entry rows i ∙ ap (option_map row_entry) (slice_get-get_or rows i row lt))

@@ -1,20 +1,20 @@
 //! The rounds of one kind.
 ghost use Rattle.std.specs.Prelude.{◌≡◌, ◌++◌, ◌∷◌, [], ℕ, List, true, false, length, nat_eq, OnOk, if◌then◌else◌};
+ghost use Rattle.std.specs.List.{flat_map};
 ghost use Rattle.std.specs.Cmp.Lexicographic.{pointwise};
-ghost use Rattle.rma_call.specs.Call.{Call, RankCalls, call_of, what_of};
+ghost use Rattle.rma_call.specs.Call.{Call, call_of, what_of};
 ghost use Rattle.rma_run.specs.Run.{IsRun, calls_of, with_calls};
 ghost use Rattle.rma_round.specs.declared.kind.Kind.{Kind};
 ghost use Rattle.rma_round.specs.Round.{numbers, place_in, match_of, matched_at};
 ghost use Rattle.rma_round.specs.inside.Rounds.{kept, numbers_in, AreOfKind};
-ghost use Rattle.rma_round.specs.inside.Led.{led_on, led_on_name};
+ghost use Rattle.rma_round.specs.inside.Met.{name_meets};
 
 use crate::kind::{Kind, named};
-use crate::meet::any_waits;
 use crate::name_rounds::{NameRounds, place_in};
 use indexmap::IndexMap;
 use rma_base::{Memory, Name, Rank};
 use rma_call::{CallRef, RankCalls, WhatRef};
-use rma_link::{Links, Meet};
+use rma_link::Links;
 use std::alloc::Global;
 
 /// The rounds of one kind.
@@ -83,57 +83,29 @@ impl KindRounds {
         }
     }
 
-    /// Appends the meet of the round of the call of this number of a rank, if it is of the kind, the first of its round by rank, and
-    /// any call of the round waits for all.
-    pub(crate) fn push_meet(
-        &self,
-        alloc: Global,
-        ranks: &[RankCalls],
-        rank: Rank,
-        number: u32,
-        call: CallRef<'_>,
-        links: &mut Links,
-    ) -> Result<(), Memory>
-        requires run { IsRun ranks.now }
-        ensures edges { OnOk result (links.new.edges ≡ links.old.edges) }
-        ensures meets { OnOk result ((kind : Kind) → AreOfKind kind (calls_of ranks.now) self.now
-            → links.new.meets ≡ links.old.meets ++ led_on ranks.now rank.0 number (what_of call.entry.what) kind) }
+    /// Whether no call is of the kind.
+    pub(crate) fn is_empty(&self) -> bool
+        ensures { result ≡ true → self.now.names.entries ≡ [] }
     {
-        match named(self.kind, call.what) {
-            Some(name) => self.push_meet_on(alloc, ranks, rank, number, name, links),
-            None => Ok(()),
-        }
+        self.names.is_empty()
     }
 
-    /// Appends the meet of the round of the call of this number of a rank on the name, if the call is the first of its round.
-    fn push_meet_on(
+    /// Appends the meet of each round of which a call waits for all.
+    pub(crate) fn push_meets(
         &self,
         alloc: Global,
         ranks: &[RankCalls],
-        rank: Rank,
-        number: u32,
-        name: &Name,
         links: &mut Links,
     ) -> Result<(), Memory>
         requires run { IsRun ranks.now }
         ensures edges { OnOk result (links.new.edges ≡ links.old.edges) }
         ensures meets { OnOk result ((kind : Kind) → AreOfKind kind (calls_of ranks.now) self.now
-            → links.new.meets ≡ links.old.meets ++ led_on_name ranks.now rank.0 number kind name.now) }
+            → links.new.meets ≡ links.old.meets ++ flat_map (name_meets ranks.now kind) self.now.names.entries) }
     {
-        let Some(rounds) = self.names.get(name) else {
-            return Ok(());
-        };
-        let Some(place) = place_in(rounds.of(rank), number) else {
-            return Ok(());
-        };
-        if !rounds.is_led_by(rank, place) {
-            return Ok(());
+        for (_, rounds) in self.names.iter() {
+            rounds.push_meets(alloc, ranks, links)?;
         }
-        let calls = rounds.members(alloc, place)?;
-        if calls.len() < 2 || !any_waits(ranks, calls.as_slice()) {
-            return Ok(());
-        }
-        links.push_meet(Meet { calls })
+        Ok(())
     }
 }
 

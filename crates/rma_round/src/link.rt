@@ -2,17 +2,17 @@
 ghost use Rattle.std.specs.Prelude.{◌≡◌, ◌≤◌, ◌<◌, ◌^◌, ◌++◌, [], IfSome, length, OnOk};
 ghost use Rattle.std.specs.List.{cons_option};
 ghost use Rattle.rma_base.specs.Limits.{fed_limit};
-ghost use Rattle.rma_call.specs.Call.{call_of, what_of};
-ghost use Rattle.rma_run.specs.Run.{IsRun, calls_of, by_number, by_rank};
+ghost use Rattle.rma_call.specs.Call.{what_of};
+ghost use Rattle.rma_run.specs.Run.{IsRun, calls_of, by_number};
 ghost use Rattle.rma_round.specs.Edge.{call_of_root, edge_at, edges_at, round_edges};
 ghost use Rattle.rma_round.specs.Meet.{round_meets, HasMeets};
 ghost use Rattle.rma_round.specs.inside.Rounds.{Represents};
-ghost use Rattle.rma_round.specs.inside.Led.{led_at};
+ghost use Rattle.rma_round.specs.inside.Met.{all_meets};
 
 use crate::edge::{Rooted, edge_with, rooted_of};
 use crate::rounds::Rounds;
 use rma_base::{Memory, Rank};
-use rma_call::{CallRef, RankCalls, WhatRef};
+use rma_call::{RankCalls, WhatRef};
 use rma_link::{Edge, Links};
 
 impl Rounds {
@@ -28,15 +28,29 @@ impl Rounds {
         ensures edges { OnOk result (links.new.edges ≡ links.old.edges ++ round_edges ranks.now) }
         ensures meets { OnOk result (HasMeets links.new.meets links.old.meets (round_meets ranks.now)) }
     {
-        self.push_all(ranks, links)
+        self.push_edges(ranks, links)?;
+        self.push_meets(ranks, links)
     }
 
-    /// The same, with each meet at the call of its first member.
-    fn push_all(&self, ranks: &[RankCalls], links: &mut Links) -> Result<(), Memory>
+    /// Appends the edges. Only a call that moves data has one.
+    fn push_edges(&self, ranks: &[RankCalls], links: &mut Links) -> Result<(), Memory>
         requires run { IsRun ranks.now }
         requires represents { Represents (calls_of ranks.now) self.now }
         ensures edges { OnOk result (links.new.edges ≡ links.old.edges ++ round_edges ranks.now) }
-        ensures meets { OnOk result (links.new.meets ≡ links.old.meets ++ by_rank (led_at ranks.now) ranks.now) }
+        ensures meets { OnOk result (links.new.meets ≡ links.old.meets) }
+    {
+        if self.movings.is_empty() {
+            return Ok(());
+        }
+        self.push_ranks(ranks, links)
+    }
+
+    /// Appends the edges, rank by rank.
+    fn push_ranks(&self, ranks: &[RankCalls], links: &mut Links) -> Result<(), Memory>
+        requires run { IsRun ranks.now }
+        requires represents { Represents (calls_of ranks.now) self.now }
+        ensures edges { OnOk result (links.new.edges ≡ links.old.edges ++ round_edges ranks.now) }
+        ensures meets { OnOk result (links.new.meets ≡ links.old.meets) }
     {
         for rank in ranks {
             self.push_rank(ranks, rank, links)?;
@@ -44,7 +58,7 @@ impl Rounds {
         Ok(())
     }
 
-    /// Appends the edges of the calls of one rank, and the meets of which it makes the first call.
+    /// Appends the edges of the calls of one rank.
     fn push_rank(
         &self,
         ranks: &[RankCalls],
@@ -55,41 +69,27 @@ impl Rounds {
         requires run { IsRun ranks.now }
         requires represents { Represents (calls_of ranks.now) self.now }
         ensures edges { OnOk result (links.new.edges ≡ links.old.edges ++ by_number (edges_at (calls_of ranks.now) rank.now.rank) 0 rank.now.calls) }
-        ensures meets { OnOk result (links.new.meets ≡ links.old.meets ++ by_number (led_at ranks.now rank.now.rank) 0 rank.now.calls) }
+        ensures meets { OnOk result (links.new.meets ≡ links.old.meets) }
     {
         let calls = rank.calls();
         for i in 0..calls.len() {
-            self.push_at(ranks, rank.rank(), i as u32, calls.get(i), links)?;
+            let edge = self.edge_at(ranks, rank.rank(), i as u32, calls.get(i).what);
+            push_some(links, edge)?;
         }
         Ok(())
     }
 
-    /// Appends the edge of a call, and the meet of its round if it is the first.
-    fn push_at(
-        &self,
-        ranks: &[RankCalls],
-        rank: Rank,
-        number: u32,
-        call: CallRef<'_>,
-        links: &mut Links,
-    ) -> Result<(), Memory>
-        requires number { number < 2 ^ 31 }
+    /// Appends the meets, kind by kind.
+    fn push_meets(&self, ranks: &[RankCalls], links: &mut Links) -> Result<(), Memory>
         requires run { IsRun ranks.now }
         requires represents { Represents (calls_of ranks.now) self.now }
-        ensures edges { OnOk result (links.new.edges ≡ links.old.edges ++ edges_at (calls_of ranks.now) rank number (call_of call.entry)) }
-        ensures meets { OnOk result (links.new.meets ≡ links.old.meets ++ led_at ranks.now rank number (call_of call.entry)) }
+        ensures edges { OnOk result (links.new.edges ≡ links.old.edges) }
+        ensures meets { OnOk result (links.new.meets ≡ links.old.meets ++ all_meets ranks.now self.now) }
     {
-        let edge = self.edge_at(ranks, rank, number, call.what);
-        push_some(links, edge)?;
-        self.collectives
-            .push_meet(self.alloc, ranks, rank, number, call, links)?;
-        self.frees
-            .push_meet(self.alloc, ranks, rank, number, call, links)?;
-        self.fences
-            .push_meet(self.alloc, ranks, rank, number, call, links)?;
-        self.movings
-            .push_meet(self.alloc, ranks, rank, number, call, links)?;
-        Ok(())
+        self.collectives.push_meets(self.alloc, ranks, links)?;
+        self.frees.push_meets(self.alloc, ranks, links)?;
+        self.fences.push_meets(self.alloc, ranks, links)?;
+        self.movings.push_meets(self.alloc, ranks, links)
     }
 
     /// The edge of a call, if it moves data from a root or to it.

@@ -1,17 +1,88 @@
-//! Calls that return only after all calls of their round are entered.
-ghost use Rattle.std.specs.Prelude.{◌≡◌};
-ghost use Rattle.std.specs.List.{list_any};
-ghost use Rattle.std.specs.Prelude.{slice_get, false};
+//! Calls that return only after all calls of their round are entered, and the meets that they give.
+ghost use Rattle.std.specs.Prelude.{◌≡◌, ◌++◌, [], false, slice_get, IfOk, OnOk};
+ghost use Rattle.std.specs.List.{cons_option, filter_map, list_any};
 ghost use Rattle.std.specs.Option.{option_map_or};
 ghost use Rattle.rma_call.specs.Call.{what_of};
 ghost use Rattle.rma_round.specs.Meet.{waits_for_all};
-ghost use Rattle.rma_round.specs.inside.Led.{member_waits};
+ghost use Rattle.rma_round.specs.inside.Rounds.{row_entry, row_entries};
+ghost use Rattle.rma_round.specs.inside.Met.{member_in, longest, member_waits, met, before_round};
 
+use crate::name_rounds::RankRounds;
+use rma_base::{Memory, Sequence};
 use rma_call::{CallList, EpochCall, FrameCall, MovingCall, RankCalls, WhatRef, WindowCall};
-use rma_link::Member;
+use rma_link::{Links, Meet, Member};
+use std::alloc::Global;
+
+/// Appends the meet of each round of which a call waits for all.
+pub(crate) fn push_rounds(
+    alloc: Global,
+    ranks: &[RankCalls],
+    rows: &[RankRounds<'_>],
+    links: &mut Links,
+) -> Result<(), Memory>
+    ensures edges { OnOk result (links.new.edges ≡ links.old.edges) }
+    ensures meets { OnOk result (links.new.meets ≡ links.old.meets
+        ++ before_round (λ place. met ranks.now (filter_map (member_in place) (row_entries rows.now))) (longest (row_entries rows.now))) }
+{
+    for place in 0..longest(rows) {
+        let calls = members(alloc, rows, place)?;
+        push_meet(ranks, calls, links)?;
+    }
+    Ok(())
+}
+
+/// The most calls that a rank has.
+fn longest(rows: &[RankRounds<'_>]) -> usize
+    ensures { result ≡ longest (row_entries rows.now) }
+{
+    let mut most = 0;
+    for row in rows {
+        most = most.max(row.numbers.len());
+    }
+    most
+}
+
+/// The calls of the round of this number, by rank.
+fn members(alloc: Global, rows: &[RankRounds<'_>], place: usize) -> Result<Sequence<Member>, Memory>
+    ensures { IfOk result (λ members. members ≡ filter_map (member_in place) (row_entries rows.now)) }
+{
+    let mut members = Sequence::new(alloc);
+    for row in rows {
+        push_member(&mut members, *row, place)?;
+    }
+    Ok(members)
+}
+
+/// Appends the call of a rank in the round of this number, if it has one.
+fn push_member(
+    members: &mut Sequence<Member>,
+    row: RankRounds<'_>,
+    place: usize,
+) -> Result<(), Memory>
+    ensures { OnOk result (members.new ≡ members.old ++ cons_option (member_in place (row_entry row.entry)) []) }
+{
+    match row.numbers.get(place) {
+        Some(call) => members.push(Member {
+            rank: row.rank,
+            call: *call,
+        }),
+        None => Ok(()),
+    }
+}
+
+/// Appends the meet of the calls of a round, if any of them waits for all.
+fn push_meet(ranks: &[RankCalls], calls: Sequence<Member>, links: &mut Links) -> Result<(), Memory>
+    ensures edges { OnOk result (links.new.edges ≡ links.old.edges) }
+    ensures meets { OnOk result (links.new.meets ≡ links.old.meets ++ met ranks.now calls) }
+{
+    if calls.len() < 2 || !any_waits(ranks, calls.as_slice()) {
+        return Ok(());
+    }
+    links.push_meet(Meet { calls })
+}
 
 /// Whether any call of a round waits for all.
-pub(crate) fn any_waits(ranks: &[RankCalls], members: &[Member]) -> bool
+fn any_waits(ranks: &[RankCalls], members: &[Member]) -> bool
     ensures { result ≡ list_any (member_waits ranks.now) members.now }
 {
     for member in members {

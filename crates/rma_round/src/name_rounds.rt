@@ -1,18 +1,29 @@
 //! The rounds of one kind on one name.
 ghost use Rattle.std.specs.Prelude.{◌≡◌, ◌++◌, ◌∷◌, [], ℕ, List, nat_eq, IfOk, OnOk, if◌then◌else◌};
-ghost use Rattle.std.specs.List.{cons_option};
+ghost use Rattle.std.specs.Ordering.{nat_cmp};
+ghost use Rattle.std.specs.BTreeMap.{IsOrdered};
 ghost use Rattle.rma_call.specs.Call.{Call, RankCalls};
 ghost use Rattle.rma_run.specs.Run.{IsRun, calls_of};
 ghost use Rattle.rma_round.specs.declared.kind.Kind.{Kind};
 ghost use Rattle.rma_round.specs.Round.{numbers, place_in};
-ghost use Rattle.rma_round.specs.Meet.{round_at};
-ghost use Rattle.rma_round.specs.inside.Rounds.{listed};
-ghost use Rattle.rma_round.specs.inside.Led.{member_in, is_led_by};
+ghost use Rattle.rma_round.specs.inside.Rounds.{listed, row_entries, AreOnName};
+ghost use Rattle.rma_round.specs.inside.Met.{name_meets};
 
+use crate::meet::push_rounds;
 use rma_base::{Memory, Rank, Sequence};
-use rma_link::Member;
+use rma_call::RankCalls;
+use rma_link::Links;
 use std::alloc::Global;
 use std::collections::BTreeMap;
+
+/// The calls of a rank in the rounds of one kind on one name.
+#[derive(Clone, Copy)]
+pub struct RankRounds<'a> {
+    /// The rank.
+    pub rank: Rank,
+    /// The numbers of its calls, ascending: the k-th one is in round k.
+    pub numbers: &'a [u32],
+}
 
 /// The rounds of one kind on one name.
 #[derive(Drop)]
@@ -54,29 +65,35 @@ impl NameRounds {
         }
     }
 
-    /// Whether the rank is the first of those that have a call in the round of this number.
-    pub(crate) fn is_led_by(&self, rank: Rank, place: usize) -> bool
-        ensures { (kind : Kind) (name : List ℕ) (ranks : List RankCalls) → IsRun ranks
-            → ((other : ℕ) → listed self.now.ranks.entries other ≡ numbers kind name (calls_of ranks other)) → result ≡ is_led_by rank.0 (round_at kind name ranks place) }
+    /// The ranks that have calls, with their calls, by rank.
+    pub(crate) fn ranks(&self, alloc: Global) -> Result<Sequence<RankRounds<'_>>, Memory>
+        ensures entries { IfOk result (λ rows. row_entries rows ≡ self.now.ranks.entries) }
+        ensures ordered { IsOrdered nat_cmp self.now.ranks }
     {
-        for (own, numbers) in self.ranks.iter() {
-            if place < numbers.len() {
-                return *own == rank.0;
-            }
+        let mut rows = Sequence::new(alloc);
+        for (rank, numbers) in self.ranks.iter() {
+            rows.push(RankRounds {
+                rank: Rank(*rank),
+                numbers: numbers.as_slice(),
+            })?;
         }
-        false
+        Ok(rows)
     }
 
-    /// The calls of the round of this number, by rank.
-    pub(crate) fn members(&self, alloc: Global, place: usize) -> Result<Sequence<Member>, Memory>
-        ensures { IfOk result (λ members. (kind : Kind) (name : List ℕ) (ranks : List RankCalls) → IsRun ranks
-            → ((other : ℕ) → listed self.now.ranks.entries other ≡ numbers kind name (calls_of ranks other)) → members ≡ round_at kind name ranks place) }
+    /// Appends the meet of each round of which a call waits for all.
+    pub(crate) fn push_meets(
+        &self,
+        alloc: Global,
+        ranks: &[RankCalls],
+        links: &mut Links,
+    ) -> Result<(), Memory>
+        requires run { IsRun ranks.now }
+        ensures edges { OnOk result (links.new.edges ≡ links.old.edges) }
+        ensures meets { OnOk result ((kind : Kind) (name : List ℕ) → AreOnName kind name (calls_of ranks.now) self.now
+            → links.new.meets ≡ links.old.meets ++ name_meets ranks.now kind (name, self.now)) }
     {
-        let mut members = Sequence::new(alloc);
-        for (own, numbers) in self.ranks.iter() {
-            push_member(&mut members, *own, numbers.as_slice(), place)?;
-        }
-        Ok(members)
+        let rows = self.ranks(alloc)?;
+        push_rounds(alloc, ranks, rows.as_slice(), links)
     }
 }
 
@@ -87,23 +104,5 @@ pub(crate) fn place_in(own: &[u32], number: u32) -> Option<usize>
     match own.binary_search(&number) {
         Ok(place) => Some(place),
         Err(_) => None,
-    }
-}
-
-/// Appends the call of a rank in the round of this number, if it has one.
-fn push_member(
-    members: &mut Sequence<Member>,
-    rank: u32,
-    numbers: &[u32],
-    place: usize,
-) -> Result<(), Memory>
-    ensures { OnOk result (members.new ≡ members.old ++ cons_option (member_in place (rank, numbers.now)) []) }
-{
-    match numbers.get(place) {
-        Some(call) => members.push(Member {
-            rank: Rank(rank),
-            call: *call,
-        }),
-        None => Ok(()),
     }
 }

@@ -1,5 +1,5 @@
 -- What is kept of the rounds of a run.
-use Rattle.std.specs.Prelude.{◌≡◌, ℕ, List, [], Option, Some, None, nat_eq, unwrap_or}
+use Rattle.std.specs.Prelude.{◌≡◌, ℕ, List, [], Option, Some, None, nat_eq, unwrap_or, map}
 use Rattle.std.specs.Ordering.{nat_cmp}
 use Rattle.std.specs.Map.{lookup}
 use Rattle.std.specs.BTreeMap.{is_at}
@@ -8,6 +8,7 @@ use Rattle.rma_call.specs.Call.{Call}
 use Rattle.rma_round.specs.declared.kind.Kind.{Kind}
 use Rattle.rma_round.specs.declared.kind.Kind.TheVariants.{Collective, Free, Fence, Moving}
 use Rattle.rma_round.specs.declared.name_rounds.NameRounds.{NameRounds}
+use Rattle.rma_round.specs.declared.name_rounds.RankRounds.{RankRounds}
 use Rattle.rma_round.specs.declared.kind_rounds.KindRounds.{KindRounds}
 use Rattle.rma_round.specs.declared.rounds.Rounds.{Rounds}
 use Rattle.rma_round.specs.Round.{numbers}
@@ -25,10 +26,21 @@ abbrev pub numbers_in : Option NameRounds → ℕ → List ℕ
 numbers_in None rank = []
 numbers_in (Some rounds) rank = listed rounds.ranks.entries rank
 
+-- what is kept of the ranks represents the calls of a kind on a name
+abbrev pub AreOnName : Kind → List ℕ → (ℕ → List Call) → NameRounds → Type 0
+AreOnName kind name calls rounds = (rank : ℕ) → listed rounds.ranks.entries rank ≡ numbers kind name (calls rank)
+
 -- what is kept represents the calls of a kind
 pub record AreOfKind (kind : Kind) (calls : ℕ → List Call) (rounds : KindRounds) : Type 0 where
   pub kind_is : rounds.kind ≡ kind
   pub numbers_are : (name : List ℕ) (rank : ℕ) → numbers_in (kept rounds.names.entries name) rank ≡ numbers kind name (calls rank)
+
+-- what is kept of a kind
+abbrev pub of_kind : Kind → Rounds → KindRounds
+of_kind Collective rounds = rounds.collectives
+of_kind Free rounds = rounds.frees
+of_kind Fence rounds = rounds.fences
+of_kind Moving rounds = rounds.movings
 
 -- what is kept represents these calls of the ranks
 pub record Represents (calls : ℕ → List Call) (rounds : Rounds) : Type 0 where
@@ -36,3 +48,11 @@ pub record Represents (calls : ℕ → List Call) (rounds : Rounds) : Type 0 whe
   pub frees_are : AreOfKind Free calls rounds.frees
   pub fences_are : AreOfKind Fence calls rounds.fences
   pub movings_are : AreOfKind Moving calls rounds.movings
+
+-- a rank and the numbers of its calls
+abbrev pub row_entry : RankRounds → ℕ × List ℕ
+row_entry row = (row.rank.0, row.numbers.now)
+
+-- the same of each
+abbrev pub row_entries : List RankRounds → List (ℕ × List ℕ)
+row_entries rows = map row_entry rows

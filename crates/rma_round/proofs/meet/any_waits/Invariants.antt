@@ -1,6 +1,6 @@
 use Rattle.std.proofs.Common.{◌≡◌, false, take}
 use Rattle.std.specs.List.{list_any}
-use Rattle.rma_round.specs.inside.Led.{member_waits}
+use Rattle.rma_round.specs.inside.Met.{member_waits}
 use Rattle.rma_round.proofs.meet.any_waits.Given as goal
 
 -- the calls before do not wait

@@ -1,0 +1,19 @@
+use Rattle.std.proofs.Common.{List, ℕ, ◌++◌, ap, ◌∙◌}
+use Rattle.std.specs.List.{filter_map}
+use Rattle.rma_round.specs.inside.Rounds.{row_entries}
+use Rattle.rma_round.specs.inside.Met.{member_in, longest, met, before_round}
+use Rattle.rma_round.proofs.KeptLemmas.{OnOk_map}
+use Rattle.rma_round.proofs.MemberLemmas.{members_are}
+use Rattle.rma_round.proofs.name_rounds.NameRounds.push_meets.Goals as goal
+
+pub returns-clause-meets : goal.returns-clause-meets
+returns-clause-meets c =
+    let ranks = c.args.ranks.now in
+    let kept = c.args.self.now.ranks.entries in
+    let before = c.args.links.now.meets in
+    OnOk_map c.push_rounds.result
+    (λ is kind name are.
+    is
+    ∙ ap (λ (es : List (ℕ × List ℕ)). before ++ before_round (λ place. met ranks (filter_map (member_in place) es)) (longest es)) (ap row_entries c.as_slice.ensures ∙ c.in_ok-rows.ensures.entries)
+    ∙ (λ i. before ++ before_round (λ place. met ranks (members_are place kind name ranks kept c.requires.run.in_order c.ranks.ensures.ordered are i)) (longest kept)))
+    c.push_rounds.ensures.meets

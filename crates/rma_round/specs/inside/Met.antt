@@ -1,0 +1,46 @@
+-- The meets of a run, each once: name by name, and round by round.
+use Rattle.std.specs.Prelude.{ℕ, zero, suc, List, [], ◌++◌, Bool, false, Option, option_map, slice_get, length, fold, max, if◌then◌else◌}
+use Rattle.std.specs.List.{flat_map, list_any}
+use Rattle.std.specs.Option.{option_map_or}
+use Rattle.rma_call.specs.Call.{RankCalls}
+use Rattle.rma_link.specs.declared.meet.Member.{Member}
+use Rattle.rma_link.specs.declared.meet.Meet.{Meet}
+use Rattle.rma_run.specs.Run.{calls_of}
+use Rattle.rma_round.specs.declared.kind.Kind.{Kind}
+use Rattle.rma_round.specs.declared.name_rounds.NameRounds.{NameRounds}
+use Rattle.rma_round.specs.declared.rounds.Rounds.{Rounds}
+use Rattle.rma_round.specs.Meet.{waits_for_all, round_at, meet_of, kinds}
+use Rattle.rma_round.specs.inside.Rounds.{of_kind}
+
+-- the call of a rank in the round of this number, by what is kept of the rank
+abbrev pub member_in : ℕ → ℕ × List ℕ → Option Member
+member_in place entry = option_map (λ call. record { rank = record { 0 = entry.0 }; call = call }) (slice_get entry.1 place)
+
+-- the most calls that are kept of a rank
+abbrev pub longest : List (ℕ × List ℕ) → ℕ
+longest entries = fold (λ most entry. max most (length entry.1)) 0 entries
+
+-- whether a call of a round waits for all
+abbrev pub member_waits : List RankCalls → Member → Bool
+member_waits ranks member = option_map_or (λ call. waits_for_all call.what) (slice_get (calls_of ranks member.rank.0) member.call) false
+
+-- the meet of the calls of a round, if any waits for all
+abbrev pub met : List RankCalls → List Member → List Meet
+met ranks members = if list_any (member_waits ranks) members then meet_of members else []
+
+-- what is had of the rounds before that of this number
+abbrev pub before_round : (ℕ → List Meet) → ℕ → List Meet
+before_round f zero = []
+before_round f (suc place) = before_round f place ++ f place
+
+-- the meets of a kind on a name, by what is kept of the name
+abbrev pub name_meets : List RankCalls → Kind → List ℕ × NameRounds → List Meet
+name_meets ranks kind entry = before_round (λ place. met ranks (round_at kind entry.0 ranks place)) (longest entry.1.ranks.entries)
+
+-- the meets of a kind
+abbrev pub kind_meets : List RankCalls → Rounds → Kind → List Meet
+kind_meets ranks rounds kind = flat_map (name_meets ranks kind) (of_kind kind rounds).names.entries
+
+-- the meets of all kinds
+abbrev pub all_meets : List RankCalls → Rounds → List Meet
+all_meets ranks rounds = flat_map (kind_meets ranks rounds) kinds
