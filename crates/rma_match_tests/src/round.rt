@@ -109,7 +109,7 @@ static ROWS: &[Row] = &[
         ],
         partner: (0, 1, 1, Some(0)),
         edges: &[],
-        meets: &[&[(0, 0), (1, 1)], &[(0, 1), (1, 0)]],
+        meets: &[&[(0, 1), (1, 0)], &[(0, 0), (1, 1)]],
     },
     Row {
         shows: "a broadcast leads from its root to all others",
