@@ -1,7 +1,10 @@
 -- What is kept of a run, with more calls of a rank.
-use Rattle.std.proofs.Common.{◌≡◌, ℕ, ◌+◌, Bool, true, false, cond, ◌∷◌, ◌++◌, List, [], length, Some, None, Result, Ok, Err, nat_eq, take, slice_get, refl, sym, ap, subst, ◌∙◌, append-nil}
-use Rattle.std.specs.Prelude.{OnOk}
-use Rattle.std.specs.Cmp.Lexicographic.{pointwise}
+use Rattle.std.proofs.Common.{◌≡◌, ℕ, ◌+◌, Bool, true, false, cond, ◌∷◌, ◌++◌, List, [], length, Option, Some, None, Result, Ok, Err, nat_eq, take, slice_get, refl, sym, ap, subst, ◌∙◌, append-nil}
+use Rattle.std.specs.Prelude.{OnOk, IsSome, Contains}
+use Rattle.std.specs.Cmp.Lexicographic.{pointwise, same_text}
+use Rattle.std.proofs.lemmas.Map.Views.{Contains-keys_from_lookup}
+use Rattle.rma_run.proofs.ContainLemmas.{has_none}
+use Rattle.rma_round.specs.declared.name_rounds.NameRounds.{NameRounds}
 use Rattle.std.proofs.lemmas.Bool.{eqb-true}
 use Rattle.rma_call.specs.Call.{Call, RankCalls}
 use Rattle.rma_run.specs.Run.{calls_of, with_calls}
@@ -12,8 +15,8 @@ use Rattle.rma_round.specs.declared.kind_rounds.KindRounds.{KindRounds}
 use Rattle.rma_round.specs.declared.rounds.Rounds.{Rounds}
 use Rattle.rma_round.specs.Kind.{named, is_on}
 use Rattle.rma_round.specs.Round.{numbers}
-use Rattle.rma_round.specs.inside.Rounds.{kept, numbers_in, AreOfKind, of_kind, Represents}
-use Rattle.rma_round.proofs.NumberLemmas.{numbers_push, numbers_same}
+use Rattle.rma_round.specs.inside.Rounds.{kept, numbers_in, names_in, AreOfKind, of_kind, Represents}
+use Rattle.rma_round.proofs.NumberLemmas.{numbers_push, numbers_same, some_number}
 
 module _ (kind : Kind) where
   on_none : (name : List ℕ) (call : Call) → named kind call.what ≡ None → is_on kind name call ≡ false
@@ -71,6 +74,15 @@ module _ (kind : Kind) where
           ap (λ o. numbers_in o other) (others name differ)
           ∙ are.numbers_are name other
           ∙ same_numbers calls rank call name other (on_some name own call is_named ∙ differ)
+
+  -- a name that a call of the kind is on is kept
+  pub is_kept : (calls : ℕ → List Call) (rounds : KindRounds) → AreOfKind kind calls rounds → (rank number : ℕ) (call : Call) (name : List ℕ) → slice_get (calls rank) number ≡ Some call → named kind call.what ≡ Some name → Contains (names_in rounds) name
+  is_kept calls rounds are rank number call name there is =
+      Contains-keys_from_lookup (λ x y e. same_text x y (sym e)) name rounds.names.entries (by (kept rounds.names.entries name) (are.numbers_are name rank))
+    where
+      by : (o : Option NameRounds) → numbers_in o rank ≡ numbers kind name (calls rank) → IsSome o
+      by None same = has_none (0 + number) (subst (λ l. Contains l (0 + number)) (sym same) (some_number kind name (calls rank) number call there is))
+      by (Some own) same = refl
 
   AreOfKind_along : (f g : ℕ → List Call) (rounds : KindRounds) → ((rank : ℕ) → f rank ≡ g rank) → AreOfKind kind f rounds → AreOfKind kind g rounds
   AreOfKind_along f g rounds same are = record {

@@ -3,3 +3,4 @@ pub mod KeptLemmas
 pub mod MemberLemmas
 pub mod EdgeLemmas
 pub mod MeetLemmas
+mod RowLemmas

@@ -1,12 +1,14 @@
 -- The numbers of a rank's calls of a kind on a name.
 use Rattle.std.proofs.Common.{◌≡◌, ℕ, zero, suc, ◌+◌, ◌<◌, Bool, true, false, cond, ◌∷◌, ◌++◌, List, [], length, Option, Some, None, nat_eq, slice_get, refl, sym, ap, subst, ◌∙◌, arith, append-nil}
-use Rattle.std.specs.Prelude.{IfSome}
+use Rattle.std.specs.Prelude.{IfSome, Contains}
 use Rattle.std.specs.Option.{option_and_then, option_map_or}
 use Rattle.std.specs.Cmp.Lexicographic.{pointwise, same_text}
 use Rattle.std.proofs.lemmas.Option.{slice_get_within, get_or_from_slice_get}
 use Rattle.rma_call.specs.Call.{Call, RankCalls}
 use Rattle.rma_run.specs.Run.{IsRun, calls_of}
 use Rattle.rma_run.proofs.CallLemmas.{calls_are_few}
+use Rattle.rma_run.proofs.ContainLemmas.{has_first, has_later}
+use Rattle.std.proofs.lemmas.Cmp.{nat_list_eq_equiv}
 use Rattle.rma_run.proofs.PositionLemmas.{Rises, AreFrom, from_cons, from_rest, rises_cons, position_at, at_position}
 use Rattle.rma_round.specs.declared.kind.Kind.{Kind}
 use Rattle.rma_round.specs.Kind.{named, is_on}
@@ -15,6 +17,9 @@ use Rattle.rma_round.specs.Round.{numbers_from, numbers, place_in, match_of}
 cond_put : (b : Bool) (n : ℕ) (r t : List ℕ) → cond b (n ∷ (r ++ t)) (r ++ t) ≡ cond b (n ∷ r) r ++ t
 cond_put true n r t = refl
 cond_put false n r t = refl
+
+same_name : (name : List ℕ) → pointwise nat_eq name name ≡ true
+same_name name = nat_list_eq_equiv.refl name
 
 module _ (kind : Kind) (name : List ℕ) where
   numbers_from_push : (n : ℕ) (calls : List Call) (call : Call) →
@@ -84,6 +89,23 @@ module _ (kind : Kind) (name : List ℕ) where
       let one = number_from 0 calls place number at in
       let e : one.0 ≡ number = let is = one.2 in omega arith in
       (one.1, subst (λ k. slice_get calls k ≡ Some one.1) e one.3, on_is one.1 (named kind one.1.what) refl one.4)
+
+  -- a call of the kind on the name has its number among them
+  numbers_have : (n : ℕ) (calls : List Call) (k : ℕ) (call : Call) → slice_get calls k ≡ Some call → is_on kind name call ≡ true → Contains (numbers_from kind name n calls) (n + k)
+  numbers_have n [] k call there on = absurd (cc)
+  numbers_have n (c ∷ cs) zero call there on =
+      let is : c ≡ call = cc in
+      rw (is, on) (subst (Contains (n ∷ numbers_from kind name (n + 1) cs)) (let e : n ≡ n + 0 = omega arith in e) (has_first n (numbers_from kind name (n + 1) cs)))
+  numbers_have n (c ∷ cs) (suc k) call there on =
+      by (is_on kind name c) (subst (Contains (numbers_from kind name (n + 1) cs)) (let e : n + 1 + k ≡ n + suc k = omega arith in e) (numbers_have (n + 1) cs k call there on))
+    where
+      by : (b : Bool) → Contains (numbers_from kind name (n + 1) cs) (n + suc k) → Contains (cond b (n ∷ numbers_from kind name (n + 1) cs) (numbers_from kind name (n + 1) cs)) (n + suc k)
+      by true has = has_later n (n + suc k) (numbers_from kind name (n + 1) cs) has
+      by false has = has
+
+  -- so a name with such a call has numbers
+  pub some_number : (calls : List Call) (k : ℕ) (call : Call) → slice_get calls k ≡ Some call → named kind call.what ≡ Some name → Contains (numbers kind name calls) (0 + k)
+  some_number calls k call there is = numbers_have 0 calls k call there (rw is (same_name name))
 
   -- a number has its place
   pub place_is : (calls : List Call) (place number : ℕ) → slice_get (numbers kind name calls) place ≡ Some number → place_in kind name calls number ≡ Some place

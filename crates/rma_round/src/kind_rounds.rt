@@ -1,12 +1,13 @@
 //! The rounds of one kind.
-ghost use Rattle.std.specs.Prelude.{◌≡◌, ◌++◌, ◌∷◌, [], ℕ, List, true, false, length, nat_eq, OnOk, if◌then◌else◌};
-ghost use Rattle.std.specs.List.{flat_map};
+ghost use Rattle.std.specs.Prelude.{◌≡◌, ◌<◌, ◌++◌, Contains, Some, slice_get, ◌∷◌, [], ℕ, List, true, false, length, nat_eq, OnOk, if◌then◌else◌};
+ghost use Rattle.std.specs.List.{flat_map, IsDistinct};
 ghost use Rattle.std.specs.Cmp.Lexicographic.{pointwise};
 ghost use Rattle.rma_call.specs.Call.{Call, call_of, what_of};
 ghost use Rattle.rma_run.specs.Run.{IsRun, calls_of, with_calls};
 ghost use Rattle.rma_round.specs.declared.kind.Kind.{Kind};
 ghost use Rattle.rma_round.specs.Round.{numbers, place_in, match_of, matched_at};
-ghost use Rattle.rma_round.specs.inside.Rounds.{kept, numbers_in, AreOfKind};
+ghost use Rattle.rma_round.specs.Kind.{named};
+ghost use Rattle.rma_round.specs.inside.Rounds.{kept, numbers_in, names_in, AreOnName, AreOfKind};
 ghost use Rattle.rma_round.specs.inside.Met.{name_meets};
 
 use crate::kind::{Kind, named};
@@ -19,7 +20,7 @@ use std::alloc::Global;
 
 /// The rounds of one kind.
 #[derive(Drop)]
-pub(crate) struct KindRounds {
+pub struct KindRounds {
     /// The kind.
     kind: Kind,
     /// The rounds on each name.
@@ -34,6 +35,39 @@ impl KindRounds {
         KindRounds {
             kind,
             names: IndexMap::new(alloc),
+        }
+    }
+
+    /// The number of names that calls of the kind are on.
+    pub fn len(&self) -> usize
+        ensures count { result ≡ length (names_in self.now) }
+        ensures once { IsDistinct (pointwise nat_eq) (names_in self.now) }
+        ensures each { (kind : Kind) (calls : ℕ → List Call) → AreOfKind kind calls self.now
+            → (rank number : ℕ) (call : Call) (name : List ℕ) → slice_get (calls rank) number ≡ Some call → named kind call.what ≡ Some name → Contains (names_in self.now) name }
+    {
+        self.names.len()
+    }
+
+    /// The name at an index.
+    pub fn name(&self, i: usize) -> &Name
+        requires { i < length (names_in self.now) }
+        ensures { slice_get (names_in self.now) i ≡ Some result.now }
+    {
+        match self.names.get_index(i) {
+            Some((name, _)) => name,
+            None => unreachable!(),
+        }
+    }
+
+    /// The rounds on the name at an index.
+    pub fn rounds(&self, i: usize) -> &NameRounds
+        requires { i < length (names_in self.now) }
+        ensures { (kind : Kind) (calls : ℕ → List Call) → AreOfKind kind calls self.now
+            → (name : List ℕ) → slice_get (names_in self.now) i ≡ Some name → AreOnName kind name calls result.now }
+    {
+        match self.names.get_index(i) {
+            Some((_, rounds)) => rounds,
+            None => unreachable!(),
         }
     }
 

@@ -7,7 +7,11 @@
 //!
 //! [`Rounds`] takes the calls of the ranks one at a time, in any order of the ranks, or those of whole logs at once. It answers
 //! the call of another rank that is of the round of a call, and appends the links: a meet for each round that waits for all its
-//! calls, and the edges of data that moves from a root or to it. A call costs a look-up in a table by its name and one by its rank.
+//! calls, and the edges of data that moves from a root or to it. A call that is taken alone costs a look-up in a table by its name
+//! and one by its rank.
+//!
+//! The rounds of a kind are read name by name: [`KindRounds`] has the names, [`NameRounds`] the ranks that make calls on one name,
+//! and [`RankRounds`] the calls of one of those ranks. So all rounds are gone through with no look-up.
 #![tactic(auto)]
 
 mod edge;
@@ -20,4 +24,6 @@ mod name_rounds;
 mod rounds;
 
 pub use kind::{Kind, moved_on, named};
+pub use kind_rounds::KindRounds;
+pub use name_rounds::{NameRounds, RankRounds};
 pub use rounds::Rounds;

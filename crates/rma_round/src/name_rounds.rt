@@ -6,7 +6,7 @@ ghost use Rattle.rma_call.specs.Call.{Call, RankCalls};
 ghost use Rattle.rma_run.specs.Run.{IsRun, calls_of};
 ghost use Rattle.rma_round.specs.declared.kind.Kind.{Kind};
 ghost use Rattle.rma_round.specs.Round.{numbers, place_in};
-ghost use Rattle.rma_round.specs.inside.Rounds.{listed, row_entries, AreOnName};
+ghost use Rattle.rma_round.specs.inside.Rounds.{listed, calls_in, row_entries, AreOnName, AreRows};
 ghost use Rattle.rma_round.specs.inside.Met.{name_meets};
 
 use crate::meet::push_rounds;
@@ -27,7 +27,7 @@ pub struct RankRounds<'a> {
 
 /// The rounds of one kind on one name.
 #[derive(Drop)]
-pub(crate) struct NameRounds {
+pub struct NameRounds {
     /// The numbers of the calls of each rank, ascending, by the number of the rank: the k-th one is in round k.
     ranks: BTreeMap<u32, Sequence<u32>>,
 }
@@ -55,9 +55,9 @@ impl NameRounds {
         Ok(())
     }
 
-    /// The numbers of the calls of a rank.
-    pub(crate) fn of(&self, rank: Rank) -> &[u32]
-        ensures { result.now ≡ listed self.now.ranks.entries rank.0 }
+    /// The numbers of the calls of a rank, ascending.
+    pub fn of(&self, rank: Rank) -> &[u32]
+        ensures { result.now ≡ calls_in self.now rank.0 }
     {
         match self.ranks.get(&rank.0) {
             Some(numbers) => numbers.as_slice(),
@@ -66,7 +66,18 @@ impl NameRounds {
     }
 
     /// The ranks that have calls, with their calls, by rank.
-    pub(crate) fn ranks(&self, alloc: Global) -> Result<Sequence<RankRounds<'_>>, Memory>
+    ///
+    /// # Errors
+    ///
+    /// `Memory` where there is none left.
+    pub fn ranks(&self, alloc: Global) -> Result<Sequence<RankRounds<'_>>, Memory>
+        ensures { IfOk result (AreRows self.now) }
+    {
+        self.rows(alloc)
+    }
+
+    /// The same.
+    fn rows(&self, alloc: Global) -> Result<Sequence<RankRounds<'_>>, Memory>
         ensures entries { IfOk result (λ rows. row_entries rows ≡ self.now.ranks.entries) }
         ensures ordered { IsOrdered nat_cmp self.now.ranks }
     {
@@ -92,7 +103,7 @@ impl NameRounds {
         ensures meets { OnOk result ((kind : Kind) (name : List ℕ) → AreOnName kind name (calls_of ranks.now) self.now
             → links.new.meets ≡ links.old.meets ++ name_meets ranks.now kind (name, self.now)) }
     {
-        let rows = self.ranks(alloc)?;
+        let rows = self.rows(alloc)?;
         push_rounds(alloc, ranks, rows.as_slice(), links)
     }
 }

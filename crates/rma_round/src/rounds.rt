@@ -4,7 +4,7 @@ ghost use Rattle.rma_base.specs.Limits.{fed_limit};
 ghost use Rattle.rma_call.specs.Call.{Call, call_of};
 ghost use Rattle.rma_run.specs.Run.{IsRun, calls_of, with_calls};
 ghost use Rattle.rma_round.specs.Round.{partner_of};
-ghost use Rattle.rma_round.specs.inside.Rounds.{Represents};
+ghost use Rattle.rma_round.specs.inside.Rounds.{AreOfKind, Represents};
 
 use crate::kind::Kind;
 use crate::kind_rounds::KindRounds;
@@ -56,6 +56,18 @@ impl Rounds {
         self.fences.take(self.alloc, rank, number, call)?;
         self.movings.take(self.alloc, rank, number, call)?;
         Ok(())
+    }
+
+    /// The rounds of a kind.
+    pub fn of_kind(&self, kind: Kind) -> &KindRounds
+        ensures { (calls : ℕ → List Call) → Represents calls self.now → AreOfKind kind calls result.now }
+    {
+        match kind {
+            Kind::Collective => &self.collectives,
+            Kind::Free => &self.frees,
+            Kind::Fence => &self.fences,
+            Kind::Moving => &self.movings,
+        }
     }
 
     /// The call of the other rank that is of the round of a call of a rank, which is handed in with its number. Where the

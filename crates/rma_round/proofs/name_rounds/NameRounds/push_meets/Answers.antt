@@ -15,5 +15,5 @@ returns-clause-meets c =
     (λ is kind name are.
     is
     ∙ ap (λ (es : List (ℕ × List ℕ)). before ++ before_round (λ place. met ranks (filter_map (member_in place) es)) (longest es)) (ap row_entries c.as_slice.ensures ∙ c.in_ok-rows.ensures.entries)
-    ∙ (λ i. before ++ before_round (λ place. met ranks (members_are place kind name ranks kept c.requires.run.in_order c.ranks.ensures.ordered are i)) (longest kept)))
+    ∙ (λ i. before ++ before_round (λ place. met ranks (members_are place kind name ranks kept c.requires.run.in_order c.rows.ensures.ordered are i)) (longest kept)))
     c.push_rounds.ensures.meets
