@@ -1,8 +1,9 @@
 -- What blocks the next point of a rank.
-use Rattle.std.proofs.Common.{◌≡◌, ℕ, ◌+◌, ◌*◌, ◌%◌, ◌<◌, ◌^◌, inl, inr, List, [], length, get_or, set, refl, sym, ap, subst, ◌∙◌, arith, ⊎_elim}
+use Rattle.std.proofs.Common.{◌≡◌, ℕ, zero, suc, ◌+◌, ◌-◌, ◌*◌, ◌%◌, ◌<◌, ◌≤◌, ◌^◌, inl, inr, List, [], length, get_or, map, set, refl, sym, ap, subst, ◌∙◌, arith, ⊎_elim}
 use Rattle.std.specs.Prelude.{Contains, All, slice_index, slice_index_or}
-use Rattle.std.proofs.lemmas.Bool.{cases_eq}
-use Rattle.std.proofs.lemmas.List.{get_or-set_same, get_or-set_other, length-set}
+use Rattle.std.specs.List.Sorted.{IsStrictlyIncreasing}
+use Rattle.std.proofs.lemmas.Bool.{cases_eq, cases_lt}
+use Rattle.std.proofs.lemmas.List.{get_or-set_same, get_or-set_other, length-set, length-map}
 use Rattle.std.proofs.lemmas.Option.{same_Some, slice_get_within, get_or_from_slice_get}
 use Rattle.std.proofs.lemmas.List.Elements.{All-contains, Contains-get_or}
 use Rattle.rma_base.specs.declared.rank.Rank.{Rank}
@@ -12,7 +13,7 @@ use Rattle.rma_link.specs.declared.meet.Meet as meet
 use Rattle.rma_link.specs.declared.links.Links.{Links}
 use Rattle.rma_link.specs.Point.{entry, return_of}
 use Rattle.rma_link.specs.Link.{IsMet, IsLinked}
-use Rattle.rma_link.specs.Within.{IsEdgeWithin}
+use Rattle.rma_link.specs.Within.{IsEdgeWithin, IsMeetWithin}
 use Rattle.rma_link.proofs.OrderLemmas.{same_point, step_cases, linked_within}
 use Rattle.rma_walk.specs.declared.source.Source.{Source}
 use Rattle.rma_walk.specs.declared.source.Source.TheVariants.{Entry, Meet}
@@ -21,7 +22,34 @@ use Rattle.rma_walk.specs.inside.Run.{IsRun, AreReadable, IsPassed, IsGathered, 
 use Rattle.rma_walk.specs.Source.{IsEntryOf, sources_of}
 use Rattle.rma_walk.specs.inside.Pending.{IsSource, IsSourcePassed, IsMissing, IsReduced, IsInbox, IsKnown, IsPending}
 use Rattle.rma_walk.proofs.ListLemmas.{at_contains, contains_none}
+use Rattle.rma_walk.proofs.InboxLemmas.{get_or-map_in}
 use Rattle.rma_walk.proofs.PendingLemmas.{in_ranks}
+
+-- numbers that rise strictly are at least their indices, so there are no more than they allow
+at_least : (xs : List ℕ) → IsStrictlyIncreasing xs → (k : ℕ) → k < length xs → k ≤ slice_index xs k
+at_least xs rises zero lt = omega arith
+at_least xs rises (suc k) lt =
+    let more : suc k ≡ k + 1 = omega arith in
+    let before = at_least xs rises k (omega arith) in
+    let step : slice_index xs k < slice_index xs (k + 1) = rises k (omega arith) in
+    let same : slice_index xs (suc k) ≡ slice_index xs (k + 1) = ap (slice_index xs) more in
+    omega arith
+
+members_within : (lens : List ℕ) (meet : meet.Meet) → IsMeetWithin lens meet → length meet.calls ≤ length lens
+members_within lens meet within =
+    let rank_of : Member → ℕ = λ m. m.rank.0 in
+    ⊎_elim
+    (λ (some : 0 < length meet.calls).
+    let last : ℕ = length meet.calls - 1 in
+    let d : Member = record { rank = record { 0 = 0 }; call = 0 } in
+    let m = get_or meet.calls last d in
+    let size : length (map rank_of meet.calls) ≡ length meet.calls = length-map meet.calls rank_of in
+    let number = at_least (map rank_of meet.calls) within.1 last (omega arith) in
+    let is : slice_index (map rank_of meet.calls) last ≡ m.rank.0 = get_or-map_in rank_of meet.calls last d 0 (omega arith) in
+    let there : m.rank.0 < length lens = in_ranks lens m.rank.0 m.call (within.0 last d (omega arith)) in
+    omega arith)
+    (λ (none : length meet.calls ≤ 0). omega arith)
+    (cases_lt 0 (length meet.calls))
 
 pub readable_of : (lens : List ℕ) (links : Links) (n : ℕ) → IsRun lens links → n ≡ length lens → AreReadable n links
 readable_of lens links n run size = record {
@@ -35,6 +63,7 @@ readable_of lens links n run size = record {
       let there : m.rank.0 < length lens = in_ranks lens m.rank.0 m.call call in
       let bound : slice_index lens m.rank.0 < 2 ^ 31 = run.calls m.rank.0 0 there in
       (omega arith, omega arith);
+  sizes = λ k d lt. let few = members_within lens (get_or links.meets k d) (run.within.meets k d lt) in let ranks = run.ranks in omega arith;
 }
 
 module _ (lens : List ℕ) (links : Links) (next : List ℕ) (run : IsRun lens links) (size : length next ≡ length lens) (rank : ℕ) where

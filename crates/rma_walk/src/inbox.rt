@@ -1,29 +1,20 @@
 //! What the calls of one rank wait for.
-ghost use Rattle.std.specs.Prelude.{◌≡◌, ℕ, ◌<◌, ◌≤◌, [], ◌∷◌, length, replicate, drop, slice_get, slice_index_or, slice_set, IfOk, OnOk};
-ghost use Rattle.rma_walk.specs.inside.Inbox.{chain, no_arrival};
+ghost use Rattle.std.specs.Prelude.{◌≡◌, ◌<◌, [], ◌∷◌, length, replicate, drop, slice_get, slice_index_or, slice_set, IfOk, OnOk};
 
 use crate::source::Source;
+use crate::waits::{Arrival, ShortSource, Waits};
 use rma_base::{Memory, Sequence};
 use std::alloc::Global;
 use std::marker::Model;
 
-/// The sources of each call of a rank, the last one first. All calls share one list of them, in which each source names the
-/// one before it, so a call without a source takes one number.
+/// The sources of each call of a rank, the last one first. Nothing is kept beside a call that waits for one meet alone, or for
+/// nothing. The sources of all others stand in one list, in which each names the one before it.
 #[derive(Drop)]
 pub struct Inbox {
-    /// By call, the number of its last arrival, from 1, and 0 for none.
-    last: Vec<usize>,
-    /// What arrived, in any order of calls.
+    /// By call, what it waits for.
+    waits: Vec<Waits>,
+    /// The sources of calls that wait for more than one meet, in any order of calls.
     arrivals: Vec<Arrival>,
-}
-
-/// A source of a call.
-#[derive(Clone, Copy)]
-struct Arrival {
-    /// The source.
-    source: Source,
-    /// The number of the arrival before it at the same call, from 1, and 0 for none.
-    before: usize,
 }
 
 impl Model for Inbox {
@@ -35,9 +26,9 @@ impl Model for Inbox {
     ghost use Rattle.std.specs.Prelude.{map};
     ghost use Rattle.rma_walk.specs.inside.Inbox.{chain, AreChained};
 
-    ghost view = { λ inbox. map (chain inbox.arrivals.items) inbox.last.items };
+    ghost view = { λ inbox. map (chain inbox.arrivals.items) inbox.waits.items };
 
-    ghost invariant = { λ inbox. AreChained inbox.arrivals.items inbox.last.items };
+    ghost invariant = { λ inbox. AreChained inbox.arrivals.items inbox.waits.items };
 }
 
 impl Inbox {
@@ -45,9 +36,9 @@ impl Inbox {
     pub(crate) fn new(alloc: Global, calls: u32) -> Result<Inbox, Memory>
         ensures { IfOk result (λ inbox. inbox ≡ replicate calls []) }
     {
-        let last = vec![in alloc; 0; calls as usize]?;
+        let waits = vec![in alloc; Waits::Nothing; calls as usize]?;
         Ok(Inbox {
-            last,
+            waits,
             arrivals: Vec::new(alloc),
         })
     }
@@ -57,20 +48,29 @@ impl Inbox {
         requires { call < length self.old }
         ensures { OnOk result (self.new ≡ slice_set self.old call (source ∷ slice_index_or self.old call [])) }
     {
-        let before = self.last[call as usize];
+        let source = ShortSource::of(source)?;
+        let before = self.waits[call as usize];
+        if let (Waits::Nothing, ShortSource::Meet(index)) = (before, source) {
+            self.waits[call as usize] = Waits::Meet(index);
+            return Ok(());
+        }
+        let Ok(index) = u32::try_from(self.arrivals.len()) else {
+            return Err(Memory);
+        };
         self.arrivals.push(Arrival { source, before })?;
-        self.last[call as usize] = self.arrivals.len();
+        self.waits[call as usize] = Waits::Arrivals(index);
         Ok(())
     }
 
     /// The first source of the call that is left.
+    #[inline]
     pub fn first(&self, call: u32) -> Option<Source>
         requires { call < length self.now }
         ensures { result ≡ slice_get (slice_index_or self.now call []) 0 }
     {
-        match self.last[call as usize] {
-            0 => None,
-            number => Some(self.arrivals[number - 1].source),
+        match self.waits[call as usize].split(&self.arrivals) {
+            Some((source, _)) => Some(source),
+            None => None,
         }
     }
 
@@ -83,32 +83,18 @@ impl Inbox {
         requires { call < length self.now }
         ensures { IfOk result (λ sources. sources ≡ slice_index_or self.now call []) }
     {
-        chain(alloc, &self.arrivals, self.last[call as usize])
+        self.waits[call as usize].sources(alloc, &self.arrivals)
     }
 
     /// Takes the first source of the call away.
+    #[inline]
     pub fn drop_first(&mut self, call: u32)
         requires call { call < length self.old }
         requires some { 0 < length (slice_index_or self.old call []) }
         ensures { self.new ≡ slice_set self.old call (drop 1 (slice_index_or self.old call [])) }
     {
-        let number = self.last[call as usize];
-        self.last[call as usize] = self.arrivals[number - 1].before;
+        if let Some((_, rest)) = self.waits[call as usize].split(&self.arrivals) {
+            self.waits[call as usize] = rest;
+        }
     }
-}
-
-/// The sources of the arrival with this number, and of those before it at the same call.
-fn chain(alloc: Global, arrivals: &[Arrival], last: usize) -> Result<Sequence<Source>, Memory>
-    requires last { last ≤ length arrivals.now }
-    requires before { (k : ℕ) → k < length arrivals.now → (slice_index_or arrivals.now k no_arrival).before ≤ k }
-    ensures { IfOk result (λ sources. sources ≡ chain arrivals.now last) }
-{
-    let mut sources = Sequence::new(alloc);
-    let mut number = last;
-    while number != 0 {
-        let arrival = arrivals[number - 1];
-        sources.push(arrival.source)?;
-        number = arrival.before;
-    }
-    Ok(sources)
 }

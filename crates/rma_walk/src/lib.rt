@@ -17,6 +17,7 @@ mod pending;
 mod run;
 mod search;
 mod source;
+mod waits;
 mod walked;
 mod walking;
 

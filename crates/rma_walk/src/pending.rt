@@ -23,7 +23,7 @@ pub(crate) struct Pending {
     /// By rank, the sources of its calls that are not known to be passed.
     pub(crate) inboxes: Vec<Inbox>,
     /// By meet, how many of its first members are known to be entered.
-    pub(crate) known: Vec<usize>,
+    pub(crate) known: Vec<u32>,
 }
 
 impl Pending {
@@ -59,7 +59,7 @@ impl Pending {
 /// A rank that has to pass a point before the owner of the inbox can return from the call. Sources that are passed go.
 fn blocker(
     inbox: &mut Inbox,
-    known: &mut Vec<usize>,
+    known: &mut Vec<u32>,
     links: &Links,
     next: &[u32],
     call: u32,
@@ -84,7 +84,8 @@ fn blocker(
 }
 
 /// The rank of an entry of the source that is not passed, if there is one.
-fn missing(known: &mut Vec<usize>, links: &Links, next: &[u32], source: Source) -> Option<u32>
+#[inline]
+fn missing(known: &mut Vec<u32>, links: &Links, next: &[u32], source: Source) -> Option<u32>
     requires readable { AreReadable (length next.now) links.now }
     requires known { IsKnown links.now next.now known.old.items }
     requires source { IsSource (length next.now) links.now source }
@@ -102,8 +103,8 @@ fn missing(known: &mut Vec<usize>, links: &Links, next: &[u32], source: Source) 
         }
         Source::Meet(index) => {
             let members = links.meets.get(index).calls.as_slice();
-            let first = first_missing(members, known[index], next);
-            known[index] = first;
+            let first = first_missing(members, known[index] as usize, next);
+            known[index] = first as u32;
             if first == members.len() {
                 None
             } else {

@@ -14,10 +14,11 @@ pub record IsRun (lens : List ℕ) (links : Links) : Type 0 where
   pub calls : All (λ n. n < 2 ^ 31) lens
   pub within : AreWithin lens links
 
--- the links name so many ranks, and positions of 32 bits
+-- the links name so many ranks, and positions and numbers of members of 32 bits
 pub record AreReadable (ranks : ℕ) (links : Links) : Type 0 where
   pub edges : All (λ e. e.from.rank.0 < ranks) links.edges
   pub meets : All (λ meet. All (λ m. (m.rank.0 < ranks) × (m.call < 2 ^ 31)) meet.calls) links.meets
+  pub sizes : All (λ meet. length meet.calls < 2 ^ 32) links.meets
 
 -- the walk is past a point, by the next position of each rank
 abbrev pub IsPassed : List ℕ → Point → Type 0
