@@ -3,7 +3,8 @@
 //! A call on a window is allowed where the calls before it left the right epochs open: a phase between two fences, the access
 //! epoch of a start, the exposure epoch of a post, or locks. [`LiveEpochs`] takes the calls of a rank one at a time, and answers
 //! for each why it stands in no epoch that allows it, if so. [`epoch_fault`] takes the calls of a whole log, and answers the
-//! first [`EpochFault`]. A call takes constant work, whatever is open.
+//! first [`EpochFault`]. A call takes constant work, whatever is open and however many runs it touches, but for the ranks of its own
+//! group.
 #![tactic(auto)]
 
 mod call;
