@@ -4,6 +4,7 @@ use rma_call::{
     Assertion, Assertions, CallList, EpochCall, FrameCall, MatchFault, MovingCall, RankCalls,
     SyncCall, What, WindowCall,
 };
+use rma_match::Matches;
 use rma_run::is_run;
 use rma_sync::match_faults;
 use std::alloc::Global;
@@ -134,7 +135,8 @@ fn check(
         rank = rank.checked_add(1).ok_or("too many ranks")?;
     }
     assert!(rt; is_run(all.as_slice()));
-    let found = match_faults(alloc, all.as_slice())?;
+    let matches = Matches::of_calls(alloc, all.as_slice())?;
+    let found = match_faults(alloc, all.as_slice(), &matches)?;
     assert_eq!(rt; found.as_slice(), expected);
     Ok(())
 }

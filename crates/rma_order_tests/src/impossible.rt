@@ -1,6 +1,7 @@
 //! The links of runs, and the calls that are never left.
 use crate::logs::run_of;
 use rma_base::{LineNo, Rank};
+use rma_match::Matches;
 use rma_order::{ImpossibleCall, impossible_calls, run_links};
 use rma_run::is_run;
 use std::alloc::Global;
@@ -87,10 +88,11 @@ fn are(found: &[ImpossibleCall], stopped: &[(u32, u32)]) -> bool {
 fn check(rt: &impl Abort, alloc: Global, run: &Run) -> Result<(), Fail> {
     let calls = run_of(alloc, run.logs)?;
     assert!(rt; is_run(calls.as_slice()));
-    let links = run_links(alloc, calls.as_slice())?;
+    let matches = Matches::of_calls(alloc, calls.as_slice())?;
+    let links = run_links(alloc, calls.as_slice(), &matches)?;
     assert!(rt; links.edges.len() == run.edges);
     assert!(rt; links.meets.len() == run.meets);
-    let found = impossible_calls(alloc, calls.as_slice())?;
+    let found = impossible_calls(alloc, calls.as_slice(), &matches)?;
     assert!(rt; are(found.as_slice(), run.stopped));
     Ok(())
 }

@@ -1,4 +1,5 @@
 pub mod WalkLemmas
+pub mod AgreementLemmas
 pub mod FirstIndexLemmas
 pub mod CallCountLemmas
 pub mod SoFarLemmas

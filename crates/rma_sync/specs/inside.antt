@@ -1,4 +1,5 @@
 pub mod FirstIndex
+pub mod Agreement
 pub mod NameCount
 pub mod CallCount
 pub mod Member

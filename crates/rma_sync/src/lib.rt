@@ -11,6 +11,7 @@
 //! the calls that some member does not make.
 #![tactic(auto)]
 
+mod agreement;
 mod all_rounds;
 mod argument;
 mod attribute;

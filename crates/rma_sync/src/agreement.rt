@@ -1,0 +1,162 @@
+//! Runs in whose rounds nothing is at fault.
+ghost use Rattle.std.specs.Prelude.{◌≡◌, ◌≤◌, ◌<◌, ℕ, List, Some, true, slice_get, length, nat_le, All, IfOk};
+ghost use Rattle.std.specs.List.{list_all};
+ghost use Rattle.rma_call.specs.Call.{Call, what_of};
+ghost use Rattle.rma_run.specs.Run.{IsRun, calls_of};
+ghost use Rattle.rma_round.specs.Kind.{moved_on, named};
+ghost use Rattle.rma_round.specs.inside.Rounds.{AreOfKind, Represents, calls_in};
+ghost use Rattle.rma_sync.specs.Argument.{arguments_of};
+ghost use Rattle.rma_sync.specs.inside.Agreement.{AllAgree, IsRegular, RowAgrees};
+ghost use Rattle.rma_sync.specs.inside.Member.{AreMembers};
+ghost use Rattle.rma_call.specs.declared.what.What.{What};
+ghost use Rattle.rma_round.specs.declared.kind.Kind.TheVariants as kind;
+
+use crate::member::Members;
+use rma_base::{Memory, Rank};
+use rma_call::{CallList, EpochCall, FrameCall, RankCalls, WhatRef, WindowCall};
+use rma_round::{Kind, KindRounds, NameRounds, RankRounds, Rounds};
+use std::alloc::Global;
+
+/// Whether each member makes each call of a round, and all agree. The tables of the rounds tell it, so a run without such faults is
+/// not walked once more. Where any calls move data, it is not asked.
+pub(crate) fn are_regular(
+    alloc: Global,
+    ranks: &[RankCalls],
+    rounds: &Rounds,
+    members: &Members,
+) -> Result<bool, Memory>
+    requires run { IsRun ranks.now }
+    requires rounds { Represents (calls_of ranks.now) rounds.now }
+    requires members { AreMembers ranks.now members.now }
+    ensures collectives { IfOk result (λ regular. regular ≡ true → IsRegular kind.Collective ranks.now) }
+    ensures frees { IfOk result (λ regular. regular ≡ true → IsRegular kind.Free ranks.now) }
+    ensures fences { IfOk result (λ regular. regular ≡ true → IsRegular kind.Fence ranks.now) }
+    ensures movings { IfOk result (λ regular. regular ≡ true → IsRegular kind.Moving ranks.now) }
+{
+    if rounds.of_kind(Kind::Moving).len() > 0 {
+        return Ok(false);
+    }
+    let collectives = is_regular(alloc, Kind::Collective, ranks, rounds.of_kind(Kind::Collective), members)?;
+    let frees = is_regular(alloc, Kind::Free, ranks, rounds.of_kind(Kind::Free), members)?;
+    let fences = is_regular(alloc, Kind::Fence, ranks, rounds.of_kind(Kind::Fence), members)?;
+    Ok(collectives && frees && fences)
+}
+
+/// Whether that is so of a kind of calls that move no data.
+fn is_regular(
+    alloc: Global,
+    kind: Kind,
+    ranks: &[RankCalls],
+    rounds: &KindRounds,
+    members: &Members,
+) -> Result<bool, Memory>
+    requires run { IsRun ranks.now }
+    requires rounds { AreOfKind kind (calls_of ranks.now) rounds.now }
+    requires members { AreMembers ranks.now members.now }
+    requires moves_none { (what : What) (name : List ℕ) → named kind what ≡ Some name → moved_on what ≡ None }
+    ensures { IfOk result (λ regular. regular ≡ true → IsRegular kind ranks.now) }
+{
+    for i in 0..rounds.len() {
+        let on_name = rounds.rounds(i);
+        let rows = on_name.ranks(alloc)?;
+        let has_to = members.of(kind, rounds.name(i));
+        if !is_balanced(on_name, rows.as_slice(), has_to) || !all_agree(ranks, rows.as_slice()) {
+            return Ok(false);
+        }
+    }
+    Ok(true)
+}
+
+/// Whether each of these ranks makes as many calls as any rank does.
+fn is_balanced(rounds: &NameRounds, rows: &[RankRounds<'_>], members: &[u32]) -> bool
+    ensures { result ≡ true → (most : ℕ) × All (λ row. length row.numbers.now ≤ most) rows.now × (list_all (λ m. nat_le most (length (calls_in rounds.now m))) members.now ≡ true) }
+{
+    let most = longest(rows);
+    have_calls(rounds, members, most)
+}
+
+/// The most calls that a rank makes.
+fn longest(rows: &[RankRounds<'_>]) -> usize
+    ensures { All (λ row. length row.numbers.now ≤ result) rows.now }
+{
+    let mut most = 0;
+    for row in rows {
+        most = most.max(row.numbers.len());
+    }
+    most
+}
+
+/// Whether each of these ranks makes so many calls.
+fn have_calls(rounds: &NameRounds, members: &[u32], number: usize) -> bool
+    ensures { result ≡ list_all (λ m. nat_le number (length (calls_in rounds.now m))) members.now }
+{
+    members.iter().all(|m| number <= rounds.of(Rank(*m)).len())
+}
+
+/// Whether the calls of all ranks agree with those of the first, round by round.
+fn all_agree(ranks: &[RankCalls], rows: &[RankRounds<'_>]) -> bool
+    ensures { result ≡ true → 0 < length rows.now → AllAgree ranks.now rows.now }
+{
+    for row in rows {
+        if !row_agrees(ranks, rows[0], *row) {
+            return false;
+        }
+    }
+    true
+}
+
+/// Whether the calls of one rank agree with those of another, round by round, where they move no data.
+fn row_agrees(ranks: &[RankCalls], first: RankRounds<'_>, row: RankRounds<'_>) -> bool
+    ensures { result ≡ true → RowAgrees ranks.now first.entry row.entry }
+{
+    let (Some(first_calls), Some(calls)) =
+        (ranks.get(first.rank.0 as usize), ranks.get(row.rank.0 as usize))
+    else {
+        return false;
+    };
+    if row.numbers.len() > first.numbers.len() {
+        return false;
+    }
+    for k in 0..row.numbers.len() {
+        if !agree_at(first_calls.calls(), first.numbers[k], calls.calls(), row.numbers[k]) {
+            return false;
+        }
+    }
+    true
+}
+
+/// Whether two calls agree, where they move no data.
+fn agree_at(first_calls: &CallList, first: u32, calls: &CallList, own: u32) -> bool
+    ensures there { result ≡ true → first < length first_calls.now.calls }
+    ensures agree { result ≡ true → (one other : Call) → slice_get first_calls.now.calls first ≡ Some one → slice_get calls.now.calls own ≡ Some other → arguments_of 0 one.what ≡ arguments_of 0 other.what }
+{
+    let (first, own) = (first as usize, own as usize);
+    if first >= first_calls.len() || own >= calls.len() {
+        return false;
+    }
+    agree(first_calls.get(first).what, calls.get(own).what)
+}
+
+/// Whether two calls of one kind agree, where they move no data.
+fn agree(first: WhatRef<'_>, own: WhatRef<'_>) -> bool
+    ensures { result ≡ true → arguments_of 0 (what_of first.entry) ≡ arguments_of 0 (what_of own.entry) }
+{
+    match (first, own) {
+        (WhatRef::Frame(FrameCall::Barrier { .. }), WhatRef::Frame(FrameCall::Barrier { .. })) => {
+            true
+        }
+        (
+            WhatRef::Window(WindowCall::Create { window: first, .. }),
+            WhatRef::Window(WindowCall::Create { window: own, .. }),
+        ) => own == first,
+        (
+            WhatRef::Window(WindowCall::Free { .. }),
+            WhatRef::Window(WindowCall::Free { .. }),
+        ) => true,
+        (
+            WhatRef::Epoch(EpochCall::Fence { assertions: first, .. }),
+            WhatRef::Epoch(EpochCall::Fence { assertions: own, .. }),
+        ) => first.noprecede == own.noprecede && first.nosucceed == own.nosucceed,
+        _ => false,
+    }
+}
