@@ -12,7 +12,7 @@ use rma_base::limits::RANKS;
 use rma_base::{LineNo, Memory, Rank, Sequence};
 use rma_call::RankCalls;
 use rma_match::Matches;
-use rma_walk::{Walked, walk};
+use rma_walk::first_impossible_calls;
 use std::alloc::Global;
 
 /// The first call of a rank that is never left.
@@ -45,9 +45,9 @@ pub fn impossible_calls(
     }
     let counts = call_counts(alloc, ranks)?;
     let links = run_links(alloc, ranks, matches)?;
-    match walk(alloc, &counts, &links)? {
-        Walked::Order(_) => Ok(Sequence::new(alloc)),
-        Walked::Stuck(firsts) => told_all(alloc, ranks, firsts.as_slice()),
+    match first_impossible_calls(alloc, &counts, &links)? {
+        None => Ok(Sequence::new(alloc)),
+        Some(firsts) => told_all(alloc, ranks, firsts.as_slice()),
     }
 }
 

@@ -1,8 +1,8 @@
 -- What a walk comes to.
-use Rattle.std.proofs.Common.{◌≡◌, ℕ, ◌+◌, ◌*◌, ◌/◌, ◌<◌, ◌≤◌, ◌⊎◌, inl, inr, true, false, cond, List, [], length, get_or, Option, Some, None, refl, sym, ap, subst, ◌∙◌, arith, ⊎_elim}
-use Rattle.std.specs.Prelude.{Contains, slice_get, slice_index, slice_index_or, nat_lt}
+use Rattle.std.proofs.Common.{◌≡◌, ℕ, ◌+◌, ◌*◌, ◌/◌, ◌<◌, ◌≤◌, ◌⊎◌, inl, inr, Bool, true, false, cond, List, [], length, get_or, replicate, Option, Some, None, refl, sym, ap, subst, ◌∙◌, arith, ⊎_elim}
+use Rattle.std.specs.Prelude.{Contains, IfSome, MatchOption, slice_get, slice_index, slice_index_or, nat_lt}
 use Rattle.std.proofs.lemmas.Bool.{cases_lt, false≢true, lt-ltb, le-ltb}
-use Rattle.std.proofs.lemmas.List.{nil_from_length, same_lists}
+use Rattle.std.proofs.lemmas.List.{nil_from_length, same_lists, length-replicate}
 use Rattle.std.proofs.lemmas.Option.{same_Some, slice_get_within, slice_get-get_or}
 use Rattle.rma_base.specs.declared.rank.Rank.{Rank}
 use Rattle.rma_base.specs.declared.point.Point.{Point}
@@ -11,15 +11,35 @@ use Rattle.rma_link.specs.Point.{entry, return_of}
 use Rattle.rma_link.specs.Order.{IsOnCycle, IsAfterCycle, IsPossible}
 use Rattle.rma_link.specs.Within.{AreWithin}
 use Rattle.rma_link.proofs.OrderLemmas.{same_point, on_cycle_within}
-use Rattle.rma_walk.specs.Outcome.{IsOrder, IsImpossible, IsFirstImpossible, AreFirstImpossible}
-use Rattle.rma_walk.specs.inside.Run.{next_point}
-use Rattle.rma_walk.specs.inside.Front.{IsFront}
+use Rattle.rma_walk.specs.Outcome.{IsOrder, IsStuck, IsImpossible, IsFirstImpossible, AreFirstImpossible}
+use Rattle.rma_walk.specs.inside.Run.{IsRun, next_point}
+use Rattle.rma_walk.specs.inside.Front.{IsFront, IsKept}
+use Rattle.rma_walk.specs.inside.Pending.{IsPending}
 use Rattle.rma_walk.specs.inside.Search.{IsStopped, IsSettled, IsStack, IsIdle, IsSearch, line}
-use Rattle.rma_walk.specs.inside.Stop.{stopped_at}
+use Rattle.rma_walk.specs.inside.Stop.{AreStops, IsWhole, stopped_at}
 use Rattle.rma_walk.specs.declared.search.Search.{Search}
-use Rattle.rma_walk.proofs.ListLemmas.{contains_none}
-use Rattle.rma_walk.proofs.FrontLemmas.{passed_clear}
+use Rattle.rma_walk.proofs.ListLemmas.{contains_none, replicate_at}
+use Rattle.rma_walk.proofs.FrontLemmas.{front_at_start, passed_clear, whole_possible, whole_order}
 use Rattle.rma_walk.proofs.StackLemmas.{line_of_one}
+
+kept_at_start : (kept : Option (List Point)) → IfSome kept (λ list. list ≡ []) → IsKept kept []
+kept_at_start None empty = tt
+kept_at_start (Some list) empty = empty
+
+-- a walk that is past no point
+pub idle_at_start : (lens : List ℕ) (links : Links) (search : Search) → IsRun lens links → search.front.next.items ≡ replicate (length lens) 0 → IfSome search.front.order (λ list. list ≡ [])
+    → IsPending lens links (replicate (length lens) 0) search.pending → search.waiting.items ≡ [] → search.free.items ≡ replicate (length lens) true → IsIdle lens links search 0
+idle_at_start lens links search run next empty pending nobody free = record {
+  run = run;
+  order = [];
+  front = subst (λ n. IsFront lens links n []) (sym next) (front_at_start lens links);
+  kept = kept_at_start search.front.order empty;
+  pending = subst (λ n. IsPending lens links n search.pending) (sym next) pending;
+  size = ap length free ∙ length-replicate (length lens) true;
+  nobody = nobody;
+  held = λ r taken. absurd (false≢true (sym taken ∙ ap (λ (bs : List Bool). slice_index_or bs r true) free ∙ replicate_at (length lens) r true));
+  done = λ r less. absurd (omega arith);
+}
 
 -- a rank is followed for itself
 pub search_from_idle : (lens : List ℕ) (links : Links) (search : Search) (rank : ℕ) → rank < length lens → IsIdle lens links search rank → IsSearch lens links search rank rank
@@ -27,7 +47,9 @@ search_from_idle lens links search rank lt idle =
     let P : List ℕ → Type 0 = λ ws. IsStack lens links search.front.next.items search.free.items ws rank rank in
     record {
       run = idle.run;
+      order = idle.order;
       front = idle.front;
+      kept = idle.kept;
       pending = idle.pending;
       stack = subst P (sym idle.nobody) (record {
         size = idle.size;
@@ -88,7 +110,9 @@ module _ (lens : List ℕ) (links : Links) (search : Search) (rank current : ℕ
   pub idle_from_search : IsIdle lens links search (rank + 1)
   idle_from_search = record {
     run = is.run;
+    order = is.order;
     front = is.front;
+    kept = is.kept;
     pending = is.pending;
     size = is.stack.size;
     nobody = nobody;
@@ -146,6 +170,28 @@ cycle_of lens links next r settled differs =
     (λ end. absurd (differs end))
     (λ (stopped : IsStopped lens links next r). (stopped.1.0, stopped.1.1))
     settled
+
+-- what a walk that is done with all ranks tells
+module _ (lens : List ℕ) (links : Links) (search : Search) (idle : IsIdle lens links search (length lens)) where
+  pub possible_of : IsWhole lens search.front.next.items → IsPossible links
+  possible_of whole = whole_possible lens links search.front.next.items idle.order idle.front idle.run.within whole
+
+  pub stuck_of : (stops : List (Option ℕ)) → AreStops lens search.front.next.items stops → IsStuck lens links stops
+  stuck_of stops are =
+      let r = are.part.0 in (
+        cycle_of lens links search.front.next.items r (settled_of lens links search idle r are.part.1) are.part.2,
+        firsts_of lens links search.front.next.items idle.order idle.front (settled_of lens links search idle) stops are.each are.at,
+      )
+
+  pub told_of : (found : Option (List (Option ℕ))) → MatchOption found (IsWhole lens search.front.next.items) (AreStops lens search.front.next.items)
+      → MatchOption found (IsPossible links) (IsStuck lens links)
+  told_of None whole = possible_of whole
+  told_of (Some stops) are = stuck_of stops are
+
+  pub order_of : IsWhole lens search.front.next.items → (list : List Point) → search.front.order ≡ Some list → IsOrder lens links list
+  order_of whole list is =
+      let kept : list ≡ idle.order = subst (λ o. IsKept o idle.order) is idle.kept in
+      subst (IsOrder lens links) (sym kept) (whole_order lens links search.front.next.items idle.order idle.front idle.run.within whole)
 
 first_once : (links : Links) (rank : Rank) (len : ℕ) (one other : Option ℕ) → IsFirstImpossible links rank len one → IsFirstImpossible links rank len other → one ≡ other
 first_once links rank len None None a b = refl

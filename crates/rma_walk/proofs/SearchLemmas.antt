@@ -1,12 +1,12 @@
 -- A walk on its way.
-use Rattle.std.proofs.Common.{◌≡◌, ℕ, ◌*◌, ◌<◌, ◌⊎◌, Bool, true, false, List, [], ◌∷◌, ◌++◌, length, set, sym, ap, subst, arith, ⊎_elim}
+use Rattle.std.proofs.Common.{◌≡◌, ℕ, ◌*◌, ◌<◌, ◌⊎◌, Bool, true, false, List, [], ◌∷◌, ◌++◌, length, set, Option, Some, None, option_map, sym, ap, subst, arith, ⊎_elim}
 use Rattle.std.specs.Prelude.{slice_index, slice_index_or}
 use Rattle.std.proofs.lemmas.Bool.{cases_Bool}
 use Rattle.std.proofs.lemmas.List.{length-set}
 use Rattle.rma_base.specs.declared.point.Point.{Point}
 use Rattle.rma_link.specs.declared.links.Links.{Links}
 use Rattle.rma_walk.specs.inside.Run.{IsReady, IsBlocked, next_point}
-use Rattle.rma_walk.specs.inside.Front.{IsFront}
+use Rattle.rma_walk.specs.inside.Front.{IsFront, IsKept}
 use Rattle.rma_walk.specs.inside.Pending.{IsPending}
 use Rattle.rma_walk.specs.inside.Search.{IsStack, IsSearch, work}
 use Rattle.rma_walk.specs.declared.front.Front.{Front}
@@ -16,6 +16,10 @@ use Rattle.rma_walk.proofs.FrontLemmas.{passed_on, passed_kept, front_more}
 use Rattle.rma_walk.proofs.BlockerLemmas.{pending_later}
 use Rattle.rma_walk.proofs.StackLemmas.{followed_other, stopped_all, passed_alone, passed_for}
 use Rattle.rma_walk.proofs.WorkLemmas.{less_by_passing, less_by_returning}
+
+kept_more : (kept : Option (List Point)) (order : List Point) (point : Point) → IsKept kept order → IsKept (option_map (λ list. list ++ point ∷ []) kept) (order ++ point ∷ [])
+kept_more None order point is = is
+kept_more (Some list) order point is = ap (λ (xs : List Point). xs ++ point ∷ []) is
 
 module _ (lens : List ℕ) (links : Links) (old new : Search) (pending : Pending) (rank current : ℕ) (is : IsSearch lens links old rank current)
     (is_free : slice_index_or old.free.items current true ≡ true) (pends : IsPending lens links old.front.next.items pending) (pending_is : new.pending ≡ pending) where
@@ -34,11 +38,14 @@ module _ (lens : List ℕ) (links : Links) (old new : Search) (pending : Pending
 
     pub search_waits : IsSearch lens links new rank to
     search_waits =
-        let P : Front → Type 0 = λ f. IsFront lens links f.next.items f.order in
+        let P : Front → Type 0 = λ f. IsFront lens links f.next.items is.order in
+        let K : Front → Type 0 = λ f. IsKept f.order is.order in
         let Q : Front → Type 0 = λ f. IsPending lens links f.next.items new.pending in
         record {
           run = is.run;
+          order = is.order;
           front = subst P (sym front) is.front;
+          kept = subst K (sym front) is.kept;
           pending = subst Q (sym front) (subst (IsPending lens links old.front.next.items) (sym pending_is) pends);
           stack = ⊎_elim
               (λ (free : slice_index_or (set old.free.items current false) other true ≡ true).
@@ -54,14 +61,14 @@ module _ (lens : List ℕ) (links : Links) (old new : Search) (pending : Pending
 
   -- the rank that is followed passes its next point
   module _ (to : ℕ) (more : slice_index old.front.next.items current < 2 * slice_index lens current) (ready : IsReady links old.front.next.items current)
-      (next_is : new.front.next.items ≡ passed_on old.front.next.items current) (order_is : new.front.order ≡ old.front.order ++ next_point old.front.next.items current ∷ [])
+      (next_is : new.front.next.items ≡ passed_on old.front.next.items current) (order_is : new.front.order ≡ option_map (λ list. list ++ next_point old.front.next.items current ∷ []) old.front.order)
       (follows : ((old.waiting.items ≡ []) × (new.waiting.items ≡ []) × (to ≡ current) × (new.free.items ≡ old.free.items))
       ⊎ ((old.waiting.items ≡ new.waiting.items ++ to ∷ []) × (new.free.items ≡ set old.free.items to true))) where
     there : current < length old.front.next.items
     there = let lt = is.stack.within in let size = is.front.ranks in omega arith
 
-    passed_front : IsFront lens links (passed_on old.front.next.items current) (old.front.order ++ next_point old.front.next.items current ∷ [])
-    passed_front = front_more lens links old.front.next.items old.front.order current is.front there more ready
+    passed_front : IsFront lens links (passed_on old.front.next.items current) (is.order ++ next_point old.front.next.items current ∷ [])
+    passed_front = front_more lens links old.front.next.items is.order current is.front there more ready
 
     passed_stack : IsStack lens links (passed_on old.front.next.items current) new.free.items new.waiting.items rank to
     passed_stack =
@@ -80,15 +87,18 @@ module _ (lens : List ℕ) (links : Links) (old new : Search) (pending : Pending
 
     pub search_passes : IsSearch lens links new rank to
     search_passes =
-        let P : List ℕ → Type 0 = λ next. IsFront lens links next (old.front.order ++ next_point old.front.next.items current ∷ []) in
-        let Q : List Point → Type 0 = λ order. IsFront lens links new.front.next.items order in
+        let more_order : List Point = is.order ++ next_point old.front.next.items current ∷ [] in
+        let P : List ℕ → Type 0 = λ next. IsFront lens links next more_order in
+        let K : Option (List Point) → Type 0 = λ order. IsKept order more_order in
         let R : List ℕ → Type 0 = λ next. IsPending lens links next new.pending in
         let S : List ℕ → Type 0 = λ next. IsStack lens links next new.free.items new.waiting.items rank to in
         let later : IsPending lens links (passed_on old.front.next.items current) pending =
         pending_later links old.front.next.items (passed_on old.front.next.items current) (passed_kept old.front.next.items current there) lens pending pends in
         record {
           run = is.run;
-          front = subst Q (sym order_is) (subst P (sym next_is) passed_front);
+          order = more_order;
+          front = subst P (sym next_is) passed_front;
+          kept = subst K (sym order_is) (kept_more old.front.order is.order (next_point old.front.next.items current) is.kept);
           pending = subst R (sym next_is) (subst (IsPending lens links (passed_on old.front.next.items current)) (sym pending_is) later);
           stack = subst S (sym next_is) passed_stack;
         }

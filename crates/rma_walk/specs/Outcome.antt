@@ -35,7 +35,11 @@ pub record AreFirstImpossible (lens : List ℕ) (links : Links) (firsts : List (
   pub each : length firsts ≡ length lens
   pub first : (rank : ℕ) (call : Option ℕ) → slice_get firsts rank ≡ Some call → IsFirstImpossible links (record { 0 = rank }) (slice_index lens rank) call
 
--- a possible run has an order; in any other one two different points are each before the other
+-- two different points are each before the other, and these are the first calls that are never left
+abbrev pub IsStuck : List ℕ → Links → List (Option ℕ) → Type 0
+IsStuck lens links firsts = ((p : Point) × IsOnCycle links p) × AreFirstImpossible lens links firsts
+
+-- a possible run has an order; any other one is stuck
 abbrev pub IsOutcome : List ℕ → Links → Walked → Type 0
 IsOutcome lens links (Order list) = IsPossible links × IsOrder lens links list
-IsOutcome lens links (Stuck firsts) = ((p : Point) × IsOnCycle links p) × AreFirstImpossible lens links firsts
+IsOutcome lens links (Stuck firsts) = IsStuck lens links firsts

@@ -1,12 +1,12 @@
 //! A walk on its way.
-ghost use Rattle.std.specs.Prelude.{◌≡◌, ◌<◌, ◌≤◌, ◌+◌, ◌*◌, ◌^◌, ◌++◌, ◌⊎◌, [], ◌∷◌, true, false, length, slice_index, slice_index_or, slice_set, All, IfOk, OnOk};
+ghost use Rattle.std.specs.Prelude.{◌≡◌, ◌<◌, ◌≤◌, ◌+◌, ◌*◌, ◌^◌, ◌++◌, ◌⊎◌, [], ◌∷◌, true, false, length, slice_index, slice_index_or, slice_set, is_some, option_map, All, IfOk, IfSome, OnOk};
 ghost use Rattle.rma_walk.specs.inside.Run.{IsRun, next_point};
 ghost use Rattle.rma_walk.specs.inside.Search.{IsSearch, IsIdle, work};
 
 use crate::front::Front;
 use crate::pending::Pending;
 use crate::run::Run;
-use rma_base::{Memory, Sequence};
+use rma_base::{Memory, Point, Sequence};
 use std::alloc::Global;
 
 /// A walk on its way.
@@ -23,19 +23,22 @@ pub(crate) struct Search {
 }
 
 impl Search {
-    /// A walk that is past no point.
-    pub(crate) fn new(alloc: Global, run: &Run<'_>) -> Result<Search, Memory>
-        requires { IsRun run.now.lens.now run.now.links.now }
-        ensures { IfOk result (λ search. IsIdle run.now.lens.now run.now.links.now search 0) }
+    /// A walk that is past no point, and keeps its order in an empty list, where it gets one.
+    pub(crate) fn new(
+        alloc: Global,
+        run: &Run<'_>,
+        order: Option<Sequence<Point>>,
+    ) -> Result<Search, Memory>
+        requires run { IsRun run.now.lens.now run.now.links.now }
+        requires order { IfSome order (λ list. list ≡ []) }
+        ensures idle { IfOk result (λ search. IsIdle run.now.lens.now run.now.links.now search 0) }
+        ensures keeps { IfOk result (λ search. is_some search.front.order ≡ is_some order) }
     {
         let next = vec![in alloc; 0; run.lens.len()]?;
         let free = vec![in alloc; true; run.lens.len()]?;
         let pending = Pending::new(alloc, run)?;
         Ok(Search {
-            front: Front {
-                next,
-                order: Sequence::new(alloc),
-            },
+            front: Front { next, order },
             pending,
             waiting: Vec::new(alloc),
             free,
@@ -45,7 +48,8 @@ impl Search {
     /// Passes all points that can be passed.
     pub(crate) fn settle_all(&mut self, run: &Run<'_>) -> Result<(), Memory>
         requires { IsIdle run.now.lens.now run.now.links.now self.old 0 }
-        ensures { OnOk result (IsIdle run.now.lens.now run.now.links.now self.new (length run.now.lens.now)) }
+        ensures idle { OnOk result (IsIdle run.now.lens.now run.now.links.now self.new (length run.now.lens.now)) }
+        ensures keeps { OnOk result (is_some self.new.front.order ≡ is_some self.old.front.order) }
     {
         for rank in 0..run.lens.len() as u32 {
             self.settle(run, rank)?;
@@ -57,7 +61,8 @@ impl Search {
     fn settle(&mut self, run: &Run<'_>, rank: u32) -> Result<(), Memory>
         requires idle { IsIdle run.now.lens.now run.now.links.now self.old rank }
         requires rank { rank < length run.now.lens.now }
-        ensures { OnOk result (IsIdle run.now.lens.now run.now.links.now self.new (rank + 1)) }
+        ensures idle { OnOk result (IsIdle run.now.lens.now run.now.links.now self.new (rank + 1)) }
+        ensures keeps { OnOk result (is_some self.new.front.order ≡ is_some self.old.front.order) }
     {
         let mut current = rank;
         while self.has_next(run, current) {
@@ -85,6 +90,7 @@ impl Search {
         requires free { slice_index_or self.old.free.items current true ≡ true }
         ensures search { IfOk result (λ to. IsSearch run.now.lens.now run.now.links.now self.new rank to) }
         ensures less { OnOk result (work run.now.lens.now self.new.front.next.items self.new.free.items < work run.now.lens.now self.old.front.next.items self.old.free.items) }
+        ensures keeps { OnOk result (is_some self.new.front.order ≡ is_some self.old.front.order) }
     {
         match self.pending.blocker(run, &self.front.next, current) {
             Some(other) => self.wait(rank, current, other),
@@ -119,7 +125,7 @@ impl Search {
         requires position { slice_index self.old.front.next.items current + 1 < 2 ^ 32 }
         requires waiting { All (λ w. w < length self.old.free.items) self.old.waiting.items }
         ensures next { OnOk result (self.new.front.next.items ≡ slice_set self.old.front.next.items current (slice_index self.old.front.next.items current + 1)) }
-        ensures order { OnOk result (self.new.front.order ≡ self.old.front.order ++ next_point self.old.front.next.items current ∷ []) }
+        ensures order { OnOk result (self.new.front.order ≡ option_map (λ list. list ++ next_point self.old.front.next.items current ∷ []) self.old.front.order) }
         ensures pending { self.new.pending ≡ self.old.pending }
         ensures follows { IfOk result (λ to. ((self.old.waiting.items ≡ []) × (self.new.waiting.items ≡ []) × (to ≡ current) × (self.new.free.items ≡ self.old.free.items))
             ⊎ ((self.old.waiting.items ≡ self.new.waiting.items ++ to ∷ []) × (self.new.free.items ≡ slice_set self.old.free.items to true))) }

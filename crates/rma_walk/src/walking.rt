@@ -1,8 +1,9 @@
 //! A walk over all points.
-ghost use Rattle.std.specs.Prelude.{◌≡◌, ◌≢◌, ◌<◌, ◌*◌, ◌^◌, ℕ, Some, true, false, length, slice_index, slice_get, All, IfOk};
+ghost use Rattle.std.specs.Prelude.{◌≡◌, ◌≢◌, ◌<◌, ◌*◌, ◌^◌, ℕ, Some, true, false, length, slice_index, slice_get, All, IfOk, MatchOption};
+ghost use Rattle.rma_link.specs.Order.{IsPossible};
 ghost use Rattle.rma_link.specs.Within.{AreWithin};
-ghost use Rattle.rma_walk.specs.Outcome.{IsOutcome};
-ghost use Rattle.rma_walk.specs.inside.Stop.{stopped_at};
+ghost use Rattle.rma_walk.specs.Outcome.{IsOutcome, IsStuck};
+ghost use Rattle.rma_walk.specs.inside.Stop.{AreStops, IsWhole, stopped_at};
 
 use crate::run::Run;
 use crate::search::Search;
@@ -25,21 +26,56 @@ pub fn walk(alloc: Global, lens: &[u32], links: &Links) -> Result<Walked, Memory
     ensures { IfOk result (λ walked. IsOutcome lens.now links.now walked) }
 {
     let run = Run { lens, links };
-    let mut search = Search::new(alloc, &run)?;
+    let mut search = Search::new(alloc, &run, Some(Sequence::new(alloc)))?;
     search.settle_all(&run)?;
     let front = search.front;
-    if is_whole(lens, &front.next) {
-        Ok(Walked::Order(front.order))
-    } else {
-        Ok(Walked::Stuck(first_stops(alloc, lens, &front.next)?))
+    match stops(alloc, lens, &front.next)? {
+        Some(firsts) => Ok(Walked::Stuck(firsts)),
+        None => Ok(Walked::Order(front.order.unwrap())),
     }
+}
+
+/// By rank, the first call that is never left, where the run is not possible.
+///
+/// The time that it takes grows with the points, the edges and the members of meets. The memory grows with the calls and the
+/// links, and not with the points, since no order is kept.
+///
+/// # Errors
+///
+/// `Memory` where there is none left.
+pub fn first_impossible_calls(
+    alloc: Global,
+    lens: &[u32],
+    links: &Links,
+) -> Result<Option<Sequence<Option<u32>>>, Memory>
+    requires ranks { length lens.now < 2 ^ 32 }
+    requires calls { All (λ calls. calls < 2 ^ 31) lens.now }
+    requires links { AreWithin lens.now links.now }
+    ensures { IfOk result (λ firsts. MatchOption firsts (IsPossible links.now) (IsStuck lens.now links.now)) }
+{
+    let run = Run { lens, links };
+    let mut search = Search::new(alloc, &run, None)?;
+    search.settle_all(&run)?;
+    stops(alloc, lens, &search.front.next)
+}
+
+/// By rank, the call that it does not leave, if some rank is not past its last call.
+fn stops(alloc: Global, lens: &[u32], next: &[u32]) -> Result<Option<Sequence<Option<u32>>>, Memory>
+    requires size { length next.now ≡ length lens.now }
+    requires calls { All (λ calls. calls < 2 ^ 31) lens.now }
+    ensures { IfOk result (λ stops. MatchOption stops (IsWhole lens.now next.now) (AreStops lens.now next.now)) }
+{
+    if is_whole(lens, next) {
+        return Ok(None);
+    }
+    Ok(Some(first_stops(alloc, lens, next)?))
 }
 
 /// Whether each rank is past its last call, by its next position.
 fn is_whole(lens: &[u32], next: &[u32]) -> bool
     requires size { length next.now ≡ length lens.now }
     requires calls { All (λ calls. calls < 2 ^ 31) lens.now }
-    ensures yes { result ≡ true → (rank : ℕ) → rank < length lens.now → slice_index next.now rank ≡ 2 * slice_index lens.now rank }
+    ensures yes { result ≡ true → IsWhole lens.now next.now }
     ensures no { result ≡ false → (rank : ℕ) × (rank < length lens.now) × (slice_index next.now rank ≢ 2 * slice_index lens.now rank) }
 {
     for (rank, len) in lens.iter().enumerate() {

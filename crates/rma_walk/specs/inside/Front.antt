@@ -1,5 +1,5 @@
 -- The points that a walk is past, in the order in which it passed them.
-use Rattle.std.specs.Prelude.{ℕ, ◌≡◌, ◌<◌, ◌≤◌, ◌*◌, List, length, slice_index}
+use Rattle.std.specs.Prelude.{ℕ, ◌≡◌, ◌<◌, ◌≤◌, ◌*◌, List, Option, Some, None, length, slice_index}
 use Rattle.rma_base.specs.declared.point.Point.{Point}
 use Rattle.rma_link.specs.declared.links.Links.{Links}
 use Rattle.rma_link.specs.Order.{IsDirectlyBefore}
@@ -14,3 +14,8 @@ pub record IsFront (lens : List ℕ) (links : Links) (next : List ℕ) (order : 
   pub only : (k : ℕ) (p : Point) → IsAt order k p → IsPassed next p
   pub once : (j k : ℕ) (p : Point) → IsAt order j p → IsAt order k p → j ≡ k
   pub ordered : (k : ℕ) (p q : Point) → IsAt order k q → IsDirectlyBefore links p q → (j : ℕ) × (j < k) × IsAt order j p
+
+-- the points are kept, or none are
+abbrev pub IsKept : Option (List Point) → List Point → Type 0
+IsKept None order = Unit {0}
+IsKept (Some kept) order = kept ≡ order

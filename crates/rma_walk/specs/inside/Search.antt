@@ -1,10 +1,11 @@
 -- A walk on its way.
 use Rattle.std.specs.Prelude.{ℕ, ◌≡◌, ◌<◌, ◌≤◌, ◌+◌, ◌-◌, ◌*◌, ◌++◌, ◌⊎◌, Bool, true, false, List, [], ◌∷◌, length, slice_index, slice_index_or, sum, count_by, Contains}
+use Rattle.rma_base.specs.declared.point.Point.{Point}
 use Rattle.rma_link.specs.declared.links.Links.{Links}
 use Rattle.rma_link.specs.Point.{IsReturn}
 use Rattle.rma_link.specs.Order.{IsAtOrBefore, IsAfterCycle}
 use Rattle.rma_walk.specs.inside.Run.{IsRun, next_point}
-use Rattle.rma_walk.specs.inside.Front.{IsFront}
+use Rattle.rma_walk.specs.inside.Front.{IsFront, IsKept}
 use Rattle.rma_walk.specs.inside.Pending.{IsPending}
 use Rattle.rma_walk.specs.declared.search.Search.{Search}
 
@@ -41,7 +42,9 @@ pub record IsStack (lens : List ℕ) (links : Links) (next : List ℕ) (free : L
 -- a walk that follows a rank for another one
 pub record IsSearch (lens : List ℕ) (links : Links) (search : Search) (rank current : ℕ) : Type 0 where
   pub run : IsRun lens links
-  pub front : IsFront lens links search.front.next.items search.front.order
+  pub order : List Point
+  pub front : IsFront lens links search.front.next.items order
+  pub kept : IsKept search.front.order order
   pub pending : IsPending lens links search.front.next.items search.pending
   pub stack : IsStack lens links search.front.next.items search.free.items search.waiting.items rank current
 
@@ -52,7 +55,9 @@ IsSettled lens links next rank = (slice_index next rank ≡ 2 * slice_index lens
 -- a walk that follows no rank, and is done with the ranks before one
 pub record IsIdle (lens : List ℕ) (links : Links) (search : Search) (rank : ℕ) : Type 0 where
   pub run : IsRun lens links
-  pub front : IsFront lens links search.front.next.items search.front.order
+  pub order : List Point
+  pub front : IsFront lens links search.front.next.items order
+  pub kept : IsKept search.front.order order
   pub pending : IsPending lens links search.front.next.items search.pending
   pub size : length search.free.items ≡ length lens
   pub nobody : search.waiting.items ≡ []

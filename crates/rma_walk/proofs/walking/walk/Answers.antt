@@ -1,31 +1,26 @@
-use Rattle.std.proofs.Common.{◌≡◌, ℕ, ◌<◌, ◌*◌, List, Some, length, subst}
-use Rattle.std.specs.Prelude.{slice_index, slice_get}
-use Rattle.rma_walk.specs.inside.Stop.{stopped_at}
-use Rattle.rma_walk.proofs.FrontLemmas.{whole_possible, whole_order}
-use Rattle.rma_walk.proofs.OutcomeLemmas.{settled_of, firsts_of, cycle_of}
+use Rattle.std.proofs.Common.{List, ℕ, Option, subst}
+use Rattle.std.specs.Prelude.{MatchOption}
+use Rattle.rma_link.specs.Order.{IsPossible}
+use Rattle.rma_walk.specs.Outcome.{IsStuck}
+use Rattle.rma_walk.specs.inside.Stop.{AreStops, IsWhole}
+use Rattle.rma_walk.proofs.OutcomeLemmas.{possible_of, order_of, told_of}
 use Rattle.rma_walk.proofs.walking.walk.Goals as goal
 
-pub returns-then-is_whole : goal.returns-then-is_whole
-returns-then-is_whole c =
+pub returns-in-Some : goal.returns-in-Some
+returns-in-Some c =
     let lens = c.args.lens.now in
     let links = c.args.links.now in
-    let front = c.settle_all.new.self.front in
-    let idle = c.in_ok-settle_all.ensures in
-    let P : List ℕ → Type 0 = λ next. (r : ℕ) → r < length lens → slice_index next r ≡ 2 * slice_index lens r in
-    let whole : P front.next.items = subst P c.deref.ensures.value (c.is_whole.ensures.yes c.if-is_whole.true) in
-    (whole_possible lens links front.next.items front.order idle.front c.requires.links whole, whole_order lens links front.next.items front.order idle.front c.requires.links whole)
+    let P : List ℕ → Type 0 = λ next. MatchOption c.in_ok-firsts.field-0 (IsWhole lens next) (AreStops lens next) in
+    let Q : Option (List (Option ℕ)) → Type 0 = λ found. MatchOption found (IsPossible links) (IsStuck lens links) in
+    subst Q c.in-Some.is (told_of lens links c.settle_all.new.self c.in_ok-settle_all.ensures.idle c.in_ok-firsts.field-0 (subst P c.deref.ensures.value c.in_ok-firsts.ensures))
 
 pub returns : goal.returns
 returns c =
     let lens = c.args.lens.now in
     let links = c.args.links.now in
-    let front = c.settle_all.new.self.front in
-    let idle = c.in_ok-settle_all.ensures in
-    let P : List ℕ → Type 0 = λ next. (r : ℕ) × (r < length lens) × (slice_index next r ≡ 2 * slice_index lens r → ⊥) in
-    let part = subst P c.deref.ensures.value (c.is_whole.ensures.no c.if-is_whole.false) in
-    let stops = c.in_ok-first_stops.field-0 in
-    let Q : List ℕ → Type 0 = λ next. (r : ℕ) → r < length lens → slice_get stops r ≡ Some (stopped_at (slice_index lens r) (slice_index next r)) in
-    let each : Q front.next.items = subst Q c.deref-else-is_whole.ensures.value c.in_ok-first_stops.ensures.stops in (
-      cycle_of lens links front.next.items part.0 (settled_of lens links c.settle_all.new.self idle part.0 part.1) part.2,
-      firsts_of lens links front.next.items front.order idle.front (settled_of lens links c.settle_all.new.self idle) stops c.in_ok-first_stops.ensures.each each,
-    )
+    let search = c.settle_all.new.self in
+    let idle = c.in_ok-settle_all.ensures.idle in
+    let P : List ℕ → Type 0 = λ next. MatchOption c.in_ok-firsts.field-0 (IsWhole lens next) (AreStops lens next) in
+    let Q : Option (List (Option ℕ)) → Type 0 = λ found. MatchOption found (IsWhole lens search.front.next.items) (AreStops lens search.front.next.items) in
+    let whole = subst Q c.in-None.is (subst P c.deref.ensures.value c.in_ok-firsts.ensures) in
+    (possible_of lens links search idle whole, order_of lens links search idle whole c.unwrap.result c.unwrap.ensures)

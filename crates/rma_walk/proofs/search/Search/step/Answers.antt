@@ -1,4 +1,4 @@
-use Rattle.std.proofs.Common.{◌≡◌, ◌<◌, ◌⊎◌, ◌++◌, ℕ, Bool, true, false, List, [], ◌∷◌, set, subst, arith}
+use Rattle.std.proofs.Common.{◌≡◌, ◌<◌, ◌⊎◌, ◌++◌, ℕ, Bool, true, false, List, [], ◌∷◌, set, option_map, subst, arith}
 use Rattle.std.specs.Prelude.{slice_index_or}
 use Rattle.std.proofs.lemmas.List.{get_or_default}
 use Rattle.rma_walk.specs.inside.Run.{IsReady, IsBlocked, next_point}
@@ -60,7 +60,7 @@ returns-in-None-clause-search c =
     let P : List ℕ → Type 0 = λ next. IsReady links next current in
     let Q : List ℕ → Type 0 = λ next. IsPending lens links next c.blocker.new.self in
     let Next : Type 0 = new.front.next.items ≡ passed_on old.front.next.items current in
-    let Order : Type 0 = new.front.order ≡ old.front.order ++ next_point old.front.next.items current ∷ [] in
+    let Order : Type 0 = new.front.order ≡ option_map (λ list. list ++ next_point old.front.next.items current ∷ []) old.front.order in
     let Follows : ℕ → Type 0 = λ to. ((old.waiting.items ≡ []) × (new.waiting.items ≡ []) × (to ≡ current) × (new.free.items ≡ old.free.items))
     ⊎ ((old.waiting.items ≡ new.waiting.items ++ to ∷ []) × (new.free.items ≡ set old.free.items to true)) in
     ok_later c.pass.result (λ to. Next × Follows to) (λ to. Order × Follows to) (λ to. IsSearch lens links new c.args.rank to)
@@ -79,7 +79,7 @@ returns-in-None-clause-less c =
     let P : List ℕ → Type 0 = λ next. IsReady links next current in
     let Q : List ℕ → Type 0 = λ next. IsPending lens links next c.blocker.new.self in
     let Next : Type 0 = new.front.next.items ≡ passed_on old.front.next.items current in
-    let Order : Type 0 = new.front.order ≡ old.front.order ++ next_point old.front.next.items current ∷ [] in
+    let Order : Type 0 = new.front.order ≡ option_map (λ list. list ++ next_point old.front.next.items current ∷ []) old.front.order in
     let Less : Type 0 = work lens new.front.next.items new.free.items < work lens old.front.next.items old.free.items in
     let Follows : ℕ → Type 0 = λ to. ((old.waiting.items ≡ []) × (new.waiting.items ≡ []) × (to ≡ current) × (new.free.items ≡ old.free.items))
     ⊎ ((old.waiting.items ≡ new.waiting.items ++ to ∷ []) × (new.free.items ≡ set old.free.items to true)) in
