@@ -159,7 +159,7 @@ module _ (lens : List ℕ) (links : Links) (within : AreWithin lens links) where
       let r = some.0 in
       let there : r < length next = (let lt = some.1 in let size = front.ranks in omega arith) in
       let later : IsFront lens links (passed_on next r) (order ++ next_point next r ∷ []) = front_more lens links next order r front there some.2.0 some.2.1 in
-      let smaller = less_by_passing lens next [] r there front.ranks later.within later.ranks in
+      let smaller = less_by_passing lens next [] r (slice_index next r + 1) there (omega arith) front.ranks later.within later.ranks in
       held_front fuel (passed_on next r) (order ++ next_point next r ∷ []) later (omega arith))
       (below_or_some (IsHeld lens links next) (IsReadyRank lens links next)
       (λ r. ⊎_elim

@@ -23,19 +23,20 @@ passed_on next rank = set next rank (slice_index next rank + 1)
 pub passed_on_other : (next : List ℕ) (rank r : ℕ) → (r ≡ rank → ⊥) → slice_index (passed_on next rank) r ≡ slice_index next r
 passed_on_other next rank r differs = get_or-set_other next rank r (slice_index next rank + 1) 0 differs
 
+-- what is passed stays passed where a rank is past more points
+pub passed_kept : (next : List ℕ) (rank pos : ℕ) → rank < length next → slice_index next rank < pos → (p : Point) → IsPassed next p → IsPassed (set next rank pos) p
+passed_kept next rank pos there more p passed =
+    ⊎_elim
+    (λ (own : p.rank.0 ≡ rank).
+    let now : slice_index (set next rank pos) p.rank.0 ≡ pos = ap (slice_index (set next rank pos)) own ∙ get_or-set_same next rank pos 0 there in
+    let then : slice_index next p.rank.0 ≡ slice_index next rank = ap (slice_index next) own in
+    omega arith)
+    (λ (other : p.rank.0 ≡ rank → ⊥). subst (λ n. p.pos < n) (sym (get_or-set_other next rank p.rank.0 pos 0 other)) passed)
+    (cases_eq p.rank.0 rank)
+
 module _ (next : List ℕ) (rank : ℕ) (there : rank < length next) where
   pub passed_on_this : slice_index (passed_on next rank) rank ≡ slice_index next rank + 1
   passed_on_this = get_or-set_same next rank (slice_index next rank + 1) 0 there
-
-  pub passed_kept : (p : Point) → IsPassed next p → IsPassed (passed_on next rank) p
-  passed_kept p passed =
-      ⊎_elim
-      (λ (own : p.rank.0 ≡ rank).
-      let now : slice_index (passed_on next rank) p.rank.0 ≡ slice_index next rank + 1 = ap (slice_index (passed_on next rank)) own ∙ passed_on_this in
-      let then : slice_index next p.rank.0 ≡ slice_index next rank = ap (slice_index next) own in
-      omega arith)
-      (λ (other : p.rank.0 ≡ rank → ⊥). subst (λ n. p.pos < n) (sym (passed_on_other next rank p.rank.0 other)) passed)
-      (cases_eq p.rank.0 rank)
 
   pub passed_this : IsPassed (passed_on next rank) (next_point next rank)
   passed_this = let now = passed_on_this in omega arith
@@ -77,7 +78,7 @@ module _ (lens : List ℕ) (links : Links) (next : List ℕ) (order : List Point
   more_only : (k : ℕ) (p : Point) → IsAt (order ++ next_point next rank ∷ []) k p → IsPassed (passed_on next rank) p
   more_only k p is =
       ⊎_elim
-      (λ old. passed_kept next rank there p (front.only k p old))
+      (λ old. passed_kept next rank (slice_index next rank + 1) there (omega arith) p (front.only k p old))
       (λ (new : (k ≡ length order) × (next_point next rank ≡ p)). subst (IsPassed (passed_on next rank)) new.1 (passed_this next rank there))
       (slice_get_push order (next_point next rank) k p is)
 

@@ -3,6 +3,7 @@ pub mod InboxLemmas
 pub mod PendingLemmas
 pub mod FrontLemmas
 pub mod BlockerLemmas
+pub mod AdvanceLemmas
 pub mod FollowLemmas
 pub mod StackLemmas
 pub mod WorkLemmas

@@ -68,6 +68,10 @@ pub on_ok_later : {A E : Type 0} (r : Result A E) (P : A → Type 0) (Q : Type 0
 on_ok_later (Ok x) P Q one so = so x one
 on_ok_later (Err e) P Q one so = one
 
+pub on_ok_both : {A E : Type 0} (r : Result A E) (P Q R : Type 0) → OnOk r P → OnOk r Q → (P → Q → R) → OnOk r R
+on_ok_both (Ok x) P Q R one two so = so one two
+on_ok_both (Err e) P Q R one two so = one
+
 pub replicate_at : {A : Type 0} (n i : ℕ) (x : A) → get_or (replicate n x) i x ≡ x
 replicate_at zero i x = refl
 replicate_at (suc n) zero x = refl

@@ -1,25 +1,21 @@
 -- A walk on its way.
-use Rattle.std.proofs.Common.{◌≡◌, ℕ, ◌*◌, ◌<◌, ◌⊎◌, Bool, true, false, List, [], ◌∷◌, ◌++◌, length, set, Option, Some, None, option_map, sym, ap, subst, arith, ⊎_elim}
+use Rattle.std.proofs.Common.{◌≡◌, ℕ, ◌*◌, ◌<◌, ◌⊎◌, Bool, true, false, List, [], ◌∷◌, ◌++◌, length, set, sym, ap, subst, arith, ⊎_elim}
 use Rattle.std.specs.Prelude.{slice_index, slice_index_or}
 use Rattle.std.proofs.lemmas.Bool.{cases_Bool}
 use Rattle.std.proofs.lemmas.List.{length-set}
 use Rattle.rma_base.specs.declared.point.Point.{Point}
 use Rattle.rma_link.specs.declared.links.Links.{Links}
-use Rattle.rma_walk.specs.inside.Run.{IsReady, IsBlocked, next_point}
-use Rattle.rma_walk.specs.inside.Front.{IsFront, IsKept}
+use Rattle.rma_walk.specs.inside.Run.{IsBlocked}
+use Rattle.rma_walk.specs.inside.Front.{IsFront, IsKept, HasAdvanced}
 use Rattle.rma_walk.specs.inside.Pending.{IsPending}
 use Rattle.rma_walk.specs.inside.Search.{IsStack, IsSearch, work}
 use Rattle.rma_walk.specs.declared.front.Front.{Front}
 use Rattle.rma_walk.specs.declared.pending.Pending.{Pending}
 use Rattle.rma_walk.specs.declared.search.Search.{Search}
-use Rattle.rma_walk.proofs.FrontLemmas.{passed_on, passed_kept, front_more}
+use Rattle.rma_walk.proofs.FrontLemmas.{passed_kept}
 use Rattle.rma_walk.proofs.BlockerLemmas.{pending_later}
 use Rattle.rma_walk.proofs.StackLemmas.{followed_other, stopped_all, passed_alone, passed_for}
 use Rattle.rma_walk.proofs.WorkLemmas.{less_by_passing, less_by_returning}
-
-kept_more : (kept : Option (List Point)) (order : List Point) (point : Point) → IsKept kept order → IsKept (option_map (λ list. list ++ point ∷ []) kept) (order ++ point ∷ [])
-kept_more None order point is = is
-kept_more (Some list) order point is = ap (λ (xs : List Point). xs ++ point ∷ []) is
 
 module _ (lens : List ℕ) (links : Links) (old new : Search) (pending : Pending) (rank current : ℕ) (is : IsSearch lens links old rank current)
     (is_free : slice_index_or old.free.items current true ≡ true) (pends : IsPending lens links old.front.next.items pending) (pending_is : new.pending ≡ pending) where
@@ -59,64 +55,62 @@ module _ (lens : List ℕ) (links : Links) (old new : Search) (pending : Pending
               (cases_Bool (slice_index_or (set old.free.items current false) other true));
         }
 
-  -- the rank that is followed passes its next point
-  module _ (to : ℕ) (more : slice_index old.front.next.items current < 2 * slice_index lens current) (ready : IsReady links old.front.next.items current)
-      (next_is : new.front.next.items ≡ passed_on old.front.next.items current) (order_is : new.front.order ≡ option_map (λ list. list ++ next_point old.front.next.items current ∷ []) old.front.order)
+  -- the rank that is followed passes points
+  module _ (to : ℕ) (more : slice_index old.front.next.items current < 2 * slice_index lens current) (advanced : HasAdvanced lens links current old.front new.front)
       (follows : ((old.waiting.items ≡ []) × (new.waiting.items ≡ []) × (to ≡ current) × (new.free.items ≡ old.free.items))
       ⊎ ((old.waiting.items ≡ new.waiting.items ++ to ∷ []) × (new.free.items ≡ set old.free.items to true))) where
     there : current < length old.front.next.items
     there = let lt = is.stack.within in let size = is.front.ranks in omega arith
 
-    passed_front : IsFront lens links (passed_on old.front.next.items current) (is.order ++ next_point old.front.next.items current ∷ [])
-    passed_front = front_more lens links old.front.next.items is.order current is.front there more ready
+    passed_front : (order : List Point) × IsFront lens links new.front.next.items order × IsKept new.front.order order
+    passed_front = advanced.front is.order is.front is.kept
 
-    passed_stack : IsStack lens links (passed_on old.front.next.items current) new.free.items new.waiting.items rank to
+    front_later : IsFront lens links (set old.front.next.items current advanced.pos) passed_front.0
+    front_later = subst (λ next. IsFront lens links next passed_front.0) advanced.next passed_front.1
+
+    passed_stack : IsStack lens links (set old.front.next.items current advanced.pos) new.free.items new.waiting.items rank to
     passed_stack =
         ⊎_elim
         (λ (alone : (old.waiting.items ≡ []) × (new.waiting.items ≡ []) × (to ≡ current) × (new.free.items ≡ old.free.items)).
-        let P : List Bool → Type 0 = λ free. IsStack lens links (passed_on old.front.next.items current) free [] rank current in
-        let Q : List ℕ → Type 0 = λ ws. IsStack lens links (passed_on old.front.next.items current) new.free.items ws rank current in
-        let R : ℕ → Type 0 = λ t. IsStack lens links (passed_on old.front.next.items current) new.free.items new.waiting.items rank t in
+        let P : List Bool → Type 0 = λ free. IsStack lens links (set old.front.next.items current advanced.pos) free [] rank current in
+        let Q : List ℕ → Type 0 = λ ws. IsStack lens links (set old.front.next.items current advanced.pos) new.free.items ws rank current in
+        let R : ℕ → Type 0 = λ t. IsStack lens links (set old.front.next.items current advanced.pos) new.free.items new.waiting.items rank t in
         subst R (sym alone.2) (subst Q (sym alone.1) (subst P (sym alone.3)
-        (passed_alone lens links old.front.next.items old.free.items old.waiting.items rank current is.stack is_free more alone.0))))
+        (passed_alone lens links old.front.next.items old.free.items old.waiting.items rank current is.stack is_free advanced.pos more alone.0))))
         (λ (below : (old.waiting.items ≡ new.waiting.items ++ to ∷ []) × (new.free.items ≡ set old.free.items to true)).
-        let P : List Bool → Type 0 = λ free. IsStack lens links (passed_on old.front.next.items current) free new.waiting.items rank to in
+        let P : List Bool → Type 0 = λ free. IsStack lens links (set old.front.next.items current advanced.pos) free new.waiting.items rank to in
         subst P (sym below.1)
-        (passed_for lens links old.front.next.items old.free.items old.waiting.items rank current is.stack is_free more new.waiting.items to below.0))
+        (passed_for lens links old.front.next.items old.free.items old.waiting.items rank current is.stack is_free advanced.pos more new.waiting.items to below.0))
         follows
 
     pub search_passes : IsSearch lens links new rank to
     search_passes =
-        let more_order : List Point = is.order ++ next_point old.front.next.items current ∷ [] in
-        let P : List ℕ → Type 0 = λ next. IsFront lens links next more_order in
-        let K : Option (List Point) → Type 0 = λ order. IsKept order more_order in
         let R : List ℕ → Type 0 = λ next. IsPending lens links next new.pending in
         let S : List ℕ → Type 0 = λ next. IsStack lens links next new.free.items new.waiting.items rank to in
-        let later : IsPending lens links (passed_on old.front.next.items current) pending =
-        pending_later links old.front.next.items (passed_on old.front.next.items current) (passed_kept old.front.next.items current there) lens pending pends in
+        let pending_is_later : IsPending lens links (set old.front.next.items current advanced.pos) pending =
+        pending_later links old.front.next.items (set old.front.next.items current advanced.pos) (passed_kept old.front.next.items current advanced.pos there advanced.more) lens pending pends in
         record {
           run = is.run;
-          order = more_order;
-          front = subst P (sym next_is) passed_front;
-          kept = subst K (sym order_is) (kept_more old.front.order is.order (next_point old.front.next.items current) is.kept);
-          pending = subst R (sym next_is) (subst (IsPending lens links (passed_on old.front.next.items current)) (sym pending_is) later);
-          stack = subst S (sym next_is) passed_stack;
+          order = passed_front.0;
+          front = passed_front.1;
+          kept = passed_front.2;
+          pending = subst R (sym advanced.next) (subst (IsPending lens links (set old.front.next.items current advanced.pos)) (sym pending_is) pending_is_later);
+          stack = subst S (sym advanced.next) passed_stack;
         }
 
     pub passing_is_less : work lens new.front.next.items new.free.items < work lens old.front.next.items old.free.items
     passing_is_less =
         let W : List ℕ → Type 0 = λ next. work lens next new.free.items < work lens old.front.next.items old.free.items in
-        let same_size : length (passed_on old.front.next.items current) ≡ length lens = passed_front.ranks in
-        subst W (sym next_is)
+        subst W (sym advanced.next)
         (⊎_elim
         (λ (alone : (old.waiting.items ≡ []) × (new.waiting.items ≡ []) × (to ≡ current) × (new.free.items ≡ old.free.items)).
-        let P : List Bool → Type 0 = λ free. work lens (passed_on old.front.next.items current) free < work lens old.front.next.items old.free.items in
-        subst P (sym alone.3) (less_by_passing lens old.front.next.items old.free.items current there is.front.ranks passed_front.within same_size))
+        let P : List Bool → Type 0 = λ free. work lens (set old.front.next.items current advanced.pos) free < work lens old.front.next.items old.free.items in
+        subst P (sym alone.3) (less_by_passing lens old.front.next.items old.free.items current advanced.pos there advanced.more is.front.ranks front_later.within front_later.ranks))
         (λ (below : (old.waiting.items ≡ new.waiting.items ++ to ∷ []) × (new.free.items ≡ set old.free.items to true)).
-        let P : List Bool → Type 0 = λ free. work lens (passed_on old.front.next.items current) free < work lens old.front.next.items old.free.items in
+        let P : List Bool → Type 0 = λ free. work lens (set old.front.next.items current advanced.pos) free < work lens old.front.next.items old.free.items in
         let size = passed_stack.size in
         let in_ranks = passed_stack.within in
         let same : length (set old.free.items to true) ≡ length old.free.items = length-set old.free.items to true in
         let len : length new.free.items ≡ length (set old.free.items to true) = ap length below.1 in
-        subst P (sym below.1) (less_by_returning lens old.front.next.items old.free.items current there is.front.ranks passed_front.within same_size to (omega arith)))
+        subst P (sym below.1) (less_by_returning lens old.front.next.items old.free.items current advanced.pos there advanced.more is.front.ranks front_later.within front_later.ranks to (omega arith)))
         follows)

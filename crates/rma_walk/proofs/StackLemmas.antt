@@ -14,7 +14,6 @@ use Rattle.rma_link.proofs.OrderLemmas.{at_or_before_trans, after_cycle_later}
 use Rattle.rma_walk.specs.inside.Run.{IsBlocked, next_point}
 use Rattle.rma_walk.specs.inside.Search.{line, IsLine, IsStopped, IsDone, IsStack}
 use Rattle.rma_walk.proofs.ListLemmas.{contains_none}
-use Rattle.rma_walk.proofs.FrontLemmas.{passed_on, passed_on_other}
 use Rattle.rma_walk.proofs.FollowLemmas.{other_within, other_first, other_has_next, cycle_back}
 
 line_front : (waiting : List ℕ) (current j : ℕ) → j < length waiting → slice_index (line waiting current) j ≡ slice_index waiting j
@@ -204,45 +203,45 @@ module _ (lens : List ℕ) (links : Links) (next : List ℕ) (free : List Bool) 
       done = stop_done;
     }
 
-  -- the one that is followed passes its next point
-  same_next : (r : ℕ) → (r ≡ current → ⊥) → next_point (passed_on next current) r ≡ next_point next r
-  same_next r differs = ap (λ pos. record { rank = record { 0 = r }; pos = pos }) (passed_on_other next current r differs)
+  -- the one that is followed passes points
+  module _ (pos : ℕ) (more : slice_index next current < 2 * slice_index lens current) where
+    same_next : (r : ℕ) → (r ≡ current → ⊥) → next_point (set next current pos) r ≡ next_point next r
+    same_next r differs = ap (λ k. record { rank = record { 0 = r }; pos = k }) (get_or-set_other next current r pos 0 differs)
 
-  stopped_later : (r : ℕ) → slice_index_or free r true ≡ false → IsStopped lens links next r → IsStopped lens links (passed_on next current) r
-  stopped_later r taken stopped =
-      let P : Point → Type 0 = λ p. IsReturn lens p × IsAfterCycle links p in
-      subst P (sym (same_next r (apart r taken))) stopped
+    stopped_later : (r : ℕ) → slice_index_or free r true ≡ false → IsStopped lens links next r → IsStopped lens links (set next current pos) r
+    stopped_later r taken stopped =
+        let P : Point → Type 0 = λ p. IsReturn lens p × IsAfterCycle links p in
+        subst P (sym (same_next r (apart r taken))) stopped
 
-  module _ (more : slice_index next current < 2 * slice_index lens current) where
-    end_later : (r : ℕ) → slice_index next r ≡ 2 * slice_index lens r → slice_index (passed_on next current) r ≡ 2 * slice_index lens r
+    end_later : (r : ℕ) → slice_index next r ≡ 2 * slice_index lens r → slice_index (set next current pos) r ≡ 2 * slice_index lens r
     end_later r end =
         let differs : r ≡ current → ⊥ = λ same.
         let here : slice_index next r ≡ slice_index next current = ap (slice_index next) same in
         let bound : slice_index lens r ≡ slice_index lens current = ap (slice_index lens) same in
         absurd (omega arith) in
-        passed_on_other next current r differs ∙ end
+        get_or-set_other next current r pos 0 differs ∙ end
 
-    alone_held : waiting ≡ [] → (r : ℕ) → slice_index_or free r true ≡ false → Contains [] r ⊎ IsStopped lens links (passed_on next current) r
+    alone_held : waiting ≡ [] → (r : ℕ) → slice_index_or free r true ≡ false → Contains [] r ⊎ IsStopped lens links (set next current pos) r
     alone_held none r taken =
         ⊎_elim
         (λ has. inl (subst (λ ws. Contains ws r) none has))
         (λ stopped. inr (stopped_later r taken stopped))
         (st.held r taken)
 
-    alone_done : (r : ℕ) → r < rank → IsDone lens (passed_on next current) free [] r
+    alone_done : (r : ℕ) → r < rank → IsDone lens (set next current pos) free [] r
     alone_done r lt =
         ⊎_elim
         (λ end. inl (end_later r end))
         (λ (old : (slice_index_or free r true ≡ false) × (Contains waiting r → ⊥)). inr (old.0, contains_none r))
         (st.done r lt)
 
-    pub passed_alone : waiting ≡ [] → IsStack lens links (passed_on next current) free [] rank current
+    pub passed_alone : waiting ≡ [] → IsStack lens links (set next current pos) free [] rank current
     passed_alone none = record {
       size = st.size;
       within = st.within;
       root = ap (λ ws. slice_index (line ws current) 0) (sym none) ∙ st.root;
       followed = λ some. absurd (omega arith);
-      in_line = line_of_one links (passed_on next current) current;
+      in_line = line_of_one links (set next current pos) current;
       once = λ j k less lt same. absurd (omega arith);
       waits = λ j lt. absurd (omega arith);
       held = alone_held none;
@@ -274,7 +273,7 @@ module _ (lens : List ℕ) (links : Links) (next : List ℕ) (free : List Bool) 
       has_below : Contains waiting below
       has_below = subst (λ ws. Contains ws below) (sym is) (Contains-push rest below)
 
-      below_line : IsLine links (passed_on next current) (line rest below)
+      below_line : IsLine links (set next current pos) (line rest below)
       below_line j k le lt =
           let all : List ℕ = line waiting current in
           let size = len in
@@ -287,7 +286,7 @@ module _ (lens : List ℕ) (links : Links) (next : List ℕ) (free : List Bool) 
           moved links next (slice_index all k) (slice_index all j) (slice_index (line rest below) k) (slice_index (line rest below) j)
           (A k (omega arith)) (A j (omega arith)) (st.in_line j k le (omega arith)) in
           let P : Point → Type 0 = λ p. IsAtOrBefore links p (next_point next (slice_index (line rest below) j)) in
-          let Q : Point → Type 0 = λ q. IsAtOrBefore links (next_point (passed_on next current) (slice_index (line rest below) k)) q in
+          let Q : Point → Type 0 = λ q. IsAtOrBefore links (next_point (set next current pos) (slice_index (line rest below) k)) q in
           subst Q (sym (same_next (slice_index (line rest below) j) (D j (omega arith)))) (subst P (sym (same_next (slice_index (line rest below) k) (D k (omega arith)))) old)
 
       below_once : (j k : ℕ) → j < k → k < length rest → slice_index rest j ≡ slice_index rest k → ⊥
@@ -296,7 +295,7 @@ module _ (lens : List ℕ) (links : Links) (next : List ℕ) (free : List Bool) 
           st.once j k less (omega arith) (front_is j (omega arith) ∙ same ∙ sym (front_is k lt))
 
       rest_waits : (j : ℕ) → j < length rest → (slice_index_or (set free below true) (slice_index rest j) true ≡ false)
-          × (slice_index rest j < length lens) × IsReturn lens (next_point (passed_on next current) (slice_index rest j))
+          × (slice_index rest j < length lens) × IsReturn lens (next_point (set next current pos) (slice_index rest j))
       rest_waits j lt =
           let size = len in
           let P : ℕ → Type 0 = λ w. (slice_index_or free w true ≡ false) × (w < length lens) × IsReturn lens (next_point next w) in
@@ -304,7 +303,7 @@ module _ (lens : List ℕ) (links : Links) (next : List ℕ) (free : List Bool) 
           let differs : slice_index rest j ≡ below → ⊥ = λ same. st.once j (length rest) lt (omega arith) (front_is j lt ∙ same ∙ sym last_is) in
           (free_other (slice_index rest j) differs ∙ old.0, old.1, subst (IsReturn lens) (sym (same_next (slice_index rest j) (apart (slice_index rest j) old.0))) old.2)
 
-      rest_held : (r : ℕ) → slice_index_or (set free below true) r true ≡ false → Contains rest r ⊎ IsStopped lens links (passed_on next current) r
+      rest_held : (r : ℕ) → slice_index_or (set free below true) r true ≡ false → Contains rest r ⊎ IsStopped lens links (set next current pos) r
       rest_held r taken =
           let differs : r ≡ below → ⊥ = λ same. false≢true (sym taken ∙ ap (λ i. slice_index_or (set free below true) i true) same ∙ below_free) in
           let old : slice_index_or free r true ≡ false = sym (free_other r differs) ∙ taken in
@@ -313,7 +312,7 @@ module _ (lens : List ℕ) (links : Links) (next : List ℕ) (free : List Bool) 
           (λ stopped. inr (stopped_later r old stopped))
           (st.held r old)
 
-      rest_done : (r : ℕ) → r < rank → IsDone lens (passed_on next current) (set free below true) rest r
+      rest_done : (r : ℕ) → r < rank → IsDone lens (set next current pos) (set free below true) rest r
       rest_done r lt =
           ⊎_elim
           (λ end. inl (end_later r end))
@@ -322,15 +321,15 @@ module _ (lens : List ℕ) (links : Links) (next : List ℕ) (free : List Bool) 
           inr (free_other r differs ∙ old.0, λ has. old.1 (subst (λ ws. Contains ws r) (sym is) (Contains-append_left rest (below ∷ []) r has))))
           (st.done r lt)
 
-      below_has_next : slice_index (passed_on next current) below < 2 * slice_index lens below
+      below_has_next : slice_index (set next current pos) below < 2 * slice_index lens below
       below_has_next =
           let old = below_waits in
-          let same = passed_on_other next current below (apart below old.0) in
+          let same = get_or-set_other next current below pos 0 (apart below old.0) in
           let lt = old.2.1 in
           let odd = old.2.2 in
           omega arith
 
-      pub passed_for : IsStack lens links (passed_on next current) (set free below true) rest rank below
+      pub passed_for : IsStack lens links (set next current pos) (set free below true) rest rank below
       passed_for =
           let size = len in
           record {

@@ -3,7 +3,6 @@ use Rattle.std.proofs.Common.{◌≡◌, ℕ, suc, ◌+◌, ◌*◌, ◌<◌, �
 use Rattle.std.specs.Prelude.{slice_index, slice_index_or, count_by}
 use Rattle.std.proofs.lemmas.List.Sums.{sum_by-cons, sum_by-set}
 use Rattle.rma_walk.specs.inside.Search.{work}
-use Rattle.rma_walk.proofs.FrontLemmas.{passed_on}
 
 sum_within : (next lens : List ℕ) → length next ≡ length lens → ((r : ℕ) → slice_index next r ≤ 2 * slice_index lens r) → sum next ≤ 2 * sum lens
 sum_within [] [] size each = omega arith
@@ -28,22 +27,22 @@ less_by_waiting lens next free current lt is_free =
     let was : one (slice_index_or free current true) ≡ 1 = ap one is_free in
     omega arith
 
-module _ (lens next : List ℕ) (free : List Bool) (current : ℕ) (there : current < length next) (size : length next ≡ length lens)
-    (each : (r : ℕ) → slice_index (passed_on next current) r ≤ 2 * slice_index lens r) (same_size : length (passed_on next current) ≡ length lens) where
-  more_passed : sum (passed_on next current) ≡ sum next + 1
+module _ (lens next : List ℕ) (free : List Bool) (current pos : ℕ) (there : current < length next) (further : slice_index next current < pos) (size : length next ≡ length lens)
+    (each : (r : ℕ) → slice_index (set next current pos) r ≤ 2 * slice_index lens r) (same_size : length (set next current pos) ≡ length lens) where
+  more_passed : sum next < sum (set next current pos)
   more_passed =
-      let all : sum (passed_on next current) + slice_index next current ≡ sum next + (slice_index next current + 1) = sum_by-set (λ x. x) next current (slice_index next current + 1) 0 there in
+      let all : sum (set next current pos) + slice_index next current ≡ sum next + pos = sum_by-set (λ x. x) next current pos 0 there in
       omega arith
 
-  pub less_by_passing : work lens (passed_on next current) free < work lens next free
+  pub less_by_passing : work lens (set next current pos) free < work lens next free
   less_by_passing =
-      let bound = sum_within (passed_on next current) lens same_size each in
+      let bound = sum_within (set next current pos) lens same_size each in
       let more = more_passed in
       omega arith
 
-  pub less_by_returning : (below : ℕ) → below < length free → work lens (passed_on next current) (set free below true) < work lens next free
+  pub less_by_returning : (below : ℕ) → below < length free → work lens (set next current pos) (set free below true) < work lens next free
   less_by_returning below lt =
-      let bound = sum_within (passed_on next current) lens same_size each in
+      let bound = sum_within (set next current pos) lens same_size each in
       let more = more_passed in
       let count = count_set free below true lt in
       omega arith

@@ -1,7 +1,9 @@
 //! How far a walk has come.
-ghost use Rattle.std.specs.Prelude.{◌≡◌, ◌+◌, ◌^◌, ◌<◌, ◌++◌, [], ◌∷◌, length, slice_index, slice_set, option_map, nat_lt, OnOk};
-ghost use Rattle.rma_walk.specs.inside.Run.{next_point};
+ghost use Rattle.std.specs.Prelude.{◌≡◌, ◌+◌, ◌*◌, ◌%◌, ◌^◌, ◌<◌, ◌++◌, [], ◌∷◌, true, length, slice_index, slice_set, option_map, nat_lt, OnOk};
+ghost use Rattle.rma_walk.specs.inside.Run.{IsRun, IsReady, next_point};
+ghost use Rattle.rma_walk.specs.inside.Front.{HasAdvanced};
 
+use crate::run::Run;
 use rma_base::{Memory, Point, Rank, Sequence};
 
 /// The points that a walk is past.
@@ -16,7 +18,7 @@ pub(crate) struct Front {
 impl Front {
     /// Passes the next point of the rank.
     #[inline]
-    pub(crate) fn pass(&mut self, rank: u32) -> Result<(), Memory>
+    fn pass(&mut self, rank: u32) -> Result<(), Memory>
         requires rank { rank < length self.old.next.items }
         requires position { slice_index self.old.next.items rank + 1 < 2 ^ 32 }
         ensures next { OnOk result (self.new.next.items ≡ slice_set self.old.next.items rank (slice_index self.old.next.items rank + 1)) }
@@ -32,6 +34,35 @@ impl Front {
         )?;
         self.next[rank as usize] = pos + 1;
         Ok(())
+    }
+
+    /// Passes the next point of the rank, and the entry of its next call where that one follows: an entry waits for nothing
+    /// else.
+    #[inline]
+    pub(crate) fn advance(&mut self, run: &Run<'_>, rank: u32) -> Result<(), Memory>
+        requires run { IsRun run.now.lens.now run.now.links.now }
+        requires size { length self.old.next.items ≡ length run.now.lens.now }
+        requires next { slice_index self.old.next.items rank < 2 * slice_index run.now.lens.now rank }
+        requires ready { IsReady run.now.links.now self.old.next.items rank }
+        ensures { OnOk result (HasAdvanced run.now.lens.now run.now.links.now rank self.old self.new) }
+    {
+        self.pass(rank)?;
+        if !self.is_at_entry(run, rank) {
+            return Ok(());
+        }
+        self.pass(rank)
+    }
+
+    /// Whether the next point of the rank is the entry of one of its calls.
+    #[inline]
+    fn is_at_entry(&self, run: &Run<'_>, rank: u32) -> bool
+        requires next { rank < length self.now.next.items }
+        requires rank { rank < length run.now.lens.now }
+        requires calls { slice_index run.now.lens.now rank < 2 ^ 31 }
+        ensures { result ≡ true → (slice_index self.now.next.items rank % 2 ≡ 0) × (slice_index self.now.next.items rank < 2 * slice_index run.now.lens.now rank) }
+    {
+        let pos = self.next[rank as usize];
+        pos % 2 == 0 && pos < 2 * run.lens[rank as usize]
     }
 }
 

@@ -1,6 +1,7 @@
 //! A walk on its way.
-ghost use Rattle.std.specs.Prelude.{◌≡◌, ◌<◌, ◌≤◌, ◌+◌, ◌*◌, ◌^◌, ◌++◌, ◌⊎◌, [], ◌∷◌, true, false, length, slice_index, slice_index_or, slice_set, is_some, option_map, All, IfOk, IfSome, OnOk};
-ghost use Rattle.rma_walk.specs.inside.Run.{IsRun, next_point};
+ghost use Rattle.std.specs.Prelude.{◌≡◌, ◌<◌, ◌≤◌, ◌+◌, ◌*◌, ◌^◌, ◌++◌, ◌⊎◌, [], ◌∷◌, true, false, length, slice_index, slice_index_or, slice_set, is_some, All, IfOk, IfSome, OnOk};
+ghost use Rattle.rma_walk.specs.inside.Run.{IsRun, IsReady};
+ghost use Rattle.rma_walk.specs.inside.Front.{HasAdvanced};
 ghost use Rattle.rma_walk.specs.inside.Search.{IsSearch, IsIdle, work};
 
 use crate::front::Front;
@@ -72,6 +73,7 @@ impl Search {
     }
 
     /// Whether the rank has a point to pass, and may be followed.
+    #[inline]
     fn has_next(&self, run: &Run<'_>, rank: u32) -> bool
         requires next { rank < length self.now.front.next.items }
         requires free { rank < length self.now.free.items }
@@ -84,6 +86,7 @@ impl Search {
     }
 
     /// Passes the next point of the rank that is followed for another one, or waits. Answers which rank is followed then.
+    #[inline]
     fn step(&mut self, run: &Run<'_>, rank: u32, current: u32) -> Result<u32, Memory>
         requires search { IsSearch run.now.lens.now run.now.links.now self.old rank current }
         requires next { slice_index self.old.front.next.items current < 2 * slice_index run.now.lens.now current }
@@ -94,12 +97,13 @@ impl Search {
     {
         match self.pending.blocker(run, &self.front.next, current) {
             Some(other) => self.wait(rank, current, other),
-            None => self.pass(current),
+            None => self.pass(run, current),
         }
     }
 
     /// The rank that is followed waits for another one. That one is followed next, if it may be; else all that wait are
     /// stopped.
+    #[inline]
     fn wait(&mut self, rank: u32, current: u32, other: u32) -> Result<u32, Memory>
         requires current { current < length self.old.free.items }
         requires other { other < length self.old.free.items }
@@ -120,17 +124,19 @@ impl Search {
     }
 
     /// The rank that is followed passes its next point, and the one that waited for it last is followed again.
-    fn pass(&mut self, current: u32) -> Result<u32, Memory>
-        requires rank { current < length self.old.front.next.items }
-        requires position { slice_index self.old.front.next.items current + 1 < 2 ^ 32 }
+    #[inline]
+    fn pass(&mut self, run: &Run<'_>, current: u32) -> Result<u32, Memory>
+        requires run { IsRun run.now.lens.now run.now.links.now }
+        requires size { length self.old.front.next.items ≡ length run.now.lens.now }
+        requires next { slice_index self.old.front.next.items current < 2 * slice_index run.now.lens.now current }
+        requires ready { IsReady run.now.links.now self.old.front.next.items current }
         requires waiting { All (λ w. w < length self.old.free.items) self.old.waiting.items }
-        ensures next { OnOk result (self.new.front.next.items ≡ slice_set self.old.front.next.items current (slice_index self.old.front.next.items current + 1)) }
-        ensures order { OnOk result (self.new.front.order ≡ option_map (λ list. list ++ next_point self.old.front.next.items current ∷ []) self.old.front.order) }
+        ensures advanced { OnOk result (HasAdvanced run.now.lens.now run.now.links.now current self.old.front self.new.front) }
         ensures pending { self.new.pending ≡ self.old.pending }
         ensures follows { IfOk result (λ to. ((self.old.waiting.items ≡ []) × (self.new.waiting.items ≡ []) × (to ≡ current) × (self.new.free.items ≡ self.old.free.items))
             ⊎ ((self.old.waiting.items ≡ self.new.waiting.items ++ to ∷ []) × (self.new.free.items ≡ slice_set self.old.free.items to true))) }
     {
-        self.front.pass(current)?;
+        self.front.advance(run, current)?;
         match self.waiting.pop() {
             Some(below) => {
                 self.free[below as usize] = true;

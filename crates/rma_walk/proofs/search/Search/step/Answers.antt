@@ -1,11 +1,12 @@
-use Rattle.std.proofs.Common.{◌≡◌, ◌<◌, ◌⊎◌, ◌++◌, ℕ, Bool, true, false, List, [], ◌∷◌, set, option_map, subst, arith}
+use Rattle.std.proofs.Common.{◌≡◌, ◌<◌, ◌⊎◌, ◌++◌, ℕ, Bool, true, false, List, [], ◌∷◌, set, subst, arith}
 use Rattle.std.specs.Prelude.{slice_index_or}
 use Rattle.std.proofs.lemmas.List.{get_or_default}
-use Rattle.rma_walk.specs.inside.Run.{IsReady, IsBlocked, next_point}
+use Rattle.std.proofs.lemmas.Result.{IfOk-weaker}
+use Rattle.rma_walk.specs.inside.Run.{IsBlocked}
+use Rattle.rma_walk.specs.inside.Front.{HasAdvanced}
 use Rattle.rma_walk.specs.inside.Pending.{IsPending}
 use Rattle.rma_walk.specs.inside.Search.{IsSearch, work}
 use Rattle.rma_walk.proofs.ListLemmas.{ok_later, ok_both, on_ok_later}
-use Rattle.rma_walk.proofs.FrontLemmas.{passed_on}
 use Rattle.rma_walk.proofs.FollowLemmas.{other_within}
 use Rattle.rma_walk.proofs.SearchLemmas.{search_waits, search_passes, passing_is_less}
 use Rattle.rma_walk.proofs.search.Search.step.Goals as goal
@@ -57,17 +58,14 @@ returns-in-None-clause-search c =
     let old = c.args.self.now in
     let new = c.pass.new.self in
     let current = c.args.current in
-    let P : List ℕ → Type 0 = λ next. IsReady links next current in
     let Q : List ℕ → Type 0 = λ next. IsPending lens links next c.blocker.new.self in
-    let Next : Type 0 = new.front.next.items ≡ passed_on old.front.next.items current in
-    let Order : Type 0 = new.front.order ≡ option_map (λ list. list ++ next_point old.front.next.items current ∷ []) old.front.order in
+    let Advanced : Type 0 = HasAdvanced lens links current old.front new.front in
     let Follows : ℕ → Type 0 = λ to. ((old.waiting.items ≡ []) × (new.waiting.items ≡ []) × (to ≡ current) × (new.free.items ≡ old.free.items))
     ⊎ ((old.waiting.items ≡ new.waiting.items ++ to ∷ []) × (new.free.items ≡ set old.free.items to true)) in
-    ok_later c.pass.result (λ to. Next × Follows to) (λ to. Order × Follows to) (λ to. IsSearch lens links new c.args.rank to)
-    (ok_both c.pass.result Next Follows c.pass.ensures.next c.pass.ensures.follows) (ok_both c.pass.result Order Follows c.pass.ensures.order c.pass.ensures.follows)
-    (λ to one two. search_passes lens links old new c.blocker.new.self c.args.rank current c.requires.search c.requires.free
-    (subst Q c.deref.ensures.value c.blocker.ensures.pending) c.pass.ensures.pending to c.requires.next (subst P c.deref.ensures.value c.in-None.ensures.none)
-    one.0 two.0 one.1)
+    IfOk-weaker c.pass.result (λ to. Advanced × Follows to) (λ to. IsSearch lens links new c.args.rank to)
+    (λ to facts. search_passes lens links old new c.blocker.new.self c.args.rank current c.requires.search c.requires.free
+    (subst Q c.deref.ensures.value c.blocker.ensures.pending) c.pass.ensures.pending to c.requires.next facts.0 facts.1)
+    (ok_both c.pass.result Advanced Follows c.pass.ensures.advanced c.pass.ensures.follows)
 
 pub returns-in-None-clause-less : goal.returns-in-None-clause-less
 returns-in-None-clause-less c =
@@ -76,15 +74,12 @@ returns-in-None-clause-less c =
     let old = c.args.self.now in
     let new = c.pass.new.self in
     let current = c.args.current in
-    let P : List ℕ → Type 0 = λ next. IsReady links next current in
     let Q : List ℕ → Type 0 = λ next. IsPending lens links next c.blocker.new.self in
-    let Next : Type 0 = new.front.next.items ≡ passed_on old.front.next.items current in
-    let Order : Type 0 = new.front.order ≡ option_map (λ list. list ++ next_point old.front.next.items current ∷ []) old.front.order in
+    let Advanced : Type 0 = HasAdvanced lens links current old.front new.front in
     let Less : Type 0 = work lens new.front.next.items new.free.items < work lens old.front.next.items old.free.items in
     let Follows : ℕ → Type 0 = λ to. ((old.waiting.items ≡ []) × (new.waiting.items ≡ []) × (to ≡ current) × (new.free.items ≡ old.free.items))
     ⊎ ((old.waiting.items ≡ new.waiting.items ++ to ∷ []) × (new.free.items ≡ set old.free.items to true)) in
-    on_ok_later c.pass.result (λ to. Order × (Next × Follows to)) Less
-    (ok_both c.pass.result Order (λ to. Next × Follows to) c.pass.ensures.order (ok_both c.pass.result Next Follows c.pass.ensures.next c.pass.ensures.follows))
+    on_ok_later c.pass.result (λ to. Advanced × Follows to) Less
+    (ok_both c.pass.result Advanced Follows c.pass.ensures.advanced c.pass.ensures.follows)
     (λ to facts. passing_is_less lens links old new c.blocker.new.self c.args.rank current c.requires.search c.requires.free
-    (subst Q c.deref.ensures.value c.blocker.ensures.pending) c.pass.ensures.pending to c.requires.next (subst P c.deref.ensures.value c.in-None.ensures.none)
-    facts.1.0 facts.0 facts.1.1)
+    (subst Q c.deref.ensures.value c.blocker.ensures.pending) c.pass.ensures.pending to c.requires.next facts.0 facts.1)
