@@ -3,7 +3,7 @@ use Rattle.std.proofs.Common.{◌≡◌, ℕ, ◌+◌, ◌*◌, ◌<◌, ◌≤�
 use Rattle.std.specs.Prelude.{slice_index_or, Contains}
 use Rattle.std.proofs.lemmas.Bool.{cases_eq, cases_lt}
 use Rattle.std.proofs.lemmas.List.Elements.{All-contains}
-use Rattle.std.proofs.lemmas.Option.{same_Some, slice_get_within, get_or_from_slice_get}
+use Rattle.std.proofs.lemmas.Option.{same_Some}
 use Rattle.rma_base.specs.declared.rank.Rank.{Rank}
 use Rattle.rma_base.specs.declared.point.Point.{Point}
 use Rattle.rma_link.specs.declared.links.Links.{Links}
@@ -19,6 +19,7 @@ use Rattle.rma_walk.specs.declared.source.Source.TheVariants.{Entry, Meet}
 use Rattle.rma_walk.specs.Source.{sources_of, AreSources}
 use Rattle.rma_walk.proofs.ListLemmas.{at_contains, contains_none, contains_cons_cases}
 use Rattle.rma_walk.proofs.PendingLemmas.{edge_source, meet_source}
+use Rattle.rma_walk.proofs.BlockerLemmas.{member_of, met_by}
 use Rattle.rma_clock.specs.declared.step.Step.{Step}
 use Rattle.rma_clock.specs.inside.Before.{point_at, Covers, IsBefore, IsBeforeSource, IsBeforeSome, IsRow, IsRaised}
 use Rattle.rma_clock.specs.inside.Table.{IsLastStep, IsCaught, IsReceived, entry_before, steps_of}
@@ -128,14 +129,6 @@ module _ (lens : List ℕ) (links : Links) (inboxes : List (List (List Source)))
   abbrev own_sources : List Source
   own_sources = sources_of (slice_index_or inboxes r []) call
 
-  member_is : (m : Member) → own_return ≡ return_of m.rank m.call → m ≡ me
-  member_is m same =
-      let pos : 2 * call + 1 ≡ 2 * m.call + 1 = ap (λ p. p.pos) same in
-      let number : m.call ≡ call = omega arith in
-      let M : Rank → Member = λ k. record { rank = k; call = m.call } in
-      let N : ℕ → Member = λ n. record { rank = record { 0 = r }; call = n } in
-      ap M (sym (ap (λ p. p.rank) same)) ∙ ap N number
-
   pub before_return_to : (p : Point) → IsBefore links own_return p → IsAtOrBefore links p own_entry ⊎ IsBeforeSome links own_sources p
   before_return_to p (d, step, first) =
       ⊎_elim
@@ -147,7 +140,7 @@ module _ (lens : List ℕ) (links : Links) (inboxes : List (List (List Source)))
       (λ (edge : Contains links.edges (record { from = d; to = own_return })). (Entry d, sources.all r call (Entry d) (inl (d, refl, edge)), (d, refl, first)))
       (λ (met : IsMet links d own_return).
       let found = at_contains links.meets met.meet met.is_meet in
-      let has : Contains met.meet.calls me = subst (Contains met.meet.calls) (member_is met.second met.to_return) met.has_second in
+      let has : Contains met.meet.calls me = subst (Contains met.meet.calls) (member_of r call met.second met.to_return) met.has_second in
       (Meet found.0, sources.all r call (Meet found.0) (inr (found.0, met.meet, found.1, (refl, has))), (d, (met.meet, found.1, (met.first, met.has_first, met.from_entry)), first)))
       linked))
       (step_cases links d own_return step)
@@ -178,18 +171,7 @@ module _ (lens : List ℕ) (links : Links) (inboxes : List (List (List Source)))
       ⊎_elim
       (λ (own : member ≡ me). before_return_own p (subst (IsAtOrBefore links p) (from ∙ ap (λ (t : Member). entry t.rank t.call) own) le))
       (λ (differ : member ≡ me → ⊥).
-      let met : IsMet links e own_return = record {
-        meet = m;
-        first = member;
-        second = me;
-        is_meet = (index, slice_get_within links.meets index m there, get_or_from_slice_get links.meets index m m there);
-        has_first = has_member;
-        has_second = has_me;
-        differ = differ;
-        from_entry = from;
-        to_return = refl;
-      } in
-      (e, inr (inr (inr met)), le))
+      (e, inr (inr (inr (met_by links index m member me e own_return there has_member has_me differ from refl))), le))
       (same_member member)
 
   pub before_return_from : (p : Point) → IsAtOrBefore links p own_entry ⊎ IsBeforeSome links own_sources p → IsBefore links own_return p
@@ -218,7 +200,7 @@ module _ (lens : List ℕ) (links : Links) (inboxes : List (List (List Source)))
       (λ (edge : Contains links.edges (record { from = d; to = own_return })). (Entry d, sources.all r call (Entry d) (inl (d, refl, edge)), (d, refl, at)))
       (λ (met : IsMet links d own_return).
       let found = at_contains links.meets met.meet met.is_meet in
-      let has : Contains met.meet.calls me = subst (Contains met.meet.calls) (member_is met.second met.to_return) met.has_second in
+      let has : Contains met.meet.calls me = subst (Contains met.meet.calls) (member_of r call met.second met.to_return) met.has_second in
       (Meet found.0, sources.all r call (Meet found.0) (inr (found.0, met.meet, found.1, (refl, has))), (d, (met.meet, found.1, (met.first, met.has_first, met.from_entry)), at)))
       linked in
       let lt = some.1.1 in

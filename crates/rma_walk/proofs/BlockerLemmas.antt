@@ -1,6 +1,6 @@
 -- What blocks the next point of a rank.
-use Rattle.std.proofs.Common.{◌≡◌, ℕ, zero, suc, ◌+◌, ◌-◌, ◌*◌, ◌%◌, ◌<◌, ◌≤◌, ◌^◌, inl, inr, List, [], length, get_or, map, set, refl, sym, ap, subst, ◌∙◌, arith, ⊎_elim}
-use Rattle.std.specs.Prelude.{Contains, All, slice_index, slice_index_or}
+use Rattle.std.proofs.Common.{◌≡◌, ℕ, zero, suc, ◌+◌, ◌-◌, ◌*◌, ◌%◌, ◌<◌, ◌≤◌, ◌^◌, inl, inr, List, [], length, get_or, map, set, Some, refl, sym, ap, subst, ◌∙◌, arith, ⊎_elim}
+use Rattle.std.specs.Prelude.{Contains, All, slice_get, slice_index, slice_index_or}
 use Rattle.std.specs.List.Sorted.{IsStrictlyIncreasing}
 use Rattle.std.proofs.lemmas.Bool.{cases_eq, cases_lt}
 use Rattle.std.proofs.lemmas.List.{get_or-set_same, get_or-set_other, length-set, length-map}
@@ -24,6 +24,30 @@ use Rattle.rma_walk.specs.inside.Pending.{IsSource, IsSourcePassed, IsMissing, I
 use Rattle.rma_walk.proofs.ListLemmas.{at_contains, contains_none}
 use Rattle.rma_walk.proofs.InboxLemmas.{get_or-map_in}
 use Rattle.rma_walk.proofs.PendingLemmas.{in_ranks}
+
+-- only its own member of a meet returns from a call
+pub member_of : (rank call : ℕ) (m : Member) → return_of (record { 0 = rank }) call ≡ return_of m.rank m.call → m ≡ record { rank = record { 0 = rank }; call = call }
+member_of rank call m same =
+    let pos : 2 * call + 1 ≡ 2 * m.call + 1 = ap (λ p. p.pos) same in
+    let number : m.call ≡ call = omega arith in
+    let M : Rank → Member = λ r. record { rank = r; call = m.call } in
+    let N : ℕ → Member = λ n. record { rank = record { 0 = rank }; call = n } in
+    ap M (sym (ap (λ p. p.rank) same)) ∙ ap N number
+
+-- a meet leads from the entry of one member to the return of another
+pub met_by : (links : Links) (index : ℕ) (m : meet.Meet) (first second : Member) (p q : Point) → slice_get links.meets index ≡ Some m → Contains m.calls first → Contains m.calls second
+    → (first ≡ second → ⊥) → p ≡ entry first.rank first.call → q ≡ return_of second.rank second.call → IsMet links p q
+met_by links index m first second p q is has_first has_second differ from to = record {
+  meet = m;
+  first = first;
+  second = second;
+  is_meet = (index, slice_get_within links.meets index m is, get_or_from_slice_get links.meets index m m is);
+  has_first = has_first;
+  has_second = has_second;
+  differ = differ;
+  from_entry = from;
+  to_return = to;
+}
 
 -- numbers that rise strictly are at least their indices, so there are no more than they allow
 at_least : (xs : List ℕ) → IsStrictlyIncreasing xs → (k : ℕ) → k < length xs → k ≤ slice_index xs k
@@ -85,14 +109,6 @@ module _ (lens : List ℕ) (links : Links) (next : List ℕ) (run : IsRun lens l
     here : next_point next rank ≡ return_of (record { 0 = rank }) call
     here = same_point (next_point next rank) (return_of (record { 0 = rank }) call) refl at
 
-    member_is : (m : Member) → next_point next rank ≡ return_of m.rank m.call → m ≡ record { rank = record { 0 = rank }; call = call }
-    member_is m same =
-        let pos : slice_index next rank ≡ 2 * m.call + 1 = ap (λ p. p.pos) same in
-        let number : m.call ≡ call = omega arith in
-        let M : Rank → Member = λ r. record { rank = r; call = m.call } in
-        let N : ℕ → Member = λ n. record { rank = record { 0 = rank }; call = n } in
-        ap M (sym (ap (λ p. p.rank) same)) ∙ ap N number
-
     -- with no source left, all that leads to the return is passed
     pub ready_at_return : sources_of inbox call ≡ [] → IsReady links next rank
     ready_at_return none p step =
@@ -110,7 +126,7 @@ module _ (lens : List ℕ) (links : Links) (next : List ℕ) (run : IsRun lens l
         (own.edges p call (subst E here edge)))
         (λ (met : IsMet links p (next_point next rank)).
         let found = at_contains links.meets met.meet met.is_meet in
-        let second : met.second ≡ record { rank = record { 0 = rank }; call = call } = member_is met.second met.to_return in
+        let second : met.second ≡ record { rank = record { 0 = rank }; call = call } = member_of rank call met.second (sym here ∙ met.to_return) in
         ⊎_elim
         (λ (gathered : IsGathered next met.meet).
         let passed : IsPassed next (entry met.first.rank met.first.call) =
@@ -130,20 +146,11 @@ module _ (lens : List ℕ) (links : Links) (next : List ℕ) (run : IsRun lens l
         let found = own.from_meet call index has in
         let same : found.0 ≡ m = same_Some found.0 m (sym found.1 ∙ is_meet) in
         let me : Member = record { rank = record { 0 = rank }; call = call } in
-        inr (record {
-          meet = m;
-          first = member;
-          second = me;
-          is_meet = (index, slice_get_within links.meets index m is_meet, get_or_from_slice_get links.meets index m m is_meet);
-          has_first = has_member;
-          has_second = subst (λ (t : meet.Meet). Contains t.calls me) same found.2;
-          differ = λ (alike : member ≡ me).
-              let p_is : p ≡ entry (record { 0 = rank }) call = from ∙ ap (λ (t : Member). entry t.rank t.call) alike in
-              let passed : IsPassed next (entry (record { 0 = rank }) call) = omega arith in
-              missing (subst (IsPassed next) (sym p_is) passed);
-          from_entry = from;
-          to_return = here;
-        })
+        let differ : member ≡ me → ⊥ = λ alike.
+        let p_is : p ≡ entry (record { 0 = rank }) call = from ∙ ap (λ (t : Member). entry t.rank t.call) alike in
+        let passed : IsPassed next (entry (record { 0 = rank }) call) = omega arith in
+        missing (subst (IsPassed next) (sym p_is) passed) in
+        inr (met_by links index m member me p (next_point next rank) is_meet has_member (subst (λ (t : meet.Meet). Contains t.calls me) same found.2) differ from here)
 
     pub blocked_at_return : call < slice_index lens rank → (other : ℕ) (source : Source) → Contains (sources_of inbox call) source → IsMissing links next source other → IsBlocked lens links next rank other
     blocked_at_return lt other source has (p, of_rank, is, missing) = ((call, lt, at), (p, of_rank, linked_from source has p is missing, missing))
