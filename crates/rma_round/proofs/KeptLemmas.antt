@@ -8,7 +8,7 @@ use Rattle.rma_round.specs.declared.name_rounds.NameRounds.{NameRounds}
 use Rattle.std.proofs.lemmas.Bool.{eqb-true}
 use Rattle.rma_call.specs.Call.{Call, RankCalls}
 use Rattle.rma_run.specs.Run.{calls_of, with_calls}
-use Rattle.rma_run.proofs.CallLemmas.{none_more, one_more, next_calls}
+use Rattle.rma_run.proofs.CallLemmas.{next_calls}
 use Rattle.rma_round.specs.declared.kind.Kind.{Kind}
 use Rattle.rma_round.specs.declared.kind.Kind.TheVariants.{Collective, Free, Fence, Moving}
 use Rattle.rma_round.specs.declared.kind_rounds.KindRounds.{KindRounds}
@@ -104,16 +104,6 @@ Represents_along f g rounds same are = record {
   fences_are = AreOfKind_along _ f g rounds.fences same are.fences_are;
   movings_are = AreOfKind_along _ f g rounds.movings same are.movings_are;
 }
-
--- before the calls of a rank are taken
-pub Represents_begun : (calls : ℕ → List Call) (rank : ℕ) (rounds : Rounds) → Represents calls rounds → Represents (with_calls calls rank []) rounds
-Represents_begun calls rank rounds are = Represents_along calls (with_calls calls rank []) rounds (none_more calls rank) are
-
--- with one more call of the rank
-pub Represents_more : (calls : ℕ → List Call) (rank i : ℕ) (own : List Call) (call : Call) (rounds : Rounds) → slice_get own i ≡ Some call →
-    Represents (with_calls (with_calls calls rank (take i own)) rank (call ∷ [])) rounds → Represents (with_calls calls rank (take (i + 1) own)) rounds
-Represents_more calls rank i own call rounds there are =
-    Represents_along (with_calls (with_calls calls rank (take i own)) rank (call ∷ [])) (with_calls calls rank (take (i + 1) own)) rounds (λ other. one_more calls rank other i own call there) are
 
 -- the calls of one more rank
 pub Represents_next : (ranks : List RankCalls) (i : ℕ) (own : RankCalls) (rounds : Rounds) → slice_get ranks i ≡ Some own → own.rank.0 ≡ i →

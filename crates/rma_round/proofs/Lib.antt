@@ -4,3 +4,4 @@ pub mod MemberLemmas
 pub mod EdgeLemmas
 pub mod MeetLemmas
 mod RowLemmas
+mod OwnLemmas

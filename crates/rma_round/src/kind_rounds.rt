@@ -1,7 +1,8 @@
 //! The rounds of one kind.
-ghost use Rattle.std.specs.Prelude.{◌≡◌, ◌<◌, ◌++◌, Contains, Some, slice_get, ◌∷◌, [], ℕ, List, true, false, length, nat_eq, OnOk, if◌then◌else◌};
+ghost use Rattle.std.specs.Prelude.{◌≡◌, ◌<◌, ◌≤◌, ◌++◌, Contains, Some, slice_get, ◌∷◌, [], ℕ, List, true, false, length, nat_eq, OnOk, if◌then◌else◌};
 ghost use Rattle.std.specs.List.{flat_map, IsDistinct};
 ghost use Rattle.std.specs.Cmp.Lexicographic.{pointwise};
+ghost use Rattle.rma_base.specs.Limits.{fed_limit};
 ghost use Rattle.rma_call.specs.Call.{Call, call_of, what_of};
 ghost use Rattle.rma_run.specs.Run.{IsRun, calls_of, with_calls};
 ghost use Rattle.rma_round.specs.declared.kind.Kind.{Kind};
@@ -12,9 +13,10 @@ ghost use Rattle.rma_round.specs.inside.Met.{name_meets};
 
 use crate::kind::{Kind, named};
 use crate::name_rounds::{NameRounds, place_in};
+use crate::own_calls::calls_by_name;
 use indexmap::IndexMap;
-use rma_base::{Memory, Name, Rank};
-use rma_call::{CallRef, RankCalls, WhatRef};
+use rma_base::{Memory, Name, Rank, Sequence};
+use rma_call::{CallList, CallRef, RankCalls, WhatRef};
 use rma_link::Links;
 use std::alloc::Global;
 
@@ -86,6 +88,23 @@ impl KindRounds {
             return Ok(());
         };
         add(alloc, &mut self.names, rank, number, name)
+    }
+
+    /// Takes all calls of a rank, of which none is taken yet, that are of the kind.
+    pub(crate) fn take_all(
+        &mut self,
+        alloc: Global,
+        rank: Rank,
+        own: &CallList,
+    ) -> Result<(), Memory>
+        requires { length own.now.calls ≤ fed_limit }
+        ensures { OnOk result ((kind : Kind) (calls : ℕ → List Call) → calls rank.0 ≡ [] → AreOfKind kind calls self.old
+            → AreOfKind kind (with_calls calls rank.0 own.now.calls) self.new) }
+    {
+        for (name, numbers) in calls_by_name(alloc, self.kind, own)? {
+            put(alloc, &mut self.names, rank, name, numbers)?;
+        }
+        Ok(())
     }
 
     /// The call of the other rank that is of the round of the call of this number of a rank, where that call is of the kind.
@@ -161,6 +180,27 @@ fn add(
     let mut rounds = NameRounds::new(alloc);
     rounds.add(alloc, rank, number)?;
     let name = name.copy()?;
+    names.insert(name, rounds)?;
+    Ok(())
+}
+
+/// Takes all calls of a rank on the name, by their numbers.
+fn put(
+    alloc: Global,
+    names: &mut IndexMap<Name, NameRounds>,
+    rank: Rank,
+    name: Name,
+    numbers: Sequence<u32>,
+) -> Result<(), Memory>
+    ensures own { OnOk result ((other : List ℕ) (member : ℕ) → pointwise nat_eq name other ≡ true
+        → numbers_in (kept names.new.entries other) member ≡ (if nat_eq rank.0 member then numbers else numbers_in (kept names.old.entries other) member)) }
+    ensures others { OnOk result ((other : List ℕ) → pointwise nat_eq name other ≡ false → kept names.new.entries other ≡ kept names.old.entries other) }
+{
+    if let Some(rounds) = names.get_mut(&name) {
+        return rounds.put(rank, numbers);
+    }
+    let mut rounds = NameRounds::new(alloc);
+    rounds.put(rank, numbers)?;
     names.insert(name, rounds)?;
     Ok(())
 }

@@ -21,6 +21,7 @@ pub mod laws;
 mod link;
 mod meet;
 mod name_rounds;
+mod own_calls;
 mod rounds;
 
 pub use kind::{Kind, moved_on, named};

@@ -55,6 +55,14 @@ impl NameRounds {
         Ok(())
     }
 
+    /// Takes all calls of a rank of which none is taken yet, by their numbers.
+    pub(crate) fn put(&mut self, rank: Rank, own: Sequence<u32>) -> Result<(), Memory>
+        ensures { OnOk result ((other : ℕ) → calls_in self.new other ≡ (if nat_eq rank.0 other then own else calls_in self.old other)) }
+    {
+        self.ranks.insert(rank.0, own)?;
+        Ok(())
+    }
+
     /// The numbers of the calls of a rank, ascending.
     pub fn of(&self, rank: Rank) -> &[u32]
         ensures { result.now ≡ calls_in self.now rank.0 }

@@ -9,7 +9,7 @@ ghost use Rattle.rma_round.specs.inside.Rounds.{AreOfKind, Represents};
 use crate::kind::Kind;
 use crate::kind_rounds::KindRounds;
 use rma_base::{Memory, Rank};
-use rma_call::{CallRef, RankCalls};
+use rma_call::{CallList, CallRef, RankCalls};
 use std::alloc::Global;
 
 /// The rounds of a run, as its calls come.
@@ -94,21 +94,21 @@ impl Rounds {
     {
         let mut rounds = Rounds::new(alloc);
         for rank in ranks {
-            rounds.take_all(rank)?;
+            rounds.take_all(rank.rank(), rank.calls())?;
         }
         Ok(rounds)
     }
 
     /// Takes the calls of a rank of which none is taken yet.
-    fn take_all(&mut self, rank: &RankCalls) -> Result<(), Memory>
-        requires { length rank.now.calls ≤ fed_limit }
-        ensures { OnOk result ((calls : ℕ → List Call) → calls rank.now.rank.0 ≡ [] → Represents calls self.old
-            → Represents (with_calls calls rank.now.rank.0 rank.now.calls) self.new) }
+    fn take_all(&mut self, rank: Rank, own: &CallList) -> Result<(), Memory>
+        requires { length own.now.calls ≤ fed_limit }
+        ensures { OnOk result ((calls : ℕ → List Call) → calls rank.0 ≡ [] → Represents calls self.old
+            → Represents (with_calls calls rank.0 own.now.calls) self.new) }
     {
-        let calls = rank.calls();
-        for i in 0..calls.len() {
-            self.take(rank.rank(), i as u32, calls.get(i))?;
-        }
+        self.collectives.take_all(self.alloc, rank, own)?;
+        self.frees.take_all(self.alloc, rank, own)?;
+        self.fences.take_all(self.alloc, rank, own)?;
+        self.movings.take_all(self.alloc, rank, own)?;
         Ok(())
     }
 }
