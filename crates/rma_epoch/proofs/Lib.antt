@@ -2,3 +2,5 @@ pub mod EventLemmas
 pub mod LiveLemmas
 pub mod MemberLemmas
 pub mod RangeLemmas
+pub mod SoundLemmas
+pub mod TableLemmas

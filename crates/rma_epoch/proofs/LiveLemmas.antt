@@ -6,6 +6,7 @@ use Rattle.std.proofs.Math.Seq.{drop-cons}
 use Rattle.std.proofs.lemmas.Option.{slice_get_within, get_or_from_slice_get}
 use Rattle.std.proofs.lemmas.List.{take_more}
 use Rattle.std.specs.Prelude.{IfOk, OnOk, option_map}
+use Rattle.rma_base.specs.declared.epoch_reason.EpochReason.{EpochReason}
 use Rattle.rma_base.specs.declared.line.LineNo.{LineNo}
 use Rattle.rma_window.specs.Windows.{Window}
 use Rattle.rma_epoch.specs.Reason.{reason_at}
@@ -20,7 +21,9 @@ use Rattle.rma_epoch.specs.Calls.{window_on, is_on, past_from, past_on}
 use Rattle.rma_epoch.specs.Open.{open_after, open_on}
 use Rattle.rma_epoch.specs.Fault.{fault_from, is_unclosed, leaves_open}
 use Rattle.rma_epoch.specs.inside.Held.{open_of}
+use Rattle.rma_epoch.specs.Table.{taken_with}
 use Rattle.rma_epoch.specs.inside.Live.{kept}
+use Rattle.rma_epoch.specs.inside.Step.{past_with}
 use Rattle.rma_epoch.proofs.EventLemmas.{all_false}
 
 -- ---- one more call
@@ -67,6 +70,18 @@ module _ (calls : List Call) (call : Call) (own : List ℕ) (on : window_on call
           others window differ
           ∙ are window
           ∙ ap open_after (sym (push ∙ ap (λ b. cond b ((length calls, call.what) ∷ past_on window calls) (past_on window calls)) differ))
+
+-- a call on one window, which is taken unless it has a reason
+pub kept_with : (calls : List Call) (call : Call) (own : List ℕ) → window_on call.what ≡ Some own → (old new : List (List ℕ × OpenEpochs)) (reason : Option EpochReason)
+    → ((past : List (ℕ × What)) (name : List ℕ) → pointwise nat_eq own name ≡ true → kept old name ≡ open_after past → kept new name ≡ open_after (past_with reason (length calls, call.what) past))
+    → ((name : List ℕ) → pointwise nat_eq own name ≡ false → kept new name ≡ kept old name)
+    → ((window : List ℕ) → kept old window ≡ open_on calls window) → (window : List ℕ) → kept new window ≡ open_on (taken_with reason call calls) window
+kept_with calls call own on old new None taken others are window = kept_after calls call own on old new taken others are window
+kept_with calls call own on old new (Some reason) taken others are window = by (pointwise nat_eq own window) refl
+  where
+    by : (b : Bool) → pointwise nat_eq own window ≡ b → kept new window ≡ open_on calls window
+    by true same = taken (past_on window calls) window same (are window)
+    by false differ = others window differ ∙ are window
 
 -- ---- the end
 
@@ -143,13 +158,9 @@ unclosed_is calls es are found =
 
 -- ---- what a call that may fail says
 
-pub OnOk_both : {T E A B C : Type 0} (r : Result T E) → (A → B → C) → OnOk r A → OnOk r B → OnOk r C
-OnOk_both (Ok x) f a b = f a b
-OnOk_both (Err e) f a b = tt
-
-pub IfOk_each : {T E : Type 0} {P Q : T → Type 0} (r : Result T E) → ((x : T) → P x → Q x) → IfOk r P → IfOk r Q
-IfOk_each (Ok x) f p = f x p
-IfOk_each (Err e) f p = tt
+pub IfOk_both : {T E B : Type 0} {P Q : T → Type 0} (r : Result T E) → ((x : T) → P x → B → Q x) → IfOk r P → OnOk r B → IfOk r Q
+IfOk_both (Ok x) f p b = f x p b
+IfOk_both (Err e) f p b = tt
 
 -- ---- the first fault
 

@@ -10,12 +10,17 @@
 mod call;
 mod fault;
 mod live;
+mod locks;
 mod open_epochs;
 mod opening;
+mod placements;
 mod range;
 mod reason;
+mod step;
+mod table;
 mod whole;
 
 pub use fault::EpochFault;
 pub use live::LiveEpochs;
-pub use whole::epoch_fault;
+pub use table::{Epoch, EpochKind, EpochOutcome, EpochTable, LockEpoch};
+pub use whole::{epoch_fault, place_calls};

@@ -1,22 +1,27 @@
 //! The epochs of a rank, as its calls come.
-ghost use Rattle.std.specs.Prelude.{◌≡◌, ◌++◌, ◌∷◌, [], ℕ, List, Some, true, false, length, nat_eq, slice_get, IfOk, OnOk};
+ghost use Rattle.std.specs.Prelude.{◌≡◌, ◌≤◌, [], ℕ, List, Some, true, false, length, nat_eq, slice_get, take, IfOk, OnOk};
 ghost use Rattle.std.specs.Map.{lookup};
 ghost use Rattle.std.specs.List.{list_any};
 ghost use Rattle.std.specs.Cmp.Lexicographic.{pointwise};
-ghost use Rattle.rma_call.specs.Call.{Call, call_of, what_of};
+ghost use Rattle.rma_call.specs.Call.{Call, call_of};
 ghost use Rattle.rma_call.specs.declared.what.What.{What};
-ghost use Rattle.rma_epoch.specs.Open.{open_after};
-ghost use Rattle.rma_epoch.specs.Reason.{reason_at, reason_in};
+ghost use Rattle.rma_epoch.specs.Open.{open_after, open_on};
+ghost use Rattle.rma_epoch.specs.Reason.{reason_at};
+ghost use Rattle.rma_epoch.specs.Table.{close_of, epoch_of, table_of, taken_with};
 ghost use Rattle.rma_epoch.specs.Fault.{is_unclosed, leaves_open};
 ghost use Rattle.rma_epoch.specs.declared.open_epochs.OpenEpochs.{OpenEpochs};
 ghost use Rattle.rma_epoch.specs.inside.Held.{open_of};
 ghost use Rattle.rma_epoch.specs.inside.Live.{kept, Represents};
+ghost use Rattle.rma_epoch.specs.inside.Step.{past_with, step_at, step_in};
 
 use crate::call::window_on;
 use crate::open_epochs::OpenEpochs;
+use crate::placements::Placements;
+use crate::step::Step;
+use crate::table::{Epoch, EpochTable};
 use indexmap::IndexMap;
 use rma_base::{EpochReason, Memory, Name};
-use rma_call::CallRef;
+use rma_call::{CallList, CallRef};
 use rma_window::Windows;
 use std::alloc::Global;
 
@@ -29,6 +34,8 @@ pub struct LiveEpochs {
     windows: IndexMap<Name, OpenEpochs>,
     /// How many calls are taken.
     taken: u32,
+    /// The epochs in which they stand.
+    placements: Placements,
 }
 
 impl LiveEpochs {
@@ -40,10 +47,12 @@ impl LiveEpochs {
             alloc,
             windows: IndexMap::new(alloc),
             taken: 0,
+            placements: Placements::new(alloc),
         }
     }
 
-    /// Takes the next call of the rank, and answers why it stands in no epoch that allows it, if so.
+    /// Takes the next call of the rank, unless it stands in no epoch that allows it: then it answers why, and the call is not
+    /// taken.
     ///
     /// # Errors
     ///
@@ -54,17 +63,18 @@ impl LiveEpochs {
         call: CallRef<'_>,
     ) -> Result<Option<EpochReason>, Memory>
         ensures reason { IfOk result (λ reason. (calls : List Call) → Represents calls self.old → reason ≡ reason_at windows.now calls (call_of call.entry)) }
-        ensures taken { OnOk result ((calls : List Call) → Represents calls self.old → Represents (calls ++ call_of call.entry ∷ []) self.new) }
+        ensures taken { IfOk result (λ reason. (calls : List Call) → Represents calls self.old → Represents (taken_with reason (call_of call.entry) calls) self.new) }
     {
-        let Some(taken) = self.taken.checked_add(1) else {
+        let Some(next) = self.taken.checked_add(1) else {
             return Err(Memory);
         };
-        let number = self.taken;
-        self.taken = taken;
-        match window_on(call.what) {
-            Some(window) => take(self.alloc, &mut self.windows, windows, window, number, call),
-            None => Ok(None),
+        let step = step(self.alloc, &mut self.windows, windows, self.taken, call)?;
+        if step.reason.is_some() {
+            return Ok(step.reason);
         }
+        self.placements.add(self.taken, step)?;
+        self.taken = next;
+        Ok(None)
     }
 
     /// How many calls are taken.
@@ -72,6 +82,35 @@ impl LiveEpochs {
         ensures { (calls : List Call) → Represents calls self.now → result ≡ length calls }
     {
         self.taken
+    }
+
+    /// The epoch in which the call of this number stands, where it is taken and is an access to a target.
+    pub fn epoch_of(&self, call: u32) -> Option<Epoch>
+        ensures { (calls : List Call) → Represents calls self.now → result ≡ epoch_of calls call }
+    {
+        self.placements.epoch_of(call)
+    }
+
+    /// The number of the call that closes what the call of this number opened, where it is taken.
+    pub fn close_of(&self, opener: u32) -> Option<u32>
+        ensures { (calls : List Call) → Represents calls self.now → result ≡ close_of calls opener }
+    {
+        self.placements.close_of(opener)
+    }
+
+    /// The table of the calls that are taken, which are the first of these.
+    pub(crate) fn into_table(
+        self,
+        windows: &Windows,
+        calls: &CallList,
+    ) -> Result<EpochTable, Memory>
+        requires { self.taken ≤ length calls.now.calls }
+        ensures { IfOk result (λ table. Represents (take self.taken calls.now.calls) self → table ≡ table_of windows.now (take self.taken calls.now.calls)) }
+    {
+        let locks = self
+            .placements
+            .locks(self.alloc, windows, calls, self.taken)?;
+        Ok(EpochTable::new(self.taken, self.placements, locks))
     }
 
     /// Whether an epoch has to be closed yet on a window that is not freed.
@@ -90,28 +129,43 @@ fn any_unclosed(table: &IndexMap<Name, OpenEpochs>) -> bool
     table.iter().any(|(_, own)| own.is_unclosed())
 }
 
-/// Takes the next call on the window.
-fn take(
+/// Takes the call of this number, which is the next one, unless it has a reason, and answers what it does.
+fn step(
+    alloc: Global,
+    table: &mut IndexMap<Name, OpenEpochs>,
+    windows: &Windows,
+    number: u32,
+    call: CallRef<'_>,
+) -> Result<Step, Memory>
+    ensures step { IfOk result (λ step. step ≡ step_at windows.now (kept table.old.entries) (call_of call.entry)) }
+    ensures taken { IfOk result (λ step. (calls : List Call) → number ≡ length calls → ((window : List ℕ) → kept table.old.entries window ≡ open_on calls window)
+        → (window : List ℕ) → kept table.new.entries window ≡ open_on (taken_with step.reason (call_of call.entry) calls) window) }
+{
+    match window_on(call.what) {
+        Some(window) => step_on(alloc, table, windows, window, number, call),
+        None => Ok(Step::none()),
+    }
+}
+
+/// The same for a call on the window.
+fn step_on(
     alloc: Global,
     table: &mut IndexMap<Name, OpenEpochs>,
     windows: &Windows,
     window: &Name,
     number: u32,
     call: CallRef<'_>,
-) -> Result<Option<EpochReason>, Memory>
-    ensures reason { IfOk result (λ reason. reason ≡ reason_in windows.now (kept table.old.entries window.now) (call_of call.entry).what call.entry.request) }
-    ensures own { OnOk result ((past : List (ℕ × What)) (name : List ℕ) → pointwise nat_eq window.now name ≡ true → kept table.old.entries name ≡ open_after past
-        → kept table.new.entries name ≡ open_after ((number, (call_of call.entry).what) ∷ past)) }
+) -> Result<Step, Memory>
+    ensures step { IfOk result (λ step. step ≡ step_in windows.now (kept table.old.entries window.now) (call_of call.entry)) }
+    ensures own { IfOk result (λ step. (past : List (ℕ × What)) (name : List ℕ) → pointwise nat_eq window.now name ≡ true → kept table.old.entries name ≡ open_after past
+        → kept table.new.entries name ≡ open_after (past_with step.reason (number, (call_of call.entry).what) past)) }
     ensures others { OnOk result ((name : List ℕ) → pointwise nat_eq window.now name ≡ false → kept table.new.entries name ≡ kept table.old.entries name) }
 {
     if let Some(own) = table.get_mut(window) {
-        let reason = own.reason(windows, call);
-        own.take(number, call.what)?;
-        return Ok(reason);
+        return own.step(windows, number, call);
     }
     let mut own = OpenEpochs::new(alloc);
-    let reason = own.reason(windows, call);
-    own.take(number, call.what)?;
+    let step = own.step(windows, number, call)?;
     table.insert(window.copy()?, own)?;
-    Ok(reason)
+    Ok(step)
 }

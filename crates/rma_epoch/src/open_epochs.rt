@@ -1,5 +1,6 @@
 //! What is open on one window.
 ghost use Rattle.std.specs.Prelude.{◌≡◌, ◌||◌, ◌∷◌, [], ℕ, List, OnOk, is_some};
+ghost use Rattle.std.specs.Option.{option_or};
 ghost use Rattle.rma_call.specs.Call.{what_of};
 ghost use Rattle.rma_call.specs.declared.what.What.{What};
 ghost use Rattle.rma_call.specs.declared.what.What.TheVariants.{Sync};
@@ -7,11 +8,14 @@ ghost use Rattle.rma_call.specs.declared.what.SyncCall.TheVariants.{Epoch, Windo
 ghost use Rattle.rma_epoch.specs.Open.{frees, is_exclusive, is_left, is_used, open_after};
 ghost use Rattle.rma_epoch.specs.Fault.{is_unclosed};
 ghost use Rattle.rma_epoch.specs.Reason.{start_reaches};
+ghost use Rattle.rma_epoch.specs.Table.{by_phase, by_start, closed_by, opening_in, reaching};
 ghost use Rattle.rma_epoch.specs.inside.Held.{open_of};
 
 use crate::opening::{
-    FencePhase, HeldLock, OpenStart, is_used, opened_phase, phase_if_used, used_phase,
+    FencePhase, HeldLock, OpenStart, Opening, is_used, opened_phase, opening_of_phase,
+    phase_if_used, used_phase,
 };
+use crate::table::EpochKind;
 use indexmap::IndexMap;
 use rma_base::{Memory, Rank};
 use rma_call::{EpochCall, LockKind, WhatRef, WindowCall};
@@ -103,6 +107,97 @@ impl OpenEpochs {
             EpochCall::Sync { .. } => {}
         }
         Ok(())
+    }
+
+    /// The epoch in which a call on the window stands, where it is an access to a target.
+    pub(crate) fn opening(&self, what: WhatRef<'_>) -> Option<Opening>
+        ensures { result ≡ opening_in (open_of self.now) (what_of what.entry) }
+    {
+        match what {
+            WhatRef::Rma(access) => match access.target {
+                Some(target) => self.reaching(target),
+                None => None,
+            },
+            WhatRef::Epoch(_) => None,
+            WhatRef::Window(_) => None,
+            WhatRef::Frame(_) => None,
+            WhatRef::Message(_) => None,
+            WhatRef::Moving(_) => None,
+            WhatRef::Local(_) => None,
+        }
+    }
+
+    /// The epoch that reaches a target.
+    fn reaching(&self, target: Rank) -> Option<Opening>
+        ensures { result ≡ reaching (open_of self.now) target }
+    {
+        if let Some(lock) = self.locks.get(&target.0) {
+            return Some(Opening {
+                kind: EpochKind::Lock {
+                    exclusive: lock.exclusive,
+                },
+                opener: lock.opener,
+            });
+        }
+        match self.lock_all {
+            Some(opener) => Some(Opening {
+                kind: EpochKind::LockAll,
+                opener,
+            }),
+            None => self.active_reaching(target),
+        }
+    }
+
+    /// The epoch without a lock that reaches a target.
+    fn active_reaching(&self, target: Rank) -> Option<Opening>
+        ensures { result ≡ option_or (by_start (open_of self.now) target) (by_phase (open_of self.now)) }
+    {
+        if let Some(start) = &self.start {
+            if start.targets.has(target) {
+                return Some(Opening {
+                    kind: EpochKind::Start,
+                    opener: start.opener,
+                });
+            }
+        }
+        opening_of_phase(self.phase)
+    }
+
+    /// The number of the call that opened what a call on the window closes, where that is open.
+    pub(crate) fn closed_by(&self, what: WhatRef<'_>) -> Option<u32>
+        ensures { result ≡ closed_by (open_of self.now) (what_of what.entry) }
+    {
+        match what {
+            WhatRef::Epoch(call) => self.closed_by_epoch(call),
+            WhatRef::Rma(_) => None,
+            WhatRef::Window(_) => None,
+            WhatRef::Frame(_) => None,
+            WhatRef::Message(_) => None,
+            WhatRef::Moving(_) => None,
+            WhatRef::Local(_) => None,
+        }
+    }
+
+    /// The same for a call that opens, completes or closes an epoch.
+    fn closed_by_epoch(&self, call: &EpochCall) -> Option<u32>
+        ensures { result ≡ closed_by (open_of self.now) (Sync (Epoch call.now)) }
+    {
+        match call {
+            EpochCall::Fence { .. } => self.phase.map(|phase| phase.opener),
+            EpochCall::Complete { .. } => self.start.as_ref().map(|start| start.opener),
+            EpochCall::Unlock { target, .. } => self.locks.get(&target.0).map(|lock| lock.opener),
+            EpochCall::UnlockAll { .. } => self.lock_all,
+            EpochCall::Post { .. } => None,
+            EpochCall::Expwait { .. } => None,
+            EpochCall::Start { .. } => None,
+            EpochCall::Lock { .. } => None,
+            EpochCall::LockAll { .. } => None,
+            EpochCall::Flush { .. } => None,
+            EpochCall::FlushAll { .. } => None,
+            EpochCall::FlushLocal { .. } => None,
+            EpochCall::FlushLocalAll { .. } => None,
+            EpochCall::Sync { .. } => None,
+        }
     }
 
     /// Whether some target is locked by a lock of its own.

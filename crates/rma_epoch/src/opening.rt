@@ -1,8 +1,10 @@
 //! Epochs that are open.
 ghost use Rattle.std.specs.Prelude.{◌≡◌, Some, None, true, false, option_map, if◌then◌else◌};
 ghost use Rattle.std.specs.Option.{option_and_then, option_map_or};
+ghost use Rattle.rma_epoch.specs.declared.table.EpochKind.TheVariants.{Fence};
 ghost use Rattle.rma_epoch.specs.inside.Next.{kept_if_used, with_use};
 
+use crate::table::EpochKind;
 use rma_base::RankSet;
 
 /// The access epoch of a start.
@@ -30,6 +32,15 @@ pub struct FencePhase {
     pub opener: u32,
     /// Whether an access stands in it.
     pub used: bool,
+}
+
+/// An epoch that reaches a target.
+#[derive(Clone, Copy, Debug, PartialEq, Eq)]
+pub struct Opening {
+    /// Its kind.
+    pub kind: EpochKind,
+    /// The number of the call that opens it.
+    pub opener: u32,
 }
 
 /// The phase that a fence of this number opens, if it opens one.
@@ -75,5 +86,18 @@ pub(crate) fn is_used(phase: Option<FencePhase>) -> bool
     match phase {
         Some(phase) => phase.used,
         None => false,
+    }
+}
+
+/// The phase as an epoch that reaches all targets.
+pub(crate) fn opening_of_phase(phase: Option<FencePhase>) -> Option<Opening>
+    ensures { result ≡ option_map (λ phase. record { kind = Fence; opener = phase.opener }) phase }
+{
+    match phase {
+        Some(phase) => Some(Opening {
+            kind: EpochKind::Fence,
+            opener: phase.opener,
+        }),
+        None => None,
     }
 }

@@ -1,13 +1,36 @@
-//! The first epoch fault of a whole log.
-ghost use Rattle.std.specs.Prelude.{◌≡◌, IfOk};
+//! The epochs of a whole log, and its first epoch fault.
+ghost use Rattle.std.specs.Prelude.{◌≡◌, ◌≤◌, [], length, take, IfOk, OnOk};
 ghost use Rattle.rma_epoch.specs.Fault.{fault_of};
+ghost use Rattle.rma_epoch.specs.Table.{sound_calls, table_of};
+ghost use Rattle.rma_epoch.specs.inside.Live.{Represents};
 
 use crate::fault::EpochFault;
 use crate::live::LiveEpochs;
+use crate::table::EpochOutcome;
 use rma_base::{EpochReason, Memory};
 use rma_call::RankCalls;
 use rma_window::Windows;
 use std::alloc::Global;
+
+/// The epochs of the sound calls of a rank: those before its first call that stands in no epoch that allows it, or all of them.
+/// Beside them that call as its fault, or the end of its log where an epoch is left open.
+///
+/// # Errors
+///
+/// `Memory` where there is none left, also where there are 2^32 calls or more.
+pub fn place_calls(
+    alloc: Global,
+    own: &RankCalls,
+    windows: &Windows,
+) -> Result<EpochOutcome, Memory>
+    ensures table { IfOk result (λ outcome. outcome.table ≡ table_of windows.now (sound_calls windows.now own.now)) }
+    ensures fault { IfOk result (λ outcome. outcome.fault ≡ fault_of windows.now own.now) }
+{
+    let mut live = LiveEpochs::new(alloc);
+    let fault = take_sound(&mut live, own, windows)?;
+    let table = live.into_table(windows, own.calls())?;
+    Ok(EpochOutcome { table, fault })
+}
 
 /// The first call of a rank that stands in no epoch that allows it, or the end of its log where an epoch is left open.
 ///
@@ -21,8 +44,23 @@ pub fn epoch_fault(
 ) -> Result<Option<EpochFault>, Memory>
     ensures { IfOk result (λ fault. fault ≡ fault_of windows.now own.now) }
 {
-    let calls = own.calls();
     let mut live = LiveEpochs::new(alloc);
+    take_sound(&mut live, own, windows)
+}
+
+/// Takes the sound calls of a rank, none of which is taken yet, and answers its first fault.
+fn take_sound(
+    live: &mut LiveEpochs,
+    own: &RankCalls,
+    windows: &Windows,
+) -> Result<Option<EpochFault>, Memory>
+    requires { Represents [] live.old }
+    ensures fault { IfOk result (λ fault. fault ≡ fault_of windows.now own.now) }
+    ensures taken { OnOk result (Represents (sound_calls windows.now own.now) live.new) }
+    ensures within { OnOk result (live.new.taken ≤ length own.now.calls) }
+    ensures first { OnOk result (take live.new.taken own.now.calls ≡ sound_calls windows.now own.now) }
+{
+    let calls = own.calls();
     for i in 0..calls.len() {
         let call = calls.get(i);
         if let Some(reason) = live.take(windows, call)? {

@@ -7,6 +7,8 @@ mod clock;
 #[cfg(test)]
 mod epoch;
 #[cfg(test)]
+mod epoch_table;
+#[cfg(test)]
 mod impossible;
 #[cfg(test)]
 mod logs;

@@ -1,5 +1,5 @@
 //! Calls of a rank on one window, in short.
-use rma_base::{LineNo, Name, Rank, RankSet};
+use rma_base::{AccOps, LineNo, Name, Rank, RankSet, WinModel};
 use rma_bytes::{Layout, Run, Runs};
 use rma_call::{
     Assertions, CallList, EpochCall, LockKind, RankCalls, RmaCall, RmaKind, SyncCall, What,
@@ -36,11 +36,26 @@ pub enum Short {
     Rput(u32, u64),
     /// A put to no target.
     PutNull,
+    Create,
     Free,
 }
 
 fn name(alloc: Global) -> Result<Name, Fail> {
     Ok(Name::new(alloc, b"W")?)
+}
+
+/// The creation of the window: 64 bytes in displacement units of four bytes.
+pub fn creation(alloc: Global) -> Result<WindowCall, Fail> {
+    Ok(WindowCall::Create {
+        window: name(alloc)?,
+        comm: Name::new(alloc, b"world")?,
+        base: 4096,
+        size: 64,
+        unit: 4,
+        model: WinModel::Unified,
+        ops: AccOps::SameOp,
+        dynamic: false,
+    })
 }
 
 fn one(alloc: Global, rank: u32) -> Result<RankSet, Fail> {
@@ -133,6 +148,7 @@ fn what(alloc: Global, short: Short) -> Result<What, Fail> {
         Short::Put(target, displacement) => put(alloc, Some(target), displacement),
         Short::Rput(target, displacement) => put(alloc, Some(target), displacement),
         Short::PutNull => put(alloc, None, 0),
+        Short::Create => Ok(What::Sync(SyncCall::Window(creation(alloc)?))),
         Short::Free => {
             let window = name(alloc)?;
             Ok(What::Sync(SyncCall::Window(WindowCall::Free { window })))

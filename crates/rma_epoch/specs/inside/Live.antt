@@ -7,7 +7,9 @@ use Rattle.rma_call.specs.Call.{Call}
 use Rattle.rma_epoch.specs.declared.open_epochs.OpenEpochs.{OpenEpochs}
 use Rattle.rma_epoch.specs.declared.live.LiveEpochs.{LiveEpochs}
 use Rattle.rma_epoch.specs.Open.{Open, open_after, open_on}
+use Rattle.rma_epoch.specs.Table.{close_of, openings_from}
 use Rattle.rma_epoch.specs.inside.Held.{open_of}
+use Rattle.rma_epoch.specs.inside.Placements.{close_in}
 
 -- what is kept of a window: nothing is open where nothing is kept
 abbrev pub kept : List (List ℕ × OpenEpochs) → List ℕ → Open
@@ -17,3 +19,5 @@ kept windows window = option_map_or open_of (lookup (pointwise nat_eq window) wi
 pub record Represents (calls : List Call) (live : LiveEpochs) : Type 0 where
   pub windows_are : (window : List ℕ) → kept live.windows.entries window ≡ open_on calls window
   pub taken_are : live.taken ≡ length calls
+  pub openings_are : live.placements.openings.items ≡ openings_from [] calls
+  pub closes_are : (opener : ℕ) → close_in live.placements opener ≡ close_of calls opener

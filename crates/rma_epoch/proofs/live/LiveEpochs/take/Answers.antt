@@ -1,46 +1,34 @@
-use Rattle.std.proofs.Common.{◌≡◌, ◌+◌, ◌∷◌, [], ℕ, List, Some, None, sym, ap, ◌∙◌, length-append}
-use Rattle.std.specs.Prelude.{option_copied}
-use Rattle.std.specs.Option.{option_and_then}
+use Rattle.std.proofs.Common.{◌≡◌, ◌+◌, ◌∷◌, ◌++◌, [], ℕ, List, Some, None, cond, length, subst, sym, ap, ◌∙◌, length-append}
 use Rattle.rma_call.specs.Call.{call_of}
-use Rattle.rma_epoch.specs.Calls.{window_on}
-use Rattle.rma_epoch.specs.Open.{open_after, open_on}
-use Rattle.rma_epoch.specs.Reason.{reason_in}
-use Rattle.rma_epoch.proofs.LiveLemmas.{IfOk_each, OnOk_both, kept_after, same_after_none}
+use Rattle.rma_epoch.specs.Open.{Open, open_on}
+use Rattle.rma_epoch.specs.Table.{close_of, closed_at, is_opener, openings_from, opening_at, taken_with}
+use Rattle.rma_epoch.specs.declared.step.Step.{Step}
+use Rattle.rma_epoch.specs.inside.Live.{kept}
+use Rattle.rma_epoch.specs.inside.Placements.{close_in}
+use Rattle.rma_epoch.proofs.TableLemmas.{close_push, closed_is, not_some, opening_is, openings_push}
 use Rattle.rma_epoch.proofs.live.LiveEpochs.take.Goals as goal
 
-pub returns-in-Some-window_on-clause-taken : goal.returns-in-Some-window_on-clause-taken
-returns-in-Some-window_on-clause-taken c =
+pub returns-clause-taken : goal.returns-clause-taken
+returns-clause-taken c = λ calls are.
     let own = c.args.self.now in
     let call = call_of c.args.call in
-    let window = c.in-Some-window_on.window.now in
-    let on : window_on call.what ≡ Some window = sym c.window_on.ensures ∙ ap option_copied c.in-Some-window_on.is in
-    OnOk_both c.take.result
-    (λ taken others calls are. record {
-      windows_are = kept_after calls call window on own.windows.entries c.take.new.table.entries
-          (λ past name same before. taken past name same before ∙ ap (λ k. open_after ((k, call.what) ∷ past)) are.taken_are)
-          others are.windows_are;
-      taken_are = c.in-Some.ensures.1 ∙ ap (λ k. k + 1) are.taken_are ∙ sym (length-append calls (call ∷ []));
-    })
-    c.take.ensures.own c.take.ensures.others
-
-pub returns-in-Some-window_on-clause-reason : goal.returns-in-Some-window_on-clause-reason
-returns-in-Some-window_on-clause-reason c =
     let windows = c.args.windows.now in
-    let call = call_of c.args.call in
-    let window = c.in-Some-window_on.window.now in
-    let on : window_on call.what ≡ Some window = sym c.window_on.ensures ∙ ap option_copied c.in-Some-window_on.is in
-    IfOk_each c.take.result
-    (λ reason is calls are.
-    is
-    ∙ ap (λ o. reason_in windows o call.what call.request) (are.windows_are window)
-    ∙ sym (ap (option_and_then (λ (w : List ℕ). reason_in windows (open_on calls w) call.what call.request)) on))
-    c.take.ensures.reason
-
-pub returns-in-None-clause-taken : goal.returns-in-None-clause-taken
-returns-in-None-clause-taken c = λ calls are.
-    let call = call_of c.args.call in
-    let none : window_on call.what ≡ None = sym c.window_on.ensures ∙ ap option_copied c.in-None.is in
+    let opened : List ℕ → Open = kept own.windows.entries in
+    let step = c.in_ok-step.step in
+    let none : step.reason ≡ None = not_some step.reason (sym c.is_some.ensures ∙ c.if-is_some.false) in
+    let opening : step.opening ≡ opening_at calls call = ap (λ (s : Step). s.opening) c.in_ok-step.ensures.step ∙ opening_is windows opened calls call are.windows_are in
+    let closed : step.closes ≡ closed_at calls call = ap (λ (s : Step). s.closes) c.in_ok-step.ensures.step ∙ closed_is windows opened calls call are.windows_are in
     record {
-      windows_are = λ window. are.windows_are window ∙ ap open_after (same_after_none window calls call none);
+      windows_are = subst (λ o. (window : List ℕ) → kept c.step.new.table.entries window ≡ open_on (taken_with o call calls) window) none
+          (c.in_ok-step.ensures.taken calls are.taken_are are.windows_are);
       taken_are = c.in-Some.ensures.1 ∙ ap (λ k. k + 1) are.taken_are ∙ sym (length-append calls (call ∷ []));
+      openings_are = c.in_ok-add.ensures.openings
+          ∙ ap (λ openings. openings ++ step.opening ∷ []) are.openings_are
+          ∙ ap (λ opening. openings_from [] calls ++ opening ∷ []) opening
+          ∙ sym (openings_push calls call);
+      closes_are = λ opener. c.in_ok-add.ensures.closes opener
+          ∙ ap (λ closes. cond (is_opener opener closes) (Some own.taken) (close_in own.placements opener)) closed
+          ∙ ap (λ n. cond (is_opener opener (closed_at calls call)) (Some n) (close_in own.placements opener)) are.taken_are
+          ∙ ap (λ close. cond (is_opener opener (closed_at calls call)) (Some (length calls)) close) (are.closes_are opener)
+          ∙ sym (close_push opener calls call);
     }

@@ -1,0 +1,45 @@
+-- The sound calls of a rank.
+use Rattle.std.proofs.Common.{◌≡◌, ℕ, suc, ◌+◌, cond, ◌∷◌, ◌++◌, List, [], take, drop, Some, None, slice_get, sym, ap, ◌∙◌, arith, append_assoc}
+use Rattle.std.proofs.Math.Seq.{drop-cons}
+use Rattle.std.proofs.lemmas.List.{append-nil}
+use Rattle.std.proofs.lemmas.Option.{slice_get_within, get_or_from_slice_get}
+use Rattle.std.specs.Prelude.{is_none}
+use Rattle.rma_base.specs.declared.epoch_reason.EpochReason.{EpochReason}
+use Rattle.rma_call.specs.Call.{Call, RankCalls}
+use Rattle.rma_window.specs.Windows.{Window}
+use Rattle.rma_epoch.specs.Reason.{reason_at}
+use Rattle.rma_epoch.specs.Table.{sound_calls, sound_from}
+use Rattle.rma_epoch.proofs.LiveLemmas.{taken_there}
+
+-- the sound calls from a call on
+sound_step : (windows : List Window) (calls : List Call) (i : ℕ) (call : Call) → slice_get calls i ≡ Some call →
+    sound_from windows (take i calls) (drop i calls) ≡ cond (is_none (reason_at windows (take i calls) call)) (call ∷ sound_from windows (take (i + 1) calls) (drop (i + 1) calls)) []
+sound_step windows calls i call there =
+    let more : drop i calls ≡ call ∷ drop (suc i) calls =
+    drop-cons calls i call (slice_get_within calls i call there) ∙ ap (λ x. x ∷ drop (suc i) calls) (get_or_from_slice_get calls i call call there) in
+    let next : suc i ≡ i + 1 = omega arith in
+    let sound = is_none (reason_at windows (take i calls) call) in
+    ap (sound_from windows (take i calls)) more
+    ∙ ap (λ k. cond sound (call ∷ sound_from windows (take i calls ++ call ∷ []) (drop k calls)) []) next
+    ∙ ap (λ before. cond sound (call ∷ sound_from windows before (drop (i + 1) calls)) []) (sym (taken_there calls i call there))
+
+-- a call that has no reason is sound too
+pub sound_more : (windows : List Window) (own : RankCalls) (i : ℕ) (call : Call) → slice_get own.calls i ≡ Some call → reason_at windows (take i own.calls) call ≡ None
+    → sound_calls windows own ≡ take i own.calls ++ sound_from windows (take i own.calls) (drop i own.calls)
+    → sound_calls windows own ≡ take (i + 1) own.calls ++ sound_from windows (take (i + 1) own.calls) (drop (i + 1) own.calls)
+sound_more windows own i call there none so =
+    let rest = sound_from windows (take (i + 1) own.calls) (drop (i + 1) own.calls) in
+    so
+    ∙ ap (λ calls. take i own.calls ++ calls) (sound_step windows own.calls i call there ∙ ap (λ reason. cond (is_none reason) (call ∷ rest) []) none)
+    ∙ sym (append_assoc (take i own.calls) (call ∷ []) rest)
+    ∙ ap (λ before. before ++ rest) (sym (taken_there own.calls i call there))
+
+-- the first call that has a reason ends them
+pub sound_until : (windows : List Window) (own : RankCalls) (i : ℕ) (call : Call) (reason : EpochReason) → slice_get own.calls i ≡ Some call → reason_at windows (take i own.calls) call ≡ Some reason
+    → sound_calls windows own ≡ take i own.calls ++ sound_from windows (take i own.calls) (drop i own.calls)
+    → sound_calls windows own ≡ take i own.calls
+sound_until windows own i call reason there some so =
+    let rest = sound_from windows (take (i + 1) own.calls) (drop (i + 1) own.calls) in
+    so
+    ∙ ap (λ calls. take i own.calls ++ calls) (sound_step windows own.calls i call there ∙ ap (λ reason. cond (is_none reason) (call ∷ rest) []) some)
+    ∙ append-nil (take i own.calls)

@@ -1,0 +1,117 @@
+-- The epochs of one more call.
+use Rattle.std.proofs.Common.{◌≡◌, ◌<◌, take, slice_get, ℕ, suc, ◌+◌, Bool, true, false, cond, ◌∷◌, ◌++◌, List, [], length, map, Option, Some, None, refl, sym, ap, ◌∙◌, arith, append_assoc, length-append}
+use Rattle.std.proofs.Math.Path.{fun_ext}
+use Rattle.std.specs.Prelude.{option_map, is_some}
+use Rattle.std.specs.List.{cons_option}
+use Rattle.std.specs.Option.{option_and_then, option_map_or, option_or}
+use Rattle.std.proofs.lemmas.Bool.{true≢false}
+use Rattle.std.proofs.lemmas.List.{append-nil, length-take-le}
+use Rattle.rma_call.specs.Call.{Call}
+use Rattle.rma_window.specs.Windows.{Window}
+use Rattle.rma_epoch.specs.declared.live.LiveEpochs.{LiveEpochs}
+use Rattle.rma_epoch.specs.declared.opening.Opening.{Opening}
+use Rattle.rma_epoch.specs.declared.table.LockEpoch.{LockEpoch}
+use Rattle.rma_epoch.specs.Calls.{window_on}
+use Rattle.rma_epoch.specs.Open.{Open, open_on}
+use Rattle.rma_epoch.specs.Table.{opening_in, opening_at, openings_from, closed_by, closed_at, is_opener, close_from, close_of, epoch_with, Epochs, locked_by, locks_from, locks_of, table_of}
+use Rattle.rma_epoch.specs.inside.Placements.{close_in, epochs_in}
+use Rattle.rma_epoch.specs.inside.Live.{Represents}
+use Rattle.rma_epoch.specs.inside.Step.{no_step, step_at, step_in}
+use Rattle.rma_epoch.proofs.LiveLemmas.{taken_there}
+use Rattle.std.proofs.lemmas.Option.{slice_get_within}
+
+openings_more : (before calls : List Call) (call : Call) → openings_from before (calls ++ call ∷ []) ≡ openings_from before calls ++ opening_at (before ++ calls) call ∷ []
+openings_more before [] call = ap (λ b. opening_at b call ∷ []) (sym (append-nil before))
+openings_more before (x ∷ xs) call =
+    ap (λ rest. opening_at before x ∷ rest)
+    (openings_more (before ++ x ∷ []) xs call ∙ ap (λ b. openings_from (before ++ x ∷ []) xs ++ opening_at b call ∷ []) (append_assoc before (x ∷ []) xs))
+
+-- the epoch in which one more call stands
+pub openings_push : (calls : List Call) (call : Call) → openings_from [] (calls ++ call ∷ []) ≡ openings_from [] calls ++ opening_at calls call ∷ []
+openings_push calls call = openings_more [] calls call
+
+-- the latest that closes
+latest : (b : Bool) (n : ℕ) (rest : Option ℕ) (last : Option ℕ) → option_or (cond b (Some n) rest) last ≡ cond b (Some n) (option_or rest last)
+latest true n rest last = refl
+latest false n rest last = refl
+
+close_more : (opener : ℕ) (before calls : List Call) (call : Call) →
+    close_from opener before (calls ++ call ∷ []) ≡ cond (is_opener opener (closed_at (before ++ calls) call)) (Some (length (before ++ calls))) (close_from opener before calls)
+close_more opener before [] call = ap (λ b. cond (is_opener opener (closed_at b call)) (Some (length b)) None) (sym (append-nil before))
+close_more opener before (x ∷ xs) call =
+    let last = cond (is_opener opener (closed_at before x)) (Some (length before)) None in
+    ap (λ rest. option_or rest last) (close_more opener (before ++ x ∷ []) xs call)
+    ∙ ap (λ b. option_or (cond (is_opener opener (closed_at b call)) (Some (length b)) (close_from opener (before ++ x ∷ []) xs)) last) (append_assoc before (x ∷ []) xs)
+    ∙ latest (is_opener opener (closed_at (before ++ x ∷ xs) call)) (length (before ++ x ∷ xs)) (close_from opener (before ++ x ∷ []) xs) last
+
+-- what one more call closes
+pub close_push : (opener : ℕ) (calls : List Call) (call : Call) → close_of (calls ++ call ∷ []) opener ≡ cond (is_opener opener (closed_at calls call)) (Some (length calls)) (close_of calls opener)
+close_push opener calls call = close_more opener [] calls call
+
+-- ---- what a call does
+
+-- the epoch in which it stands
+pub opening_is : (windows : List Window) (opened : List ℕ → Open) (calls : List Call) (call : Call) → ((window : List ℕ) → opened window ≡ open_on calls window)
+    → (step_at windows opened call).opening ≡ opening_at calls call
+opening_is windows opened calls call same = by (window_on call.what)
+  where
+    by : (on : Option (List ℕ)) → (option_map_or (λ (w : List ℕ). step_in windows (opened w) call) on no_step).opening ≡ option_and_then (λ w. opening_in (open_on calls w) call.what) on
+    by None = refl
+    by (Some w) = ap (λ own. opening_in own call.what) (same w)
+
+-- what opened what it closes
+pub closed_is : (windows : List Window) (opened : List ℕ → Open) (calls : List Call) (call : Call) → ((window : List ℕ) → opened window ≡ open_on calls window)
+    → (step_at windows opened call).closes ≡ closed_at calls call
+closed_is windows opened calls call same = by (window_on call.what)
+  where
+    by : (on : Option (List ℕ)) → (option_map_or (λ (w : List ℕ). step_in windows (opened w) call) on no_step).closes ≡ option_and_then (λ w. closed_by (open_on calls w) call.what) on
+    by None = refl
+    by (Some w) = ap (λ own. closed_by own call.what) (same w)
+
+pub not_some : {X : Type 0} (o : Option X) → is_some o ≡ false → o ≡ None
+not_some None none = refl
+not_some (Some x) none = absurd (true≢false none)
+
+-- ---- the lock epochs
+
+-- an element before some of two lists
+cons_append : {X : Type 0} (o : Option X) (xs ys : List X) → cons_option o (xs ++ ys) ≡ cons_option o xs ++ ys
+cons_append None xs ys = refl
+cons_append (Some x) xs ys = refl
+
+-- the lock epoch that one more call opens
+pub locks_push : (windows : List Window) (close : ℕ → Option ℕ) (n : ℕ) (calls : List Call) (call : Call)
+    → locks_from windows close n (calls ++ call ∷ []) ≡ locks_from windows close n calls ++ cons_option (locked_by windows close (n + length calls) call.what) []
+locks_push windows close n [] call = ap (λ k. cons_option (locked_by windows close k call.what) []) (let e : n ≡ n + 0 = omega arith in e)
+locks_push windows close n (x ∷ xs) call =
+    let last = λ (k : ℕ). cons_option (locked_by windows close k call.what) [] in
+    let first = locked_by windows close n x.what in
+    ap (cons_option first) (locks_push windows close (n + 1) xs call)
+    ∙ cons_append first (locks_from windows close (n + 1) xs) (last (n + 1 + length xs))
+    ∙ ap (λ k. cons_option first (locks_from windows close (n + 1) xs) ++ last k) (let e : n + 1 + length xs ≡ n + suc (length xs) = omega arith in e)
+
+-- the same at a call of a list
+pub locks_step : (windows : List Window) (close : ℕ → Option ℕ) (calls : List Call) (i : ℕ) (call : Call) → slice_get calls i ≡ Some call
+    → locks_from windows close 0 (take (i + 1) calls) ≡ locks_from windows close 0 (take i calls) ++ cons_option (locked_by windows close i call.what) []
+locks_step windows close calls i call there =
+    let within : i < length calls = slice_get_within calls i call there in
+    let short : length (take i calls) ≡ i = length-take-le i calls (omega arith) in
+    let long : 0 + length (take i calls) ≡ i = omega (arith, short) in
+    ap (locks_from windows close 0) (taken_there calls i call there)
+    ∙ locks_push windows close 0 (take i calls) call
+    ∙ ap (λ k. locks_from windows close 0 (take i calls) ++ cons_option (locked_by windows close k call.what) []) long
+
+-- ---- the table
+
+-- the table of these
+abbrev made : (ℕ → Option ℕ) → List (Option Opening) → ℕ → List LockEpoch → Epochs
+made close openings sound locks = record { sound = sound; epochs = map (option_map (epoch_with close)) openings; locks = locks }
+
+-- a table of what is kept is that of the calls
+pub table_is : (windows : List Window) (calls : List Call) (live : LiveEpochs) (locks : List LockEpoch) → Represents calls live → locks ≡ locks_from windows (close_in live.placements) 0 calls
+    → made (close_in live.placements) live.placements.openings.items live.taken locks ≡ table_of windows calls
+table_is windows calls live locks are from =
+    ap (made (close_in live.placements) live.placements.openings.items live.taken) from
+    ∙ ap (λ close. made close live.placements.openings.items live.taken (locks_from windows close 0 calls)) (fun_ext are.closes_are)
+    ∙ ap (λ openings. made (close_of calls) openings live.taken (locks_of windows calls)) are.openings_are
+    ∙ ap (λ sound. made (close_of calls) (openings_from [] calls) sound (locks_of windows calls)) are.taken_are

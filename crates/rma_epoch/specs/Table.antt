@@ -1,0 +1,150 @@
+-- The epochs in which the accesses of a rank stand, and its lock epochs (MPI 4.0, "One-Sided Communications").
+use Rattle.std.specs.Prelude.{ℕ, ◌+◌, ◌==◌, List, [], ◌∷◌, ◌++◌, length, map, Bool, true, false, Option, Some, None, option_map, unwrap_or, is_none, slice_get, if◌then◌else◌}
+use Rattle.std.specs.List.{cons_option}
+use Rattle.std.specs.Option.{option_and_then, option_map_or, option_or}
+use Rattle.rma_base.specs.RankSet.{has_number}
+use Rattle.rma_base.specs.declared.epoch_reason.EpochReason.{EpochReason}
+use Rattle.rma_base.specs.declared.rank.Rank.{Rank}
+use Rattle.rma_call.specs.Call.{Call, RankCalls}
+use Rattle.rma_call.specs.declared.what.What.{What}
+use Rattle.rma_call.specs.declared.what.What.TheVariants.{Sync, Rma}
+use Rattle.rma_call.specs.declared.what.SyncCall.TheVariants as sync
+use Rattle.rma_call.specs.declared.epoch.EpochCall.TheVariants as epoch
+use Rattle.rma_window.specs.Windows.{Window, number_of}
+use Rattle.rma_epoch.specs.declared.opening.Opening.{Opening}
+use Rattle.rma_epoch.specs.declared.table.EpochKind.TheVariants.{Fence, Start, Lock, LockAll}
+use Rattle.rma_epoch.specs.declared.table.Epoch.{Epoch}
+use Rattle.rma_epoch.specs.declared.table.LockEpoch.{LockEpoch}
+use Rattle.rma_epoch.specs.Calls.{window_on}
+use Rattle.rma_epoch.specs.Open.{Open, open_on, is_exclusive}
+use Rattle.rma_epoch.specs.Reason.{reason_at}
+
+-- ---- the sound calls
+
+-- the calls up to the first that has a reason, after the calls before
+abbrev pub sound_from : List Window → List Call → List Call → List Call
+sound_from windows before [] = []
+sound_from windows before (call ∷ calls) = if is_none (reason_at windows before call) then call ∷ sound_from windows (before ++ call ∷ []) calls else []
+
+-- the sound calls of a rank: those before its first call that stands in no epoch that allows it, or all of them
+abbrev pub sound_calls : List Window → RankCalls → List Call
+sound_calls windows own = sound_from windows [] own.calls
+
+-- the calls that are taken once a call has come, which is taken unless it has a reason
+abbrev pub taken_with : Option EpochReason → Call → List Call → List Call
+taken_with reason call calls = if is_none reason then calls ++ call ∷ [] else calls
+
+-- ---- the epoch that reaches a target
+
+-- the lock of the target
+abbrev pub by_lock : Open → Rank → Option Opening
+by_lock own target = option_map (λ lock. record { kind = Lock lock.exclusive; opener = lock.opener }) (own.lock_on target.0)
+
+-- the lockall
+abbrev pub by_lock_all : Open → Option Opening
+by_lock_all own = option_map (λ opener. record { kind = LockAll; opener = opener }) own.lock_all
+
+-- the start, where its group has the target
+abbrev pub by_start : Open → Rank → Option Opening
+by_start own target = option_and_then (λ start. if has_number target.0 start.targets then Some (record { kind = Start; opener = start.opener }) else None) own.start
+
+-- the phase
+abbrev pub by_phase : Open → Option Opening
+by_phase own = option_map (λ phase. record { kind = Fence; opener = phase.opener }) own.phase
+
+-- all that reach a target
+abbrev pub all_reaching : Open → Rank → List Opening
+all_reaching own target = cons_option (by_lock own target) (cons_option (by_lock_all own) (cons_option (by_start own target) (cons_option (by_phase own) [])))
+
+-- the first that reaches a target. A sound access has one alone, so the order in which they are asked tells nothing
+abbrev pub reaching : Open → Rank → Option Opening
+reaching own target = option_or (by_lock own target) (option_or (by_lock_all own) (option_or (by_start own target) (by_phase own)))
+
+-- the epoch in which a call stands, where it is an access to a target and this is open on its window
+abbrev pub opening_in : Open → What → Option Opening
+opening_in own (Rma call) = option_and_then (reaching own) call.target
+opening_in own _ = None
+
+-- the same after these calls of the rank
+abbrev pub opening_at : List Call → Call → Option Opening
+opening_at before call = option_and_then (λ window. opening_in (open_on before window) call.what) (window_on call.what)
+
+-- the same of each of some calls of a rank, after the calls before
+abbrev pub openings_from : List Call → List Call → List (Option Opening)
+openings_from before [] = []
+openings_from before (call ∷ calls) = opening_at before call ∷ openings_from (before ++ call ∷ []) calls
+
+-- ---- how an epoch is closed
+
+-- the call that opened what a call closes, where this is open on its window: a fence closes the phase, a complete the start,
+-- an unlock the lock of its target, and an unlockall the lockall
+abbrev pub closed_by : Open → What → Option ℕ
+closed_by own (Sync (sync.Epoch (epoch.Fence window assertions))) = option_map (λ phase. phase.opener) own.phase
+closed_by own (Sync (sync.Epoch (epoch.Complete window))) = option_map (λ start. start.opener) own.start
+closed_by own (Sync (sync.Epoch (epoch.Unlock window target))) = option_map (λ lock. lock.opener) (own.lock_on target.0)
+closed_by own (Sync (sync.Epoch (epoch.UnlockAll window))) = own.lock_all
+closed_by own _ = None
+
+-- the same after these calls of the rank
+abbrev pub closed_at : List Call → Call → Option ℕ
+closed_at before call = option_and_then (λ window. closed_by (open_on before window) call.what) (window_on call.what)
+
+-- whether it is the call of this number
+abbrev pub is_opener : ℕ → Option ℕ → Bool
+is_opener number opener = option_map_or (λ n. n == number) opener false
+
+-- the call that closes what the call of a number opened, among some calls of a rank after the calls before. There is one at
+-- most, since what is closed is open no more
+abbrev pub close_from : ℕ → List Call → List Call → Option ℕ
+close_from opener before [] = None
+close_from opener before (call ∷ calls) =
+    option_or (close_from opener (before ++ call ∷ []) calls) (if is_opener opener (closed_at before call) then Some (length before) else None)
+
+-- the call that closes what the call of a number opened, where these calls have it
+abbrev pub close_of : List Call → ℕ → Option ℕ
+close_of calls opener = close_from opener [] calls
+
+-- ---- the table
+
+-- an epoch with the call that closes it
+abbrev pub epoch_with : (ℕ → Option ℕ) → Opening → Epoch
+epoch_with close opening = record { kind = opening.kind; opener = opening.opener; close = close opening.opener }
+
+-- for each of a rank's calls the epoch in which it stands, where it is an access to a target
+abbrev pub epochs_of : List Call → List (Option Epoch)
+epochs_of calls = map (option_map (epoch_with (close_of calls))) (openings_from [] calls)
+
+-- what stands at a number of a list, None where there is nothing
+abbrev pub at_number : List (Option Epoch) → ℕ → Option Epoch
+at_number epochs number = unwrap_or (slice_get epochs number) None
+
+-- the epoch in which the call of a number stands, where it is an access to a target
+abbrev pub epoch_of : List Call → ℕ → Option Epoch
+epoch_of calls number = at_number (epochs_of calls) number
+
+-- the lock epoch that the call of a number opens, where it opens one on a window of the run
+abbrev pub locked_by : List Window → (ℕ → Option ℕ) → ℕ → What → Option LockEpoch
+locked_by windows close number (Sync (sync.Epoch (epoch.Lock window target kind assertions))) =
+    option_map (λ id. record { window = id; target = Some target; exclusive = is_exclusive kind; opener = number; close = close number }) (number_of windows window)
+locked_by windows close number (Sync (sync.Epoch (epoch.LockAll window assertions))) =
+    option_map (λ id. record { window = id; target = None; exclusive = false; opener = number; close = close number }) (number_of windows window)
+locked_by windows close number _ = None
+
+-- the lock epochs that some calls open, in the order of their opening; the first of the calls has this number
+abbrev pub locks_from : List Window → (ℕ → Option ℕ) → ℕ → List Call → List LockEpoch
+locks_from windows close number [] = []
+locks_from windows close number (call ∷ calls) = cons_option (locked_by windows close number call.what) (locks_from windows close (number + 1) calls)
+
+-- the lock epochs of these calls, in the order of their opening
+abbrev pub locks_of : List Window → List Call → List LockEpoch
+locks_of windows calls = locks_from windows (close_of calls) 0 calls
+
+-- the epochs of a rank: how many calls are sound, the epoch in which each of them stands, and the lock epochs
+pub record Epochs : Type 0 where
+  pub sound : ℕ
+  pub epochs : List (Option Epoch)
+  pub locks : List LockEpoch
+
+-- the epochs of these calls
+abbrev pub table_of : List Window → List Call → Epochs
+table_of windows calls = record { sound = length calls; epochs = epochs_of calls; locks = locks_of windows calls }

@@ -1,0 +1,73 @@
+//! The epochs in which calls stand, as they are kept.
+ghost use Rattle.std.specs.Prelude.{◌≡◌, ◌++◌, ◌∷◌, [], ℕ, OnOk, Some, None, if◌then◌else◌};
+ghost use Rattle.rma_epoch.specs.Table.{at_number, epoch_with, is_opener};
+ghost use Rattle.rma_epoch.specs.inside.Placements.{close_in, epochs_in};
+
+use crate::opening::Opening;
+use crate::step::Step;
+use crate::table::Epoch;
+use indexmap::IndexMap;
+use rma_base::Memory;
+use std::alloc::Global;
+
+/// The epochs in which calls stand.
+#[derive(Debug, Drop)]
+pub struct Placements {
+    /// For each call the epoch in which it stands, where it is an access to a target.
+    openings: Vec<Option<Opening>>,
+    /// The number of the call that closes an epoch, by the number of the one that opened it.
+    closes: IndexMap<u32, u32>,
+}
+
+impl Placements {
+    /// No calls.
+    pub(crate) fn new(alloc: Global) -> Placements
+        ensures openings { result.openings.items ≡ [] }
+        ensures closes { (opener : ℕ) → close_in result opener ≡ None }
+    {
+        Placements {
+            openings: Vec::new(alloc),
+            closes: IndexMap::new(alloc),
+        }
+    }
+
+    /// Adds the call of this number, which is the next one.
+    pub(crate) fn add(&mut self, number: u32, step: Step) -> Result<(), Memory>
+        ensures openings { OnOk result (self.new.openings.items ≡ self.old.openings.items ++ step.opening ∷ []) }
+        ensures closes { OnOk result ((opener : ℕ) → close_in self.new opener ≡ (if is_opener opener step.closes then Some number else close_in self.old opener)) }
+    {
+        self.openings.push(step.opening)?;
+        if let Some(opener) = step.closes {
+            self.closes.insert(opener, number)?;
+        }
+        Ok(())
+    }
+
+    /// The epoch in which the call of this number stands, where it is an access to a target.
+    pub(crate) fn epoch_of(&self, call: u32) -> Option<Epoch>
+        ensures { result ≡ at_number (epochs_in self.now) call }
+    {
+        match self.openings.get(call as usize) {
+            Some(Some(opening)) => Some(self.epoch(*opening)),
+            _ => None,
+        }
+    }
+
+    /// The epoch with the call that closes it.
+    fn epoch(&self, opening: Opening) -> Epoch
+        ensures { result ≡ epoch_with (close_in self.now) opening }
+    {
+        Epoch {
+            kind: opening.kind,
+            opener: opening.opener,
+            close: self.close_of(opening.opener),
+        }
+    }
+
+    /// The number of the call that closes what the call of this number opened.
+    pub(crate) fn close_of(&self, opener: u32) -> Option<u32>
+        ensures { result ≡ close_in self.now opener }
+    {
+        self.closes.get(&opener).copied()
+    }
+}
