@@ -51,7 +51,7 @@ fence_more : (b : Bool) (n : ℕ) → option_and_then (phase_of None) (cond b No
 fence_more true n = refl
 fence_more false n = refl
 
-phase_push : (n : ℕ) (what : What) (past : List (ℕ × What)) → phase_after ((n, what) ∷ past) ≡ next_phase n what (phase_after past)
+pub phase_push : (n : ℕ) (what : What) (past : List (ℕ × What)) → phase_after ((n, what) ∷ past) ≡ next_phase n what (phase_after past)
 phase_push n (Rma call) past = use_more (left_by of_fence past) (first_use past)
 phase_push n (Local call) past = none_more (left_by of_fence past) (first_use past)
 phase_push n (Sync (Frame call)) past = none_more (left_by of_fence past) (first_use past)
@@ -111,7 +111,7 @@ locked_then t n (Sync (Epoch (FlushLocalAll window))) rest lock held = inr held
 locked_then t n (Sync (Epoch (epoch.Sync window))) rest lock held = inr held
 
 -- some call locks a target whose lock is held
-some_held : (p : ℕ × What → Bool) (t : ℕ) (lock : HeldLock) → ((call : ℕ × What) → locked_by call.1 ≡ Some t → p call ≡ true) → (past : List (ℕ × What)) → lock_of past t ≡ Some lock → list_any p past ≡ true
+pub some_held : (p : ℕ × What → Bool) (t : ℕ) (lock : HeldLock) → ((call : ℕ × What) → locked_by call.1 ≡ Some t → p call ≡ true) → (past : List (ℕ × What)) → lock_of past t ≡ Some lock → list_any p past ≡ true
 some_held p t lock holds [] held = absurd (none-some lock held)
 some_held p t lock holds (call ∷ past) held = by (locked_then t call.0 call.1 (lock_of past t) lock held) (some_held p t lock holds past)
   where
@@ -127,7 +127,7 @@ nothing_held past none call = by (locked_by call.1)
     by None = refl
     by (Some t) = rw (none t) refl
 
-held_by : (past : List (ℕ × What)) (t : ℕ) (lock : HeldLock) → lock_of past t ≡ Some lock → (call : ℕ × What) → locked_by call.1 ≡ Some t → is_held past call ≡ true
+pub held_by : (past : List (ℕ × What)) (t : ℕ) (lock : HeldLock) → lock_of past t ≡ Some lock → (call : ℕ × What) → locked_by call.1 ≡ Some t → is_held past call ≡ true
 held_by past t lock held call locks = rw (locks, held) refl
 
 -- locks that are kept under the targets that have one

@@ -1,11 +1,12 @@
 -- The epochs in which the accesses of a rank stand, and its lock epochs (MPI 4.0, "One-Sided Communications").
-use Rattle.std.specs.Prelude.{ℕ, ◌+◌, ◌==◌, List, [], ◌∷◌, ◌++◌, length, map, Bool, true, false, Option, Some, None, option_map, unwrap_or, is_none, slice_get, if◌then◌else◌}
+use Rattle.std.specs.Prelude.{◌≡◌, take, is_some, ℕ, ◌+◌, ◌==◌, List, [], ◌∷◌, ◌++◌, length, map, Bool, true, false, Option, Some, None, option_map, unwrap_or, is_none, slice_get, if◌then◌else◌}
 use Rattle.std.specs.List.{cons_option}
 use Rattle.std.specs.Option.{option_and_then, option_map_or, option_or}
 use Rattle.rma_base.specs.RankSet.{has_number}
 use Rattle.rma_base.specs.declared.epoch_reason.EpochReason.{EpochReason}
 use Rattle.rma_base.specs.declared.rank.Rank.{Rank}
 use Rattle.rma_call.specs.Call.{Call, RankCalls}
+use Rattle.rma_call.specs.declared.rma.RmaCall.{RmaCall}
 use Rattle.rma_call.specs.declared.what.What.{What}
 use Rattle.rma_call.specs.declared.what.What.TheVariants.{Sync, Rma}
 use Rattle.rma_call.specs.declared.what.SyncCall.TheVariants as sync
@@ -148,3 +149,23 @@ pub record Epochs : Type 0 where
 -- the epochs of these calls
 abbrev pub table_of : List Window → List Call → Epochs
 table_of windows calls = record { sound = length calls; epochs = epochs_of calls; locks = locks_of windows calls }
+
+-- ---- what is said of them
+
+-- whether a call is an access to a target
+abbrev pub has_target : What → Bool
+has_target (Rma call) = is_some call.target
+has_target _ = false
+
+-- of a sound access to a target, exactly one epoch reaches the target, and the access stands in that one
+abbrev pub OneReaches : List Window → RankCalls → Type 0
+OneReaches windows own =
+    (number : ℕ) (call : Call) (access : RmaCall) (target : Rank) → slice_get (sound_calls windows own) number ≡ Some call → call.what ≡ Rma access → access.target ≡ Some target
+    → (opening : Opening)
+    × (all_reaching (open_on (take number (sound_calls windows own)) access.window) target ≡ opening ∷ [])
+    × (epoch_of (sound_calls windows own) number ≡ Some (epoch_with (close_of (sound_calls windows own)) opening))
+
+-- a sound access to a target stands in an epoch, and no other call does
+abbrev pub AccessesHaveEpochs : List Window → RankCalls → Type 0
+AccessesHaveEpochs windows own =
+    (number : ℕ) → is_some (epoch_of (sound_calls windows own) number) ≡ option_map_or (λ call. has_target call.what) (slice_get (sound_calls windows own) number) false

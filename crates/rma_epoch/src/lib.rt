@@ -9,6 +9,7 @@
 
 mod call;
 mod fault;
+pub mod laws;
 mod live;
 mod locks;
 mod open_epochs;
