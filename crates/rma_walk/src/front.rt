@@ -36,8 +36,8 @@ impl Front {
         Ok(())
     }
 
-    /// Passes the next point of the rank, and the entry of its next call where that one follows: an entry waits for nothing
-    /// else.
+    /// Passes the next point of the rank and, where that is a return, the entry of the next call too: an entry waits for
+    /// nothing else.
     #[inline]
     pub(crate) fn advance(&mut self, run: &Run<'_>, rank: u32) -> Result<(), Memory>
         requires run { IsRun run.now.lens.now run.now.links.now }

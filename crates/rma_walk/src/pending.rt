@@ -2,7 +2,7 @@
 ghost use Rattle.std.specs.Prelude.{◌≡◌, ◌<◌, ◌*◌, ◌≤◌, ◌^◌, ℕ, [], length, slice_index, slice_index_or, replicate, map, All, Contains, IfOk, OnOk, IfSome, IfNone};
 ghost use Rattle.std.specs.List.{AllWithin};
 ghost use Rattle.rma_link.specs.declared.meet.Member.{Member};
-ghost use Rattle.rma_link.specs.Point.{entry, calls_of, IsReturn};
+ghost use Rattle.rma_link.specs.Point.{entry};
 ghost use Rattle.rma_link.specs.Within.{AreWithin};
 ghost use Rattle.rma_walk.specs.declared.source.Source.{Source};
 ghost use Rattle.rma_walk.specs.inside.Run.{IsRun, AreReadable, IsPassed, IsReady, IsBlocked};

@@ -123,7 +123,7 @@ impl Search {
         }
     }
 
-    /// The rank that is followed passes its next point, and the one that waited for it last is followed again.
+    /// The rank that is followed advances, and the one that waited for it last is followed again.
     #[inline]
     fn pass(&mut self, run: &Run<'_>, current: u32) -> Result<u32, Memory>
         requires run { IsRun run.now.lens.now run.now.links.now }

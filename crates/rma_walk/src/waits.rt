@@ -1,5 +1,5 @@
 //! What a call waits for, as an inbox keeps it.
-ghost use Rattle.std.specs.Prelude.{◌≡◌, ◌≤◌, ◌<◌, ℕ, [], ◌∷◌, length, IfOk, IfSome, IfNone};
+ghost use Rattle.std.specs.Prelude.{◌≡◌, ◌≤◌, [], ◌∷◌, length, IfOk, IfSome, IfNone};
 ghost use Rattle.rma_walk.specs.inside.Inbox.{AreEarlier, chain, reach, source_of};
 
 use crate::source::Source;
