@@ -10,7 +10,7 @@ use Rattle.std.proofs.lemmas.List.{map-append}
 use Rattle.std.proofs.lemmas.List.Quantifiers.{position-Some}
 use Rattle.std.proofs.lemmas.Map.Entries.{lookup_from_place}
 use Rattle.std.proofs.lemmas.Map.Views.{lookup-from_Contains}
-use Rattle.std.proofs.lemmas.Option.{slice_get-get_or}
+use Rattle.std.proofs.lemmas.Option.{slice_get-get_or, slice_get_within, none-some}
 use Rattle.indexmap.specs.IndexMap.{IndexMap, IsUnique, keys, values, get, insert_entry, with_value_at}
 use Rattle.indexmap.proofs.CallerLemmas.{insert_entry-new, updates-with_value_at}
 use Rattle.rma_call.specs.Call.{Call}
@@ -21,11 +21,11 @@ use Rattle.rma_run.proofs.ContainLemmas.{all_from_contains}
 use Rattle.rma_run.proofs.WalkLemmas.{taken_there, taken_length}
 use Rattle.rma_round.specs.declared.kind.Kind.{Kind}
 use Rattle.rma_round.specs.declared.kind_rounds.KindRounds.{KindRounds}
-use Rattle.rma_round.specs.Kind.{is_on}
+use Rattle.rma_round.specs.Kind.{named, is_on}
 use Rattle.rma_round.specs.Round.{numbers}
 use Rattle.rma_round.specs.inside.Rounds.{kept, numbers_in, AreOfKind}
-use Rattle.rma_round.specs.inside.Lists.{list_of, IsPlaceOf, ArePlaces, StayThere}
-use Rattle.rma_round.proofs.NumberLemmas.{numbers_push}
+use Rattle.rma_round.specs.inside.Lists.{list_of, HasNumbers, IsPlaceOf, ArePlaces, StayThere}
+use Rattle.rma_round.proofs.NumberLemmas.{numbers_push, call_at}
 
 pub some_at : {X : Type 0} (xs : List X) (i : ℕ) → i < length xs → (x : X) × (slice_get xs i ≡ Some x)
 some_at [] i lt = absurd (omega arith)
@@ -122,6 +122,30 @@ numbers_taken kind name calls i call there =
     ap (λ k. numbers kind name (take i calls) ++ cond (is_on kind name call) (k ∷ []) []) (sym (taken_length calls i call there))
     ∙ sym (numbers_push kind name (take i calls) call)
     ∙ ap (numbers kind name) (sym (taken_there calls i call there))
+
+pub no_entries : {X : Type 0} (xs : List X) → length xs ≡ 0 → xs ≡ []
+no_entries [] none = refl
+no_entries (x ∷ xs) none = absurd (omega (arith, none))
+
+no_element : {X : Type 0} (xs : List X) → ((i : ℕ) (x : X) → slice_get xs i ≡ Some x → ⊥) → [] ≡ xs
+no_element [] none = refl
+no_element (x ∷ xs) none = absurd (none 0 x refl)
+
+-- where no name has a place there are no numbers
+pub no_numbers : (kind : Kind) (names : List (List ℕ)) (whats : List What) (places : List (Option ℕ)) (calls : List Call) → names ≡ [] → length places ≡ length whats → HasNumbers whats calls → ArePlaces kind names whats places
+    → (name : List ℕ) → [] ≡ numbers kind name calls
+no_numbers kind names whats places calls empty long each are name =
+    no_element (numbers kind name calls)
+    (λ i number at.
+    let one = call_at kind name calls i number at in
+    let has = each number one.0 one.1 in
+    let below = slice_get_within whats has.0 one.0.what has.1 in
+    let place = some_at places has.0 (omega arith) in
+    by one.0.what place.0 one.2 (are has.0 one.0.what place.0 has.1 place.1))
+  where
+    by : (what : What) (place : Option ℕ) → named kind what ≡ Some name → IsPlaceOf kind names what place → ⊥
+    by what None is none = none-some name (sym none ∙ is)
+    by what (Some place) is (own, at, same) = none-some own (ap (λ l. slice_get l place) (sym empty) ∙ at)
 
 -- the calls of a rank are taken, but for those on the names that are left
 pub record ArePartlyTaken (kind : Kind) (now : ℕ → List Call) (rank : ℕ) (left : List (List ℕ × List ℕ)) (rounds : KindRounds) : Type 0 where

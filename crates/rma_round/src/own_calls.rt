@@ -7,7 +7,7 @@ ghost use Rattle.rma_call.specs.Call.{Call, what_of};
 ghost use Rattle.rma_round.specs.declared.kind.Kind.{Kind};
 ghost use Rattle.rma_round.specs.Kind.{is_on};
 ghost use Rattle.rma_round.specs.Round.{numbers};
-ghost use Rattle.rma_round.specs.inside.Lists.{list_of, IsPlaceOf, ArePlaces, StayThere};
+ghost use Rattle.rma_round.specs.inside.Lists.{list_of, HasNumbers, IsPlaceOf, ArePlaces, StayThere};
 
 use crate::kind::{Kind, named};
 use indexmap::IndexMap;
@@ -27,6 +27,9 @@ pub(crate) fn calls_by_name(
 {
     let mut lists = IndexMap::new(alloc);
     let places = places(alloc, kind, calls, &mut lists)?;
+    if lists.is_empty() {
+        return Ok(lists);
+    }
     fill(calls, places.as_slice(), &mut lists)?;
     Ok(lists)
 }
@@ -88,6 +91,7 @@ fn places(
     lists: &mut IndexMap<Name, Sequence<u32>>,
 ) -> Result<Vec<Option<usize>>, Memory>
     ensures len { IfOk result (λ places. length places.items ≡ length calls.now.whats) }
+    ensures each { OnOk result (HasNumbers calls.now.whats calls.now.calls) }
     ensures places { IfOk result (λ places. ArePlaces kind (keys_of lists.new.entries) calls.now.whats places.items) }
     ensures lists { OnOk result ((name : List ℕ) → list_of lists.new.entries name ≡ list_of lists.old.entries name) }
 {
@@ -101,7 +105,8 @@ fn places(
 
 /// How many numbers there are of what calls do.
 fn count(calls: &CallList) -> Result<u32, Memory>
-    ensures { IfOk result (λ count. count ≡ length calls.now.whats) }
+    ensures count { IfOk result (λ count. count ≡ length calls.now.whats) }
+    ensures each { OnOk result (HasNumbers calls.now.whats calls.now.calls) }
 {
     let count = calls.whats();
     if count <= u32::MAX as usize {

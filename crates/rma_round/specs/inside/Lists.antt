@@ -2,6 +2,7 @@
 use Rattle.std.specs.Prelude.{◌≡◌, ℕ, List, [], Option, Some, None, slice_get, nat_eq, unwrap_or}
 use Rattle.std.specs.Map.{lookup}
 use Rattle.std.specs.Cmp.Lexicographic.{pointwise}
+use Rattle.rma_call.specs.Call.{Call}
 use Rattle.rma_call.specs.declared.what.What.{What}
 use Rattle.rma_round.specs.declared.kind.Kind.{Kind}
 use Rattle.rma_round.specs.Kind.{named}
@@ -9,6 +10,10 @@ use Rattle.rma_round.specs.Kind.{named}
 -- the list under a name, empty where there is none
 abbrev pub list_of : List (List ℕ × List ℕ) → List ℕ → List ℕ
 list_of lists name = unwrap_or (lookup (pointwise nat_eq name) lists) []
+
+-- what each call does has a number
+abbrev pub HasNumbers : List What → List Call → Type 0
+HasNumbers whats calls = (i : ℕ) (call : Call) → slice_get calls i ≡ Some call → (number : ℕ) × (slice_get whats number ≡ Some call.what)
 
 -- a place is that of the name which calls are on that do this, and there is none where they are not of the kind
 abbrev pub IsPlaceOf : Kind → List (List ℕ) → What → Option ℕ → Type 0
