@@ -1,5 +1,5 @@
 -- One kind of epoch alone is open on a window after sound calls.
-use Rattle.std.proofs.Common.{◌≡◌, ℕ, zero, suc, Bool, true, false, cond, not, ◌||◌, ◌∷◌, ◌++◌, List, [], length, take, Option, Some, None, nat_eq, slice_get, ◌⊎◌, inl, inr, refl, sym, ap, subst, ◌∙◌, append_assoc}
+use Rattle.std.proofs.Common.{◌≡◌, ℕ, zero, suc, Bool, true, false, cond, ◌||◌, ◌∷◌, ◌++◌, List, [], length, take, Option, Some, None, nat_eq, slice_get, ◌⊎◌, inl, inr, refl, sym, ap, subst, ◌∙◌, append_assoc}
 use Rattle.std.proofs.lemmas.Bool.{true≢false, false≢true}
 use Rattle.std.proofs.lemmas.List.{append-nil}
 use Rattle.std.proofs.lemmas.Option.{none-some}
@@ -20,7 +20,7 @@ use Rattle.rma_epoch.specs.declared.opening.FencePhase.{FencePhase}
 use Rattle.rma_epoch.specs.declared.opening.HeldLock.{HeldLock}
 use Rattle.rma_epoch.specs.Calls.{is_on, past_on, window_on}
 use Rattle.rma_epoch.specs.Open.{Open, is_held, left_by, lock_of, of_lock, of_lock_all, of_start, open_after, open_on}
-use Rattle.rma_epoch.specs.Reason.{access_overlap, all_reasons, fence_in_epoch, holds, is_accessing, reason_at, reason_in}
+use Rattle.rma_epoch.specs.Reason.{all_reasons, fence_in_epoch, holds, is_accessing, reason_at, reason_in}
 use Rattle.rma_epoch.specs.Table.{sound_from}
 use Rattle.rma_epoch.specs.inside.Next.{kept_if_used, next_phase, with_use}
 use Rattle.rma_epoch.proofs.EventLemmas.{held_by, phase_push, some_held}

@@ -1,5 +1,5 @@
 -- The one epoch that reaches the target of a sound access.
-use Rattle.std.proofs.Common.{◌≡◌, ℕ, zero, suc, Bool, true, false, cond, not, ◌||◌, ◌∷◌, ◌++◌, List, [], map, take, Option, Some, None, slice_get, inl, inr, refl, sym, ap, subst, ◌∙◌, append_assoc}
+use Rattle.std.proofs.Common.{◌≡◌, ℕ, zero, suc, Bool, true, false, cond, not, ◌||◌, ◌∷◌, ◌++◌, List, [], take, Option, Some, None, slice_get, inl, inr, refl, sym, ap, subst, ◌∙◌, append_assoc}
 use Rattle.std.proofs.lemmas.Bool.{true≢false, false≢true}
 use Rattle.std.proofs.lemmas.List.{append-nil}
 use Rattle.std.proofs.lemmas.Option.{slice_get-map}
@@ -18,13 +18,12 @@ use Rattle.rma_epoch.specs.declared.opening.FencePhase.{FencePhase}
 use Rattle.rma_epoch.specs.declared.opening.HeldLock.{HeldLock}
 use Rattle.rma_epoch.specs.declared.opening.OpenStart.{OpenStart}
 use Rattle.rma_epoch.specs.declared.opening.Opening.{Opening}
-use Rattle.rma_epoch.specs.declared.table.Epoch.{Epoch}
 use Rattle.rma_epoch.specs.declared.table.EpochKind.TheVariants as kind
 use Rattle.rma_epoch.specs.Calls.{window_on}
 use Rattle.rma_epoch.specs.Open.{Open, open_on}
 use Rattle.rma_epoch.specs.Reason.{all_reasons, holds, reaches, reason_in}
-use Rattle.rma_epoch.specs.Table.{all_reaching, close_of, epoch_of, epoch_with, has_target, opening_at, opening_in, openings_from, by_lock, by_lock_all, by_phase, by_start, reaching, sound_calls, OneReaches, AccessesHaveEpochs}
-use Rattle.rma_epoch.proofs.ApartLemmas.{Apart, find_none, IsApart, is_apart}
+use Rattle.rma_epoch.specs.Table.{close_of, epoch_of, epoch_with, has_target, opening_at, opening_in, openings_from, by_lock, by_lock_all, by_phase, by_start, reaching, sound_calls, OneReaches, AccessesHaveEpochs}
+use Rattle.rma_epoch.proofs.ApartLemmas.{Apart, find_none, is_apart}
 
 -- ---- one reaches
 

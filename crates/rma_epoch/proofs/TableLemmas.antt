@@ -1,11 +1,11 @@
 -- The epochs of one more call.
-use Rattle.std.proofs.Common.{◌≡◌, ◌<◌, take, slice_get, ℕ, suc, ◌+◌, Bool, true, false, cond, ◌∷◌, ◌++◌, List, [], length, map, Option, Some, None, refl, sym, ap, ◌∙◌, arith, append_assoc, length-append}
+use Rattle.std.proofs.Common.{◌≡◌, ℕ, suc, ◌+◌, Bool, true, false, cond, ◌∷◌, ◌++◌, List, [], length, map, Option, Some, None, refl, sym, ap, ◌∙◌, arith, append_assoc}
 use Rattle.std.proofs.Math.Path.{fun_ext}
 use Rattle.std.specs.Prelude.{option_map, is_some}
 use Rattle.std.specs.List.{cons_option}
 use Rattle.std.specs.Option.{option_and_then, option_map_or, option_or}
 use Rattle.std.proofs.lemmas.Bool.{true≢false}
-use Rattle.std.proofs.lemmas.List.{append-nil, length-take-le}
+use Rattle.std.proofs.lemmas.List.{append-nil}
 use Rattle.rma_call.specs.Call.{Call}
 use Rattle.rma_window.specs.Windows.{Window}
 use Rattle.rma_epoch.specs.declared.live.LiveEpochs.{LiveEpochs}
@@ -13,12 +13,10 @@ use Rattle.rma_epoch.specs.declared.opening.Opening.{Opening}
 use Rattle.rma_epoch.specs.declared.table.LockEpoch.{LockEpoch}
 use Rattle.rma_epoch.specs.Calls.{window_on}
 use Rattle.rma_epoch.specs.Open.{Open, open_on}
-use Rattle.rma_epoch.specs.Table.{opening_in, opening_at, openings_from, closed_by, closed_at, is_opener, close_from, close_of, epoch_with, Epochs, locked_by, locks_from, locks_of, table_of}
-use Rattle.rma_epoch.specs.inside.Placements.{close_in, epochs_in}
-use Rattle.rma_epoch.specs.inside.Live.{Represents}
+use Rattle.rma_epoch.specs.Table.{opening_in, opening_at, openings_from, closed_by, closed_at, is_opener, close_from, close_of, epoch_with, Epochs, lock_opened, lock_with, locks_opened, locks_of, table_of}
+use Rattle.rma_epoch.specs.inside.Placements.{close_in}
+use Rattle.rma_epoch.specs.inside.Live.{HasLocks, Represents}
 use Rattle.rma_epoch.specs.inside.Step.{no_step, step_at, step_in}
-use Rattle.rma_epoch.proofs.LiveLemmas.{taken_there}
-use Rattle.std.proofs.lemmas.Option.{slice_get_within}
 
 openings_more : (before calls : List Call) (call : Call) → openings_from before (calls ++ call ∷ []) ≡ openings_from before calls ++ opening_at (before ++ calls) call ∷ []
 openings_more before [] call = ap (λ b. opening_at b call ∷ []) (sym (append-nil before))
@@ -80,26 +78,21 @@ cons_append None xs ys = refl
 cons_append (Some x) xs ys = refl
 
 -- the lock epoch that one more call opens
-pub locks_push : (windows : List Window) (close : ℕ → Option ℕ) (n : ℕ) (calls : List Call) (call : Call)
-    → locks_from windows close n (calls ++ call ∷ []) ≡ locks_from windows close n calls ++ cons_option (locked_by windows close (n + length calls) call.what) []
-locks_push windows close n [] call = ap (λ k. cons_option (locked_by windows close k call.what) []) (let e : n ≡ n + 0 = omega arith in e)
-locks_push windows close n (x ∷ xs) call =
-    let last = λ (k : ℕ). cons_option (locked_by windows close k call.what) [] in
-    let first = locked_by windows close n x.what in
-    ap (cons_option first) (locks_push windows close (n + 1) xs call)
-    ∙ cons_append first (locks_from windows close (n + 1) xs) (last (n + 1 + length xs))
-    ∙ ap (λ k. cons_option first (locks_from windows close (n + 1) xs) ++ last k) (let e : n + 1 + length xs ≡ n + suc (length xs) = omega arith in e)
+locks_more : (windows : List Window) (n : ℕ) (calls : List Call) (call : Call)
+    → locks_opened windows n (calls ++ call ∷ []) ≡ locks_opened windows n calls ++ cons_option (lock_opened windows (n + length calls) call.what) []
+locks_more windows n [] call = ap (λ k. cons_option (lock_opened windows k call.what) []) (let e : n ≡ n + 0 = omega arith in e)
+locks_more windows n (x ∷ xs) call =
+    let last = λ (k : ℕ). cons_option (lock_opened windows k call.what) [] in
+    let first = lock_opened windows n x.what in
+    ap (cons_option first) (locks_more windows (n + 1) xs call)
+    ∙ cons_append first (locks_opened windows (n + 1) xs) (last (n + 1 + length xs))
+    ∙ ap (λ k. cons_option first (locks_opened windows (n + 1) xs) ++ last k) (let e : n + 1 + length xs ≡ n + suc (length xs) = omega arith in e)
 
--- the same at a call of a list
-pub locks_step : (windows : List Window) (close : ℕ → Option ℕ) (calls : List Call) (i : ℕ) (call : Call) → slice_get calls i ≡ Some call
-    → locks_from windows close 0 (take (i + 1) calls) ≡ locks_from windows close 0 (take i calls) ++ cons_option (locked_by windows close i call.what) []
-locks_step windows close calls i call there =
-    let within : i < length calls = slice_get_within calls i call there in
-    let short : length (take i calls) ≡ i = length-take-le i calls (omega arith) in
-    let long : 0 + length (take i calls) ≡ i = omega (arith, short) in
-    ap (locks_from windows close 0) (taken_there calls i call there)
-    ∙ locks_push windows close 0 (take i calls) call
-    ∙ ap (λ k. locks_from windows close 0 (take i calls) ++ cons_option (locked_by windows close k call.what) []) long
+-- the same behind the first call
+pub locks_push : (windows : List Window) (calls : List Call) (call : Call) → locks_opened windows 0 (calls ++ call ∷ []) ≡ locks_opened windows 0 calls ++ cons_option (lock_opened windows (length calls) call.what) []
+locks_push windows calls call =
+    locks_more windows 0 calls call
+    ∙ ap (λ k. locks_opened windows 0 calls ++ cons_option (lock_opened windows k call.what) []) (let e : 0 + length calls ≡ length calls = omega arith in e)
 
 -- ---- the table
 
@@ -108,10 +101,10 @@ abbrev made : (ℕ → Option ℕ) → List (Option Opening) → ℕ → List Lo
 made close openings sound locks = record { sound = sound; epochs = map (option_map (epoch_with close)) openings; locks = locks }
 
 -- a table of what is kept is that of the calls
-pub table_is : (windows : List Window) (calls : List Call) (live : LiveEpochs) (locks : List LockEpoch) → Represents calls live → locks ≡ locks_from windows (close_in live.placements) 0 calls
+pub table_is : (windows : List Window) (calls : List Call) (live : LiveEpochs) (locks : List LockEpoch) → Represents calls live → HasLocks windows calls live → locks ≡ map (lock_with (close_in live.placements)) live.locks.items
     → made (close_in live.placements) live.placements.openings.items live.taken locks ≡ table_of windows calls
-table_is windows calls live locks are from =
-    ap (made (close_in live.placements) live.placements.openings.items live.taken) from
-    ∙ ap (λ close. made close live.placements.openings.items live.taken (locks_from windows close 0 calls)) (fun_ext are.closes_are)
+table_is windows calls live locks are has closed =
+    ap (made (close_in live.placements) live.placements.openings.items live.taken) (closed ∙ ap (map (lock_with (close_in live.placements))) has.locks_are)
+    ∙ ap (λ close. made close live.placements.openings.items live.taken (map (lock_with close) (locks_opened windows 0 calls))) (fun_ext are.closes_are)
     ∙ ap (λ openings. made (close_of calls) openings live.taken (locks_of windows calls)) are.openings_are
     ∙ ap (λ sound. made (close_of calls) (openings_from [] calls) sound (locks_of windows calls)) are.taken_are

@@ -1,5 +1,5 @@
 -- The epochs in which the accesses of a rank stand, and its lock epochs (MPI 4.0, "One-Sided Communications").
-use Rattle.std.specs.Prelude.{◌≡◌, take, is_some, ℕ, ◌+◌, ◌==◌, List, [], ◌∷◌, ◌++◌, length, map, Bool, true, false, Option, Some, None, option_map, unwrap_or, is_none, slice_get, if◌then◌else◌}
+use Rattle.std.specs.Prelude.{◌≡◌, take, is_some, ℕ, ◌+◌, ◌==◌, List, [], ◌∷◌, ◌++◌, length, map, Bool, false, Option, Some, None, option_map, unwrap_or, is_none, slice_get, if◌then◌else◌}
 use Rattle.std.specs.List.{cons_option}
 use Rattle.std.specs.Option.{option_and_then, option_map_or, option_or}
 use Rattle.rma_base.specs.RankSet.{has_number}
@@ -123,22 +123,26 @@ at_number epochs number = unwrap_or (slice_get epochs number) None
 abbrev pub epoch_of : List Call → ℕ → Option Epoch
 epoch_of calls number = at_number (epochs_of calls) number
 
--- the lock epoch that the call of a number opens, where it opens one on a window of the run
-abbrev pub locked_by : List Window → (ℕ → Option ℕ) → ℕ → What → Option LockEpoch
-locked_by windows close number (Sync (sync.Epoch (epoch.Lock window target kind assertions))) =
-    option_map (λ id. record { window = id; target = Some target; exclusive = is_exclusive kind; opener = number; close = close number }) (number_of windows window)
-locked_by windows close number (Sync (sync.Epoch (epoch.LockAll window assertions))) =
-    option_map (λ id. record { window = id; target = None; exclusive = false; opener = number; close = close number }) (number_of windows window)
-locked_by windows close number _ = None
+-- the lock epoch that the call of a number opens, where it opens one on a window of the run. No call has closed it yet
+abbrev pub lock_opened : List Window → ℕ → What → Option LockEpoch
+lock_opened windows number (Sync (sync.Epoch (epoch.Lock window target kind assertions))) =
+    option_map (λ id. record { window = id; target = Some target; exclusive = is_exclusive kind; opener = number; close = None }) (number_of windows window)
+lock_opened windows number (Sync (sync.Epoch (epoch.LockAll window assertions))) =
+    option_map (λ id. record { window = id; target = None; exclusive = false; opener = number; close = None }) (number_of windows window)
+lock_opened windows number _ = None
 
--- the lock epochs that some calls open, in the order of their opening; the first of the calls has this number
-abbrev pub locks_from : List Window → (ℕ → Option ℕ) → ℕ → List Call → List LockEpoch
-locks_from windows close number [] = []
-locks_from windows close number (call ∷ calls) = cons_option (locked_by windows close number call.what) (locks_from windows close (number + 1) calls)
+-- those that some calls open, in the order of their opening; the first of the calls has this number
+abbrev pub locks_opened : List Window → ℕ → List Call → List LockEpoch
+locks_opened windows number [] = []
+locks_opened windows number (call ∷ calls) = cons_option (lock_opened windows number call.what) (locks_opened windows (number + 1) calls)
+
+-- a lock epoch with the call that closes it
+abbrev pub lock_with : (ℕ → Option ℕ) → LockEpoch → LockEpoch
+lock_with close lock = record lock { close = close lock.opener }
 
 -- the lock epochs of these calls, in the order of their opening
 abbrev pub locks_of : List Window → List Call → List LockEpoch
-locks_of windows calls = locks_from windows (close_of calls) 0 calls
+locks_of windows calls = map (lock_with (close_of calls)) (locks_opened windows 0 calls)
 
 -- the epochs of a rank: how many calls are sound, the epoch in which each of them stands, and the lock epochs
 pub record Epochs : Type 0 where

@@ -1,27 +1,29 @@
 //! The epochs of a rank, as its calls come.
-ghost use Rattle.std.specs.Prelude.{◌≡◌, ◌≤◌, [], ℕ, List, Some, true, false, length, nat_eq, slice_get, take, IfOk, OnOk};
+ghost use Rattle.std.specs.Prelude.{◌≡◌, [], ℕ, List, Some, true, false, length, nat_eq, slice_get, IfOk, OnOk};
 ghost use Rattle.std.specs.Map.{lookup};
 ghost use Rattle.std.specs.List.{list_any};
 ghost use Rattle.std.specs.Cmp.Lexicographic.{pointwise};
 ghost use Rattle.rma_call.specs.Call.{Call, call_of};
 ghost use Rattle.rma_call.specs.declared.what.What.{What};
+ghost use Rattle.rma_window.specs.Windows.{Window};
 ghost use Rattle.rma_epoch.specs.Open.{open_after, open_on};
 ghost use Rattle.rma_epoch.specs.Reason.{reason_at};
-ghost use Rattle.rma_epoch.specs.Table.{close_of, epoch_of, table_of, taken_with};
+ghost use Rattle.rma_epoch.specs.Table.{close_of, epoch_of, locks_of, table_of, taken_with};
 ghost use Rattle.rma_epoch.specs.Fault.{is_unclosed, leaves_open};
 ghost use Rattle.rma_epoch.specs.declared.open_epochs.OpenEpochs.{OpenEpochs};
 ghost use Rattle.rma_epoch.specs.inside.Held.{open_of};
-ghost use Rattle.rma_epoch.specs.inside.Live.{kept, Represents};
+ghost use Rattle.rma_epoch.specs.inside.Live.{HasLocks, kept, Represents};
 ghost use Rattle.rma_epoch.specs.inside.Step.{past_with, step_at, step_in};
 
 use crate::call::window_on;
+use crate::locks::add_lock;
 use crate::open_epochs::OpenEpochs;
 use crate::placements::Placements;
 use crate::step::Step;
-use crate::table::{Epoch, EpochTable};
+use crate::table::{Epoch, EpochTable, LockEpoch};
 use indexmap::IndexMap;
 use rma_base::{EpochReason, Memory, Name};
-use rma_call::{CallList, CallRef};
+use rma_call::CallRef;
 use rma_window::Windows;
 use std::alloc::Global;
 
@@ -36,18 +38,22 @@ pub struct LiveEpochs {
     taken: u32,
     /// The epochs in which they stand.
     placements: Placements,
+    /// The lock epochs that they open, in the order of their opening, without the calls that close them.
+    locks: Vec<LockEpoch>,
 }
 
 impl LiveEpochs {
     /// No calls.
     pub fn new(alloc: Global) -> LiveEpochs
-        ensures { Represents [] result }
+        ensures nothing { Represents [] result }
+        ensures no_locks { (windows : List Window) → HasLocks windows [] result }
     {
         LiveEpochs {
             alloc,
             windows: IndexMap::new(alloc),
             taken: 0,
             placements: Placements::new(alloc),
+            locks: Vec::new(alloc),
         }
     }
 
@@ -64,6 +70,7 @@ impl LiveEpochs {
     ) -> Result<Option<EpochReason>, Memory>
         ensures reason { IfOk result (λ reason. (calls : List Call) → Represents calls self.old → reason ≡ reason_at windows.now calls (call_of call.entry)) }
         ensures taken { IfOk result (λ reason. (calls : List Call) → Represents calls self.old → Represents (taken_with reason (call_of call.entry) calls) self.new) }
+        ensures locks { IfOk result (λ reason. (calls : List Call) → Represents calls self.old → HasLocks windows.now calls self.old → HasLocks windows.now (taken_with reason (call_of call.entry) calls) self.new) }
     {
         let Some(next) = self.taken.checked_add(1) else {
             return Err(Memory);
@@ -72,6 +79,7 @@ impl LiveEpochs {
         if step.reason.is_some() {
             return Ok(step.reason);
         }
+        add_lock(&mut self.locks, windows, self.taken, call.what)?;
         self.placements.add(self.taken, step)?;
         self.taken = next;
         Ok(None)
@@ -98,18 +106,21 @@ impl LiveEpochs {
         self.placements.close_of(opener)
     }
 
-    /// The table of the calls that are taken, which are the first of these.
-    pub(crate) fn into_table(
-        self,
-        windows: &Windows,
-        calls: &CallList,
-    ) -> Result<EpochTable, Memory>
-        requires { self.taken ≤ length calls.now.calls }
-        ensures { IfOk result (λ table. Represents (take self.taken calls.now.calls) self → table ≡ table_of windows.now (take self.taken calls.now.calls)) }
+    /// The lock epoch at an index of those of the calls taken, in the order of their opening; none behind the last.
+    pub fn lock(&self, index: usize) -> Option<LockEpoch>
+        ensures { (windows : List Window) (calls : List Call) → Represents calls self.now → HasLocks windows calls self.now → result ≡ slice_get (locks_of windows calls) index }
     {
-        let locks = self
-            .placements
-            .locks(self.alloc, windows, calls, self.taken)?;
+        match self.locks.get(index) {
+            Some(lock) => Some(self.placements.lock(*lock)),
+            None => None,
+        }
+    }
+
+    /// The table of the calls taken.
+    pub(crate) fn into_table(self) -> Result<EpochTable, Memory>
+        ensures { IfOk result (λ table. (windows : List Window) (calls : List Call) → Represents calls self → HasLocks windows calls self → table ≡ table_of windows calls) }
+    {
+        let locks = self.placements.locks(self.alloc, &self.locks)?;
         Ok(EpochTable::new(self.taken, self.placements, locks))
     }
 

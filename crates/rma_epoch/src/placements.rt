@@ -1,11 +1,11 @@
 //! The epochs in which calls stand, as they are kept.
-ghost use Rattle.std.specs.Prelude.{◌≡◌, ◌++◌, ◌∷◌, [], ℕ, OnOk, Some, None, if◌then◌else◌};
-ghost use Rattle.rma_epoch.specs.Table.{at_number, epoch_with, is_opener};
+ghost use Rattle.std.specs.Prelude.{◌≡◌, ◌++◌, ◌∷◌, [], ℕ, map, IfOk, OnOk, Some, None, if◌then◌else◌};
+ghost use Rattle.rma_epoch.specs.Table.{at_number, epoch_with, is_opener, lock_with};
 ghost use Rattle.rma_epoch.specs.inside.Placements.{close_in, epochs_in};
 
 use crate::opening::Opening;
 use crate::step::Step;
-use crate::table::Epoch;
+use crate::table::{Epoch, LockEpoch};
 use indexmap::IndexMap;
 use rma_base::Memory;
 use std::alloc::Global;
@@ -62,6 +62,31 @@ impl Placements {
             opener: opening.opener,
             close: self.close_of(opening.opener),
         }
+    }
+
+    /// The lock epoch with the call that closes it.
+    pub(crate) fn lock(&self, lock: LockEpoch) -> LockEpoch
+        ensures { result ≡ lock_with (close_in self.now) lock }
+    {
+        LockEpoch {
+            close: self.close_of(lock.opener),
+            ..lock
+        }
+    }
+
+    /// The lock epochs with the calls that close them.
+    pub(crate) fn locks(
+        &self,
+        alloc: Global,
+        opened: &[LockEpoch],
+    ) -> Result<Vec<LockEpoch>, Memory>
+        ensures { IfOk result (λ locks. locks.items ≡ map (lock_with (close_in self.now)) opened.now) }
+    {
+        let mut locks = Vec::new(alloc);
+        for lock in opened {
+            locks.push(self.lock(*lock))?;
+        }
+        Ok(locks)
     }
 
     /// The number of the call that closes what the call of this number opened.

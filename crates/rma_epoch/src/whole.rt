@@ -1,8 +1,8 @@
 //! The epochs of a whole log, and its first epoch fault.
-ghost use Rattle.std.specs.Prelude.{◌≡◌, ◌≤◌, [], length, take, IfOk, OnOk};
+ghost use Rattle.std.specs.Prelude.{◌≡◌, [], IfOk, OnOk};
 ghost use Rattle.rma_epoch.specs.Fault.{fault_of};
 ghost use Rattle.rma_epoch.specs.Table.{sound_calls, table_of};
-ghost use Rattle.rma_epoch.specs.inside.Live.{Represents};
+ghost use Rattle.rma_epoch.specs.inside.Live.{HasLocks, Represents};
 
 use crate::fault::EpochFault;
 use crate::live::LiveEpochs;
@@ -28,7 +28,7 @@ pub fn place_calls(
 {
     let mut live = LiveEpochs::new(alloc);
     let fault = take_sound(&mut live, own, windows)?;
-    let table = live.into_table(windows, own.calls())?;
+    let table = live.into_table()?;
     Ok(EpochOutcome { table, fault })
 }
 
@@ -54,11 +54,11 @@ fn take_sound(
     own: &RankCalls,
     windows: &Windows,
 ) -> Result<Option<EpochFault>, Memory>
-    requires { Represents [] live.old }
+    requires nothing { Represents [] live.old }
+    requires no_locks { HasLocks windows.now [] live.old }
     ensures fault { IfOk result (λ fault. fault ≡ fault_of windows.now own.now) }
     ensures taken { OnOk result (Represents (sound_calls windows.now own.now) live.new) }
-    ensures within { OnOk result (live.new.taken ≤ length own.now.calls) }
-    ensures first { OnOk result (take live.new.taken own.now.calls ≡ sound_calls windows.now own.now) }
+    ensures locks { OnOk result (HasLocks windows.now (sound_calls windows.now own.now) live.new) }
 {
     let calls = own.calls();
     for i in 0..calls.len() {

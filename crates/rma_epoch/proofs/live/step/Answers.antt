@@ -1,8 +1,6 @@
-use Rattle.std.proofs.Common.{◌≡◌, ℕ, List, Some, None, nat_eq, subst, sym, ap, ◌∙◌}
+use Rattle.std.proofs.Common.{◌≡◌, Some, None, sym, ap, ◌∙◌}
 use Rattle.std.specs.Prelude.{option_copied}
-use Rattle.std.specs.Cmp.Lexicographic.{pointwise}
 use Rattle.rma_call.specs.Call.{call_of}
-use Rattle.rma_call.specs.declared.what.What.{What}
 use Rattle.rma_epoch.specs.Calls.{window_on}
 use Rattle.rma_epoch.specs.Open.{open_after, open_on}
 use Rattle.rma_epoch.specs.Table.{taken_with}

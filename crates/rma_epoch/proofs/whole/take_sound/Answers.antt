@@ -1,13 +1,12 @@
-use Rattle.std.proofs.Common.{◌≡◌, ◌+◌, Some, None, slice_get, length, take, drop, sym, ap, subst, ◌∙◌, arith}
+use Rattle.std.proofs.Common.{◌≡◌, ◌+◌, Some, None, slice_get, take, drop, sym, ap, subst, ◌∙◌}
 use Rattle.std.specs.Prelude.{option_map}
 use Rattle.std.specs.Option.{option_or}
-use Rattle.std.proofs.lemmas.List.{length-take-le}
 use Rattle.rma_base.specs.declared.epoch_reason.EpochReason.{EpochReason}
 use Rattle.rma_call.specs.Call.{call_of}
 use Rattle.rma_epoch.specs.Fault.{fault_from}
 use Rattle.rma_epoch.specs.Reason.{reason_at}
-use Rattle.rma_epoch.specs.Table.{sound_calls, taken_with}
-use Rattle.rma_epoch.specs.inside.Live.{Represents}
+use Rattle.rma_epoch.specs.Table.{taken_with}
+use Rattle.rma_epoch.specs.inside.Live.{HasLocks, Represents}
 use Rattle.rma_epoch.proofs.LiveLemmas.{fault_step, taken_there}
 use Rattle.rma_epoch.proofs.SoundLemmas.{sound_more, sound_until}
 use Rattle.rma_epoch.proofs.whole.take_sound.Goals as goal
@@ -34,17 +33,16 @@ returns-in-Some-clause-taken c =
     subst (λ calls. Represents calls c.take.new.self) (sym (sound_until c.args.windows.now own i call c.in-Some.reason there reason c.loop-i.invariant.sound))
     (subst (λ o. Represents (taken_with o call (take i own.calls)) c.take.new.self) c.in-Some.is (c.in_ok-reason.ensures.taken (take i own.calls) c.loop-i.invariant.taken))
 
-pub returns-in-Some-clause-first : goal.returns-in-Some-clause-first
-returns-in-Some-clause-first c =
+pub returns-in-Some-clause-locks : goal.returns-in-Some-clause-locks
+returns-in-Some-clause-locks c =
     let own = c.args.own.now in
+    let windows = c.args.windows.now in
     let i = c.loop-i.i in
     let call = call_of c.get-call.result in
     let there : slice_get own.calls i ≡ Some call = ap (λ calls. slice_get calls i) (sym c.calls-calls.ensures) ∙ c.get-call.ensures in
-    let reason : reason_at c.args.windows.now (take i own.calls) call ≡ Some c.in-Some.reason = sym (sym c.in-Some.is ∙ c.in_ok-reason.ensures.reason (take i own.calls) c.loop-i.invariant.taken) in
-    let are = subst (λ o. Represents (taken_with o call (take i own.calls)) c.take.new.self) c.in-Some.is (c.in_ok-reason.ensures.taken (take i own.calls) c.loop-i.invariant.taken) in
-    let short : length (take i own.calls) ≡ i = length-take-le i own.calls (omega (arith, ap length c.calls-calls.ensures)) in
-    ap (λ k. take k own.calls) (are.taken_are ∙ short)
-    ∙ sym (sound_until c.args.windows.now own i call c.in-Some.reason there reason c.loop-i.invariant.sound)
+    let reason : reason_at windows (take i own.calls) call ≡ Some c.in-Some.reason = sym (sym c.in-Some.is ∙ c.in_ok-reason.ensures.reason (take i own.calls) c.loop-i.invariant.taken) in
+    subst (λ calls. HasLocks windows calls c.take.new.self) (sym (sound_until windows own i call c.in-Some.reason there reason c.loop-i.invariant.sound))
+    (subst (λ o. HasLocks windows (taken_with o call (take i own.calls)) c.take.new.self) c.in-Some.is (c.in_ok-reason.ensures.locks (take i own.calls) c.loop-i.invariant.taken c.loop-i.invariant.locks))
 
 pub loop-i-preserved : goal.loop-i-preserved
 loop-i-preserved c =
@@ -57,6 +55,8 @@ loop-i-preserved c =
     record {
       taken = subst (λ calls. Represents calls c.take.new.self) (sym (taken_there own.calls i call there))
           (subst (λ o. Represents (taken_with o call (take i own.calls)) c.take.new.self) c.in_default.is (c.in_ok-reason.ensures.taken (take i own.calls) c.loop-i.invariant.taken));
+      locks = subst (λ calls. HasLocks windows calls c.take.new.self) (sym (taken_there own.calls i call there))
+          (subst (λ o. HasLocks windows (taken_with o call (take i own.calls)) c.take.new.self) c.in_default.is (c.in_ok-reason.ensures.locks (take i own.calls) c.loop-i.invariant.taken c.loop-i.invariant.locks));
       fault = c.loop-i.invariant.fault
           ∙ fault_step windows own.calls i call own.end there
           ∙ ap (λ o. option_or (option_map (λ (reason : EpochReason). record { line = call.line; reason = reason }) o) (fault_from windows (take (i + 1) own.calls) (drop (i + 1) own.calls) own.end)) none;

@@ -1,11 +1,12 @@
 use Rattle.std.proofs.Common.{◌≡◌, ◌+◌, ◌∷◌, ◌++◌, [], ℕ, List, Some, None, cond, length, subst, sym, ap, ◌∙◌, length-append}
+use Rattle.std.specs.List.{cons_option}
 use Rattle.rma_call.specs.Call.{call_of}
 use Rattle.rma_epoch.specs.Open.{Open, open_on}
-use Rattle.rma_epoch.specs.Table.{close_of, closed_at, is_opener, openings_from, opening_at, taken_with}
+use Rattle.rma_epoch.specs.Table.{closed_at, is_opener, lock_opened, locks_opened, openings_from, opening_at, taken_with}
 use Rattle.rma_epoch.specs.declared.step.Step.{Step}
 use Rattle.rma_epoch.specs.inside.Live.{kept}
 use Rattle.rma_epoch.specs.inside.Placements.{close_in}
-use Rattle.rma_epoch.proofs.TableLemmas.{close_push, closed_is, not_some, opening_is, openings_push}
+use Rattle.rma_epoch.proofs.TableLemmas.{close_push, closed_is, locks_push, not_some, opening_is, openings_push}
 use Rattle.rma_epoch.proofs.live.LiveEpochs.take.Goals as goal
 
 pub returns-clause-taken : goal.returns-clause-taken
@@ -31,4 +32,15 @@ returns-clause-taken c = λ calls are.
           ∙ ap (λ n. cond (is_opener opener (closed_at calls call)) (Some n) (close_in own.placements opener)) are.taken_are
           ∙ ap (λ close. cond (is_opener opener (closed_at calls call)) (Some (length calls)) close) (are.closes_are opener)
           ∙ sym (close_push opener calls call);
+    }
+
+pub returns-clause-locks : goal.returns-clause-locks
+returns-clause-locks c = λ calls are has.
+    let call = call_of c.args.call in
+    let windows = c.args.windows.now in
+    record {
+      locks_are = c.in_ok-add_lock.ensures
+          ∙ ap (λ locks. locks ++ cons_option (lock_opened windows c.args.self.now.taken call.what) []) has.locks_are
+          ∙ ap (λ n. locks_opened windows 0 calls ++ cons_option (lock_opened windows n call.what) []) are.taken_are
+          ∙ sym (locks_push windows calls call);
     }
