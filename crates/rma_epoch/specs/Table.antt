@@ -19,6 +19,7 @@ use Rattle.rma_epoch.specs.declared.table.LockEpoch.{LockEpoch}
 use Rattle.rma_epoch.specs.Calls.{window_on}
 use Rattle.rma_epoch.specs.Open.{Open, open_on, is_exclusive}
 use Rattle.rma_epoch.specs.Reason.{reason_at}
+use Rattle.rma_epoch.specs.Fault.{fault_of}
 
 -- ---- the sound calls
 
@@ -155,6 +156,14 @@ abbrev pub table_of : List Window → List Call → Epochs
 table_of windows calls = record { sound = length calls; epochs = epochs_of calls; locks = locks_of windows calls }
 
 -- ---- what is said of them
+
+-- the sound calls are the first ones of the rank
+abbrev pub SoundComeFirst : List Window → RankCalls → Type 0
+SoundComeFirst windows own = sound_calls windows own ≡ take (length (sound_calls windows own)) own.calls
+
+-- a call right behind the sound ones is that of the first fault
+abbrev pub FaultComesNext : List Window → RankCalls → Type 0
+FaultComesNext windows own = (call : Call) → slice_get own.calls (length (sound_calls windows own)) ≡ Some call → option_map (λ fault. fault.line) (fault_of windows own) ≡ Some call.line
 
 -- whether a call is an access to a target
 abbrev pub has_target : What → Bool
