@@ -173,21 +173,25 @@ module _ (n : ℕ) (links : Links) (old new : List (List Step)) (rank : ℕ) (s 
         (step_cases_at r t (subst (λ all. Contains (steps_of all r) t) are has)));
   }
 
+-- a table without steps
+pub empty_table : (n : ℕ) (links : Links) (table : Table) → table.steps.items ≡ replicate n [] → table.rows.items ≡ [] → IsTable n links table
+empty_table n links table steps rows =
+    let none : (r : ℕ) → steps_of table.steps.items r ≡ [] = λ r. ap (λ all. steps_of all r) steps ∙ replicate_at n r [] in
+    record {
+      size = ap length steps ∙ length-replicate n [];
+      widths = subst (All (λ row. length row ≡ n)) (sym rows) (All-nil (λ row. length row ≡ n));
+      sorted = λ r. subst (λ (xs : List Step). IsNonDecreasingBy (λ (t : Step). t.pos) xs) (sym (none r)) (λ i j d le lt. absurd (omega arith));
+      right = λ r s has. absurd (contains_none s (subst (λ xs. Contains xs s) (none r) has));
+    }
+
 -- clocks without steps
 pub empty_builder : (n : ℕ) (links : Links) (builder : Builder) → builder.links.now ≡ links → builder.table.steps.items ≡ replicate n [] → builder.table.rows.items ≡ [] → builder.meets.items ≡ replicate (length links.meets) None
     → IsBuilder n links builder
-empty_builder n links builder same steps rows meets =
-    let none : (r : ℕ) → steps_of builder.table.steps.items r ≡ [] = λ r. ap (λ all. steps_of all r) steps ∙ replicate_at n r [] in
-    record {
-      links_are = same;
-      rows = record {
-        size = ap length steps ∙ length-replicate n [];
-        widths = subst (All (λ row. length row ≡ n)) (sym rows) (All-nil (λ row. length row ≡ n));
-        sorted = λ r. subst (λ (xs : List Step). IsNonDecreasingBy (λ (t : Step). t.pos) xs) (sym (none r)) (λ i j d le lt. absurd (omega arith));
-        right = λ r s has. absurd (contains_none s (subst (λ xs. Contains xs s) (none r) has));
-      };
-      shared = record {
-        size = ap length meets ∙ length-replicate (length links.meets) None;
-        right = λ index row at. absurd (none-some row (sym (ap (λ xs. get_or xs index None) meets ∙ replicate_at (length links.meets) index None) ∙ at));
-      };
-    }
+empty_builder n links builder same steps rows meets = record {
+  links_are = same;
+  rows = empty_table n links builder.table steps rows;
+  shared = record {
+    size = ap length meets ∙ length-replicate (length links.meets) None;
+    right = λ index row at. absurd (none-some row (sym (ap (λ xs. get_or xs index None) meets ∙ replicate_at (length links.meets) index None) ∙ at));
+  };
+}

@@ -4,3 +4,5 @@ pub mod BeforeLemmas
 pub mod MeetLemmas
 pub mod BuilderLemmas
 pub mod SettleLemmas
+pub mod ReachedLemmas
+pub mod LiveLemmas

@@ -2,6 +2,7 @@
 use Rattle.std.proofs.Common.{◌≡◌, ℕ, ◌+◌, ◌-◌, ◌*◌, ◌/◌, ◌%◌, ◌<◌, ◌≤◌, ◌^◌, inr, List, [], length, get_or, replicate, refl, sym, ap, subst, ◌∙◌, arith, ⊎_elim}
 use Rattle.std.specs.Prelude.{All, Contains, slice_index, slice_index_or}
 use Rattle.std.proofs.lemmas.Bool.{cases_lt}
+use Rattle.std.proofs.lemmas.List.{length-map}
 use Rattle.std.proofs.lemmas.List.Elements.{All-contains, Contains-get_or}
 use Rattle.std.proofs.lemmas.Option.{same_Some, slice_get_within, get_or_from_slice_get}
 use Rattle.rma_base.specs.declared.rank.Rank.{Rank}
@@ -24,8 +25,10 @@ use Rattle.rma_walk.proofs.ListLemmas.{contains_none, replicate_at}
 use Rattle.rma_clock.specs.declared.step.Step.{Step}
 use Rattle.rma_clock.specs.declared.builder.Builder.{Builder}
 use Rattle.rma_clock.specs.inside.Before.{point_at, IsBefore}
-use Rattle.rma_clock.specs.inside.Table.{HasStep, IsCaught, IsUsable, IsReceived, IsSettled, IsBuilder, IsWhole, entry_before, steps_of}
+use Rattle.rma_clock.specs.inside.Table.{HasStep, IsCaught, IsUsable, IsReceived, IsSettled, IsTable, IsBuilder, IsWhole, entry_before, steps_of}
+use Rattle.rma_clock.specs.Reached.{points_of}
 use Rattle.rma_clock.proofs.BeforeLemmas.{received, some_source}
+use Rattle.rma_clock.proofs.ReachedLemmas.{reached_point}
 
 -- each entry of a source is an entry of the run
 source_entry : (lens : List ℕ) (links : Links) (r c : ℕ) (source : Source) (e : Point) → AreWithin lens links → IsSourceOf links r c source → IsEntryOf links source e → IsEntry lens e
@@ -230,9 +233,9 @@ built_entry lens links order within is i builder to q here even = record {
   settled = settled_entry lens links order within is builder.table.steps.items i to.settled q here even;
 }
 
-pub clocks_of : (lens : List ℕ) (links : Links) (order : List Point) (i : ℕ) (builder : Builder) → AreWithin lens links → IsOrder lens links order → IsBuiltTo lens links order i builder → length order ≤ i → IsWhole lens links builder.table
+pub clocks_of : (lens : List ℕ) (links : Links) (order : List Point) (i : ℕ) (builder : Builder) → AreWithin lens links → IsOrder lens links order → IsBuiltTo lens links order i builder → length order ≤ i → IsWhole (points_of lens) links builder.table
 clocks_of lens links order i builder within is to all = record {
   possible = order_possible lens links order within is;
-  rows = to.built.rows;
-  caught = caught_all lens links order builder.table.steps.items i is to.settled all;
+  rows = subst (λ n. IsTable n links builder.table) (sym (length-map lens (λ calls. 2 * calls))) to.built.rows;
+  caught = λ q reached. caught_all lens links order builder.table.steps.items i is to.settled all q (reached_point lens q reached);
 }

@@ -1,2 +1,3 @@
 pub mod Before
 pub mod Table
+pub mod Live

@@ -7,9 +7,9 @@ ghost use Rattle.rma_clock.specs.inside.Before.{IsBefore, IsBeforeSource, IsBefo
 ghost use Rattle.rma_clock.specs.inside.Table.{IsBuilder, IsCaught, IsUsable, IsReceived, IsSettled, entry_before, row_at, steps_of};
 
 use crate::row::Row;
-use crate::step::{Step, last_step};
+use crate::step::Step;
 use crate::table::Table;
-use rma_base::{Memory, Point, Sequence};
+use rma_base::{Memory, Point};
 use rma_link::Links;
 use rma_walk::Source;
 use std::alloc::Global;
@@ -31,14 +31,11 @@ impl<'a> Builder<'a> {
         ensures builder { IfOk result (IsBuilder ranks links.now) }
         ensures steps { IfOk result (λ builder. builder.table.steps.items ≡ replicate ranks []) }
     {
-        let steps = no_steps(alloc, ranks)?;
+        let table = Table::new(alloc, ranks)?;
         let meets = vec![in alloc; None; links.meets.len()]?;
         Ok(Builder {
             links,
-            table: Table {
-                steps,
-                rows: Vec::new(alloc),
-            },
+            table,
             meets,
         })
     }
@@ -52,11 +49,7 @@ impl<'a> Builder<'a> {
         requires possible { IsPossible self.now.links.now }
         ensures { IsRaised (λ p. IsAtOrBefore self.now.links.now p point) row.old row.new }
     {
-        let steps = &self.table.steps[point.rank.0 as usize];
-        if let Some(step) = last_step(steps.as_slice(), point.pos) {
-            row.join(&self.table.rows[step.row]);
-        }
-        row.raise(point.rank.0, point.pos + 1);
+        self.table.raise_to(row, point);
     }
 
     /// A row of all that is at or before the entry of a member of the meet.
@@ -199,15 +192,4 @@ impl<'a> Builder<'a> {
         })?;
         Ok(())
     }
-}
-
-/// No steps, of so many ranks.
-fn no_steps(alloc: Global, ranks: usize) -> Result<Vec<Sequence<Step>>, Memory>
-    ensures { IfOk result (λ steps. steps.items ≡ replicate ranks []) }
-{
-    let mut steps = Vec::new(alloc);
-    for _rank in 0..ranks {
-        steps.push(Sequence::new(alloc))?;
-    }
-    Ok(steps)
 }

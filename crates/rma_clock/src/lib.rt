@@ -2,15 +2,18 @@
 //!
 //! [`Clocks`] answer whether one point is at or before another. [`SharedClocks`] are those of a whole run: they keep numbers by
 //! rank, how many of its points are before, and only at returns that receive something. All returns of a meet share theirs, and
-//! a point finds its own by a binary search of its rank, so a point that receives nothing takes no memory.
+//! a point finds its own by a binary search of its rank, so a point that receives nothing takes no memory. [`LiveClocks`] keep the
+//! same table while a run is still read: its points are settled one by one, each with the points that it comes after.
 #![tactic(auto)]
 
 mod builder;
 mod clocks;
+mod live;
 mod row;
 mod shared;
 mod step;
 mod table;
 
 pub use clocks::Clocks;
+pub use live::LiveClocks;
 pub use shared::SharedClocks;

@@ -1,5 +1,6 @@
 //! How many points of each rank.
 ghost use Rattle.std.specs.Prelude.{◌≡◌, ◌<◌, ℕ, length, max, replicate, slice_index, slice_set, IfOk};
+ghost use Rattle.rma_clock.specs.inside.Before.{IsLast};
 
 use rma_base::Memory;
 use std::alloc::Global;
@@ -36,6 +37,16 @@ impl Row {
         ensures { result ≡ slice_index self.now rank }
     {
         self.numbers[rank as usize]
+    }
+
+    /// The last of the first points of the rank, so many, by its position.
+    pub(crate) fn last(&self, rank: u32) -> Option<u32>
+        ensures { IsLast (slice_index self.now rank) result }
+    {
+        match self.numbers.get(rank as usize) {
+            Some(number) => number.checked_sub(1),
+            None => None,
+        }
     }
 
     /// Raises the number of the rank to this one.

@@ -3,11 +3,11 @@ ghost use Rattle.std.specs.Prelude.{◌<◌, ◌^◌, ℕ, List, All, IfOk};
 ghost use Rattle.rma_link.specs.declared.links.Links.{Links};
 ghost use Rattle.rma_link.specs.Within.{AreWithin};
 ghost use Rattle.rma_walk.specs.Outcome.{IsOrder};
+ghost use Rattle.rma_clock.specs.Reached.{points_of};
 ghost use Rattle.rma_clock.specs.inside.Table.{AreClocks};
 
 use crate::builder::Builder;
 use crate::clocks::Clocks;
-use crate::step::last_step;
 use crate::table::Table;
 use rma_base::{Memory, Point, Sequence};
 use rma_link::Links;
@@ -38,7 +38,7 @@ impl SharedClocks {
         requires calls { All (λ calls. calls < 2 ^ 31) lens.now }
         requires links { AreWithin lens.now links.now }
         requires order { IsOrder lens.now links.now order.now }
-        ensures { IfOk result (AreClocks lens.now links.now) }
+        ensures { IfOk result (AreClocks (points_of lens.now) links.now) }
     {
         let inboxes = inboxes_of(alloc, lens, links)?;
         let mut builder = Builder::new(alloc, lens.len(), links)?;
@@ -56,16 +56,9 @@ impl SharedClocks {
 }
 
 impl Clocks for SharedClocks {
-    ghost are_of = { λ clocks lens links. AreClocks lens links clocks };
+    ghost are_of = { λ clocks points links. AreClocks points links clocks };
 
     fn leq(&self, p: Point, q: Point) -> bool {
-        if p.rank.0 == q.rank.0 {
-            return p.pos <= q.pos;
-        }
-        let steps = &self.table.steps[q.rank.0 as usize];
-        match last_step(steps.as_slice(), q.pos) {
-            Some(step) => p.pos < self.table.rows[step.row].number(p.rank.0),
-            None => false,
-        }
+        self.table.leq(p, q)
     }
 }

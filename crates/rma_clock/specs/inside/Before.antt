@@ -1,5 +1,5 @@
 -- What rows of numbers say of points.
-use Rattle.std.specs.Prelude.{ℕ, ◌≡◌, ◌<◌, ◌⊎◌, List, length, slice_index, Contains}
+use Rattle.std.specs.Prelude.{ℕ, ◌≡◌, ◌<◌, ◌⊎◌, ◌+◌, List, Option, Some, None, length, slice_index, Contains}
 use Rattle.rma_base.specs.declared.point.Point.{Point}
 use Rattle.rma_link.specs.declared.links.Links.{Links}
 use Rattle.rma_link.specs.Order.{IsDirectlyBefore, IsAtOrBefore}
@@ -37,3 +37,8 @@ pub record IsRaised (IsNew : Point → Type 0) (old new : List ℕ) : Type 0 whe
   pub kept : (p : Point) → Covers old p → Covers new p
   pub added : (p : Point) → IsNew p → Covers new p
   pub only : (p : Point) → Covers new p → Covers old p ⊎ IsNew p
+
+-- the last of so many positions, if there is one
+abbrev pub IsLast : ℕ → Option ℕ → Type 0
+IsLast number None = number ≡ 0
+IsLast number (Some pos) = number ≡ pos + 1

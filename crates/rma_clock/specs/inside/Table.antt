@@ -5,7 +5,6 @@ use Rattle.rma_base.specs.declared.point.Point.{Point}
 use Rattle.rma_link.specs.declared.links.Links.{Links}
 use Rattle.rma_link.specs.Order.{IsAtOrBefore, IsPossible}
 use Rattle.rma_link.specs.Link.{IsLinked}
-use Rattle.rma_link.specs.Point.{IsPoint}
 use Rattle.rma_walk.specs.declared.source.Source.{Source}
 use Rattle.rma_walk.specs.declared.source.Source.TheVariants.{Meet}
 use Rattle.rma_walk.specs.Source.{IsEntryOf}
@@ -14,6 +13,7 @@ use Rattle.rma_clock.specs.declared.step.Step.{Step}
 use Rattle.rma_clock.specs.declared.table.Table.{Table}
 use Rattle.rma_clock.specs.declared.shared.SharedClocks.{SharedClocks}
 use Rattle.rma_clock.specs.declared.builder.Builder.{Builder}
+use Rattle.rma_clock.specs.Reached.{IsReached}
 use Rattle.rma_clock.specs.inside.Before.{point_at, IsBefore, IsBeforeSource, IsBeforeSome, IsRow}
 
 -- the last of these steps at or before a position, if there is one
@@ -76,12 +76,12 @@ pub record IsBuilder (ranks : ℕ) (links : Links) (builder : Builder) : Type 0 
   pub rows : IsTable ranks links builder.table
   pub shared : AreShared links builder.table.rows.items builder.meets.items
 
--- a table of a possible run, of all its points
-pub record IsWhole (lens : List ℕ) (links : Links) (table : Table) : Type 0 where
+-- a table of the first points of each rank, so many, of a possible run
+pub record IsWhole (points : List ℕ) (links : Links) (table : Table) : Type 0 where
   pub possible : IsPossible links
-  pub rows : IsTable (length lens) links table
-  pub caught : (q : Point) → IsPoint lens q → IsCaught links table.steps.items q
+  pub rows : IsTable (length points) links table
+  pub caught : (q : Point) → IsReached points q → IsCaught links table.steps.items q
 
--- the clocks of a possible run
+-- the clocks of those points
 abbrev pub AreClocks : List ℕ → Links → SharedClocks → Type 0
-AreClocks lens links clocks = IsWhole lens links clocks.table
+AreClocks points links clocks = IsWhole points links clocks.table

@@ -1,74 +1,7 @@
-use Rattle.std.proofs.Common.{◌≡◌, ℕ, ◌<◌, ◌+◌, List, [], length, Some, None, refl, sym, subst, ◌∙◌, arith}
-use Rattle.std.specs.List.Sorted.{IsNonDecreasingBy}
-use Rattle.std.proofs.lemmas.List.{get_or_read}
-use Rattle.rma_clock.specs.declared.step.Step.{Step}
-use Rattle.rma_clock.specs.inside.Before.{point_at, IsBefore, IsRow, IsRaised}
-use Rattle.rma_clock.specs.inside.Table.{IsLastStep, steps_of, row_at}
-use Rattle.rma_clock.proofs.RowLemmas.{IsAmong, raised, raised_by_max, raised_by_one}
-use Rattle.rma_clock.proofs.BeforeLemmas.{raised_by_step, raised_by_none}
 use Rattle.rma_clock.proofs.builder.Builder.raise_to.Goals as goal
-use Rattle.rma_clock.proofs.builder.Builder.raise_to.Goals.{in-Some, in_default}
 
-pub last_step-requires : goal.last_step-requires
-last_step-requires c =
-    let steps = c.args.self.now.table.steps.items in
-    let r = c.args.point.rank.0 in
-    let size = c.requires.builder.rows.size in
-    let there : r < length steps = omega (arith, c.requires.rank) in
-    let is : c.as_slice.result.now ≡ steps_of steps r = c.as_slice.ensures ∙ get_or_read steps r c.index-steps.result.now there c.index-steps.ensures [] in
-    subst (λ xs. IsNonDecreasingBy (λ (s : Step). s.pos) xs) (sym is) (c.requires.builder.rows.sorted r)
-
-pub index-requires : goal.index-requires
-index-requires c =
-    let steps = c.args.self.now.table.steps.items in
-    let r = c.args.point.rank.0 in
-    let size = c.requires.builder.rows.size in
-    let there : r < length steps = omega (arith, c.requires.rank) in
-    let is : c.as_slice.result.now ≡ steps_of steps r = c.as_slice.ensures ∙ get_or_read steps r c.index-steps.result.now there c.index-steps.ensures [] in
-    let P : List Step → Type 0 = λ xs. IsLastStep xs c.args.point.pos (Some c.in-Some.step) in
-    let last = subst P is c.in-Some.ensures in
-    let lt = (c.requires.builder.rows.right r c.in-Some.step last.0).0 in
-    omega arith
-
-pub join-requires : goal.join-requires
-join-requires c =
-    let rows = c.args.self.now.table.rows.items in
-    let steps = c.args.self.now.table.steps.items in
-    let r = c.args.point.rank.0 in
-    let size = c.requires.builder.rows.size in
-    let there : r < length steps = omega (arith, c.requires.rank) in
-    let is : c.as_slice.result.now ≡ steps_of steps r = c.as_slice.ensures ∙ get_or_read steps r c.index-steps.result.now there c.index-steps.ensures [] in
-    let P : List Step → Type 0 = λ xs. IsLastStep xs c.args.point.pos (Some c.in-Some.step) in
-    let last = subst P is c.in-Some.ensures in
-    let lt = (c.requires.builder.rows.right r c.in-Some.step last.0).0 in
-    let W : List ℕ → Type 0 = λ row. length row ≡ length c.args.row.now in
-    subst W (sym c.index.ensures) (c.requires.builder.rows.widths c.in-Some.step.row c.index.result.now lt)
+pub raise_to-requires-clause-table : goal.raise_to-requires-clause-table
+raise_to-requires-clause-table c = (c.args.self.now.links.now, c.requires.builder.rows)
 
 pub returns : goal.returns
-returns c =
-    let links = c.args.self.now.links.now in
-    let rows = c.args.self.now.table.rows.items in
-    let steps = c.args.self.now.table.steps.items in
-    let q = c.args.point in
-    let size = c.requires.builder.rows.size in
-    let there : q.rank.0 < length steps = omega (arith, c.requires.rank) in
-    let is : c.as_slice.result.now ≡ steps_of steps q.rank.0 = c.as_slice.ensures ∙ get_or_read steps q.rank.0 c.index-steps.result.now there c.index-steps.ensures [] in
-    let one : (mid : List ℕ) → c.match-last_step.row ≡ mid → length mid ≡ length c.args.row.now → IsRaised (IsAmong q.rank.0 (q.pos + 1)) mid c.raise.new.self =
-    λ mid same width.
-    let R : List ℕ → Type 0 = λ new. IsRaised (IsAmong q.rank.0 (q.pos + 1)) mid new in
-    let S : List ℕ → Type 0 = λ old. IsRaised (IsAmong q.rank.0 (q.pos + 1)) mid (raised old q.rank.0 (q.pos + 1)) in
-    subst R (sym c.raise.ensures) (subst S (sym same) (raised_by_one mid q.rank.0 (q.pos + 1) (omega (arith, c.requires.rank)))) in
-    elim c.match-last_step.branch [
-      | in-Some w ↦
-          let P : List Step → Type 0 = λ xs. IsLastStep xs q.pos (Some w.in-Some.step) in
-          let last = subst P is w.in-Some.ensures in
-          let right = c.requires.builder.rows.right q.rank.0 w.in-Some.step last.0 in
-          let row : w.index.result.now ≡ row_at rows w.in-Some.step.row = get_or_read rows w.in-Some.step.row w.index.result.now right.0 w.index.ensures [] in
-          raised_by_step links steps c.requires.possible q c.requires.caught w.in-Some.step w.index.result.now c.args.row.now w.join.new.self c.raise.new.self last
-          (subst (IsRow (IsBefore links (point_at q.rank.0 w.in-Some.step.pos))) (sym row) right.1)
-          (raised_by_max w.index.result.now c.args.row.now w.join.new.self w.join.ensures.size w.join.ensures.each)
-          (one w.join.new.self w.row-is w.join.ensures.size)
-      | in_default w ↦
-          let P : List Step → Type 0 = λ xs. IsLastStep xs q.pos None in
-          raised_by_none links steps c.requires.possible q c.requires.caught c.args.row.now c.raise.new.self (subst P is w.in_default.ensures) (one c.args.row.now w.row-is refl)
-    ]
+returns c = c.raise_to.ensures.raised c.args.self.now.links.now c.requires.builder.rows c.requires.possible c.requires.caught
