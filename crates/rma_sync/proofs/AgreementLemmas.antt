@@ -1,15 +1,14 @@
 -- Where the calls of each round agree, none differs from the first.
-use Rattle.std.proofs.Common.{◌≡◌, ℕ, zero, suc, ◌+◌, Bool, true, false, cond, ◌&&◌, List, [], ◌∷◌, ◌++◌, Option, Some, None, take, slice_get, refl, sym, ap, subst, ◌∙◌, arith, append_assoc, append-nil}
+use Rattle.std.proofs.Common.{◌≡◌, ℕ, zero, suc, ◌+◌, Bool, true, false, cond, List, [], ◌∷◌, ◌++◌, Option, Some, None, take, slice_get, nat_eq, refl, sym, ap, subst, ◌∙◌, arith, append_assoc, append-nil}
 use Rattle.std.specs.Prelude.{Contains, find}
 use Rattle.std.specs.Bool.{beq}
 use Rattle.std.specs.List.{cons_option, filter_map}
-use Rattle.std.specs.Option.{option_map_or}
 use Rattle.std.specs.Cmp.Lexicographic.{pointwise, nat_list_eq_equiv, same_text}
-use Rattle.std.proofs.lemmas.Bool.{eqb-true, eq-eqb, false≢true}
+use Rattle.std.proofs.lemmas.Bool.{eqb-true, eq-eqb}
+use Rattle.std.proofs.lemmas.List.Sums.{sum_by-cons}
 use Rattle.rma_base.specs.declared.rank.Rank.{Rank}
 use Rattle.rma_base.proofs.NameLemmas.{and_left, and_right}
 use Rattle.rma_call.specs.Call.{Call, RankCalls}
-use Rattle.rma_call.specs.declared.match_fault.MatchFault.{MatchFault}
 use Rattle.rma_run.specs.Run.{AreInOrder, calls_of}
 use Rattle.rma_run.proofs.CallLemmas.{calls_are_own}
 use Rattle.rma_run.proofs.ContainLemmas.{has_first, has_later, has_none, first_or_later, in_flat_map}
@@ -20,15 +19,15 @@ use Rattle.rma_sync.specs.declared.argument.Movement.{Movement}
 use Rattle.rma_sync.specs.declared.argument.Movement.TheVariants.{Bcast, Scatter, Gather, Reduce, Allreduce, Allgather, Alltoall}
 use Rattle.rma_sync.specs.declared.argument.Arguments.{Arguments}
 use Rattle.rma_sync.specs.declared.argument.Arguments.TheVariants.{Barrier, Creation, Fence, Moving, Nothing}
-use Rattle.rma_sync.specs.Argument.{arguments_of, same_arguments, same_movement, same_transfer}
-use Rattle.rma_sync.specs.Collective.{RoundCall, place_of, round_call_at, round_calls, walked, walked_all}
-use Rattle.rma_sync.specs.Round.{differs, is_at, kept, round_difference, round_differences}
+use Rattle.rma_sync.specs.Argument.{arguments_of, same_arguments, same_movement}
+use Rattle.rma_sync.specs.Collective.{RoundCall, place_of, round_call_at, round_calls, walked}
+use Rattle.rma_sync.specs.Round.{is_at, round_difference, round_differences}
 use Rattle.rma_sync.specs.inside.Agreement.{AgreeOn, IsInRound}
 use Rattle.rma_sync.proofs.SoFarLemmas.{is_on_some}
 
 -- ---- a call agrees with itself
 
-itself : (n : ℕ) → (n == n) ≡ true
+itself : (n : ℕ) → nat_eq n n ≡ true
 itself n = eq-eqb n n refl
 
 beq_itself : (b : Bool) → beq b b ≡ true
@@ -77,7 +76,9 @@ module _ (kind : Kind) (name : List ℕ) where
   number_from n (c ∷ cs) zero call there on =
       let is : c ≡ call = cc in
       rw (is, on) (ap Some (let e : n ≡ n + 0 = omega arith in e))
-  number_from n (c ∷ cs) (suc k) call there on = by (is_on kind name c) (number_from (n + 1) cs k call there on ∙ ap Some (let e : n + 1 + k ≡ n + suc k = omega arith in e))
+  number_from n (c ∷ cs) (suc k) call there on =
+      ap (slice_get (numbers_from kind name n (c ∷ cs))) (sum_by-cons (λ x. cond (is_on kind name x) 1 0) c (take k cs))
+      ∙ by (is_on kind name c) (number_from (n + 1) cs k call there on ∙ ap Some (let e : n + 1 + k ≡ n + suc k = omega arith in e))
     where
       by : (b : Bool) → slice_get (numbers_from kind name (n + 1) cs) (count_of kind name (take k cs)) ≡ Some (n + suc k) →
           slice_get (cond b (n ∷ numbers_from kind name (n + 1) cs) (numbers_from kind name (n + 1) cs)) (cond b 1 0 + count_of kind name (take k cs)) ≡ Some (n + suc k)
@@ -104,7 +105,7 @@ in_round kind ranks in_order own has =
         let calls : calls_of ranks log.rank.0 ≡ log.calls = calls_are_own ranks log in_order of in
         let those = take k log.calls in
         let made : RoundCall =
-            record { rank = log.rank; line = call.line; name = name; number = count_of kind name those; arguments = arguments_of (place_of those call.what) call.what } in
+        record { rank = log.rank; line = call.line; name = name; number = count_of kind name those; arguments = arguments_of (place_of those call.what) call.what } in
         let same : Some made ≡ Some own = rw is at at in
         let e : made ≡ own = cc in
         subst (λ (r : RoundCall). IsInRound kind ranks r.name r.number r.arguments) e (record {
@@ -131,20 +132,21 @@ none_mapped f [] none = refl
 none_mapped f (x ∷ xs) none = ap (λ o. cons_option o (filter_map f xs)) (none x (has_first x xs)) ∙ none_mapped f xs (λ y has. none y (has_later x y xs has))
 
 -- where the calls of each round agree, none differs from the first
-pub none_differ : (kind : Kind) (ranks : List RankCalls) → AreInOrder ranks → ((name : List ℕ) → AgreeOn kind ranks name) → round_differences kind (round_calls kind ranks) ≡ []
-none_differ kind ranks in_order agree = none_mapped (round_difference kind all) all (λ own has. by own has (find (is_at own.name own.number) all) refl)
-  where
-    abbrev all : List RoundCall
-    all = round_calls kind ranks
+module _ (kind : Kind) (ranks : List RankCalls) (in_order : AreInOrder ranks) (agree : (name : List ℕ) → AgreeOn kind ranks name) where
+  abbrev all : List RoundCall
+  all = round_calls kind ranks
 
-    by : (own : RoundCall) → Contains all own → (o : Option RoundCall) → find (is_at own.name own.number) all ≡ o → round_difference kind all own ≡ None
-    by own has None is = rw is refl
-    by own has (Some first) is =
-        let found = found_in (is_at own.name own.number) all first is in
-        let name : first.name ≡ own.name = same_text first.name own.name (sym (and_left (pointwise nat_eq first.name own.name) (first.number == own.number) found.1)) in
-        let number : first.number ≡ own.number = eqb-true first.number own.number (and_right (pointwise nat_eq first.name own.name) (first.number == own.number) found.1) in
-        let one : IsInRound kind ranks own.name own.number first.arguments =
-            subst (λ n. IsInRound kind ranks own.name n first.arguments) number (subst (λ n. IsInRound kind ranks n first.number first.arguments) name (in_round kind ranks in_order first found.0)) in
-        let same = agree own.name own.number first.arguments own.arguments one (in_round kind ranks in_order own has) in
-        let agrees : same_arguments first.arguments own.arguments ≡ true = ap (same_arguments first.arguments) (sym same) ∙ same_arguments_itself first.arguments in
-        rw (is, agrees) refl
+  differs_none : (own : RoundCall) → Contains all own → (o : Option RoundCall) → find (is_at own.name own.number) all ≡ o → round_difference kind all own ≡ None
+  differs_none own has None is = rw is refl
+  differs_none own has (Some first) is =
+      let found = found_in (is_at own.name own.number) all first is in
+      let name : first.name ≡ own.name = same_text first.name own.name (sym (and_left (pointwise nat_eq first.name own.name) (nat_eq first.number own.number) found.1)) in
+      let number : first.number ≡ own.number = eqb-true first.number own.number (and_right (pointwise nat_eq first.name own.name) (nat_eq first.number own.number) found.1) in
+      let one : IsInRound kind ranks own.name own.number first.arguments =
+      subst (λ n. IsInRound kind ranks own.name n first.arguments) number (subst (λ n. IsInRound kind ranks n first.number first.arguments) name (in_round kind ranks in_order first found.0)) in
+      let same = agree own.name own.number first.arguments own.arguments one (in_round kind ranks in_order own has) in
+      let agrees : same_arguments first.arguments own.arguments ≡ true = ap (same_arguments first.arguments) (sym same) ∙ same_arguments_itself first.arguments in
+      rw (is, agrees) refl
+
+  pub none_differ : round_differences kind (round_calls kind ranks) ≡ []
+  none_differ = none_mapped (round_difference kind all) all (λ own has. differs_none own has (find (is_at own.name own.number) all) refl)

@@ -1,13 +1,15 @@
 //! Runs in whose rounds nothing is at fault.
-ghost use Rattle.std.specs.Prelude.{◌≡◌, ◌≤◌, ◌<◌, ℕ, List, Some, true, slice_get, length, nat_le, All, IfOk};
+ghost use Rattle.std.specs.Prelude.{◌≡◌, ◌≤◌, ◌<◌, ℕ, List, Some, None, true, slice_get, length, nat_le, All, IfOk};
 ghost use Rattle.std.specs.List.{list_all};
 ghost use Rattle.rma_call.specs.Call.{Call, what_of};
 ghost use Rattle.rma_run.specs.Run.{IsRun, calls_of};
 ghost use Rattle.rma_round.specs.Kind.{moved_on, named};
-ghost use Rattle.rma_round.specs.inside.Rounds.{AreOfKind, Represents, calls_in};
+ghost use Rattle.rma_round.specs.inside.Rounds.{AreOfKind, AreOnName, Represents, calls_in};
 ghost use Rattle.rma_sync.specs.Argument.{arguments_of};
-ghost use Rattle.rma_sync.specs.inside.Agreement.{AllAgree, IsRegular, RowAgrees};
+ghost use Rattle.rma_sync.specs.inside.Agreement.{AgreeOn, AllAgree, IsRegular, RowAgrees};
+ghost use Rattle.rma_sync.specs.Member.{members};
 ghost use Rattle.rma_sync.specs.inside.Member.{AreMembers};
+ghost use Rattle.rma_sync.specs.inside.Scan.{IsBalanced};
 ghost use Rattle.rma_call.specs.declared.what.What.{What};
 ghost use Rattle.rma_round.specs.declared.kind.Kind.TheVariants as kind;
 
@@ -36,9 +38,27 @@ pub(crate) fn are_regular(
     if rounds.of_kind(Kind::Moving).len() > 0 {
         return Ok(false);
     }
-    let collectives = is_regular(alloc, Kind::Collective, ranks, rounds.of_kind(Kind::Collective), members)?;
-    let frees = is_regular(alloc, Kind::Free, ranks, rounds.of_kind(Kind::Free), members)?;
-    let fences = is_regular(alloc, Kind::Fence, ranks, rounds.of_kind(Kind::Fence), members)?;
+    let collectives = is_regular(
+        alloc,
+        Kind::Collective,
+        ranks,
+        rounds.of_kind(Kind::Collective),
+        members,
+    )?;
+    let frees = is_regular(
+        alloc,
+        Kind::Free,
+        ranks,
+        rounds.of_kind(Kind::Free),
+        members,
+    )?;
+    let fences = is_regular(
+        alloc,
+        Kind::Fence,
+        ranks,
+        rounds.of_kind(Kind::Fence),
+        members,
+    )?;
     Ok(collectives && frees && fences)
 }
 
@@ -57,14 +77,28 @@ fn is_regular(
     ensures { IfOk result (λ regular. regular ≡ true → IsRegular kind ranks.now) }
 {
     for i in 0..rounds.len() {
-        let on_name = rounds.rounds(i);
-        let rows = on_name.ranks(alloc)?;
-        let has_to = members.of(kind, rounds.name(i));
-        if !is_balanced(on_name, rows.as_slice(), has_to) || !all_agree(ranks, rows.as_slice()) {
+        let own = members.of(kind, rounds.name(i));
+        if !is_regular_on(alloc, kind, ranks, rounds.rounds(i), own)? {
             return Ok(false);
         }
     }
     Ok(true)
+}
+
+/// Whether that is so of the calls on one name, which has these members.
+fn is_regular_on(
+    alloc: Global,
+    kind: Kind,
+    ranks: &[RankCalls],
+    rounds: &NameRounds,
+    own: &[u32],
+) -> Result<bool, Memory>
+    requires { (what : What) (name : List ℕ) → named kind what ≡ Some name → moved_on what ≡ None }
+    ensures { IfOk result (λ regular. regular ≡ true → (name : List ℕ) → AreOnName kind name (calls_of ranks.now) rounds.now → own.now ≡ members kind ranks.now name
+        → IsBalanced kind ranks.now name × AgreeOn kind ranks.now name) }
+{
+    let rows = rounds.ranks(alloc)?;
+    Ok(is_balanced(rounds, rows.as_slice(), own) && all_agree(ranks, rows.as_slice()))
 }
 
 /// Whether each of these ranks makes as many calls as any rank does.
@@ -97,8 +131,19 @@ fn have_calls(rounds: &NameRounds, members: &[u32], number: usize) -> bool
 fn all_agree(ranks: &[RankCalls], rows: &[RankRounds<'_>]) -> bool
     ensures { result ≡ true → 0 < length rows.now → AllAgree ranks.now rows.now }
 {
-    for row in rows {
-        if !row_agrees(ranks, rows[0], *row) {
+    match rows.first() {
+        Some(first) => agree_with(ranks, *first, rows),
+        None => true,
+    }
+}
+
+/// Whether the calls of all ranks agree with those of one, round by round.
+fn agree_with(ranks: &[RankCalls], first: RankRounds<'_>, rows: &[RankRounds<'_>]) -> bool
+    ensures { result ≡ true → All (RowAgrees ranks.now first.entry) rows.now }
+{
+    for i in 0..rows.len() {
+        let row = rows[i];
+        if !row_agrees(ranks, first, row) {
             return false;
         }
     }
@@ -109,16 +154,22 @@ fn all_agree(ranks: &[RankCalls], rows: &[RankRounds<'_>]) -> bool
 fn row_agrees(ranks: &[RankCalls], first: RankRounds<'_>, row: RankRounds<'_>) -> bool
     ensures { result ≡ true → RowAgrees ranks.now first.entry row.entry }
 {
-    let (Some(first_calls), Some(calls)) =
-        (ranks.get(first.rank.0 as usize), ranks.get(row.rank.0 as usize))
-    else {
+    let (Some(first_calls), Some(calls)) = (
+        ranks.get(first.rank.0 as usize),
+        ranks.get(row.rank.0 as usize),
+    ) else {
         return false;
     };
     if row.numbers.len() > first.numbers.len() {
         return false;
     }
     for k in 0..row.numbers.len() {
-        if !agree_at(first_calls.calls(), first.numbers[k], calls.calls(), row.numbers[k]) {
+        if !agree_at(
+            first_calls.calls(),
+            first.numbers[k],
+            calls.calls(),
+            row.numbers[k],
+        ) {
             return false;
         }
     }
@@ -149,13 +200,21 @@ fn agree(first: WhatRef<'_>, own: WhatRef<'_>) -> bool
             WhatRef::Window(WindowCall::Create { window: first, .. }),
             WhatRef::Window(WindowCall::Create { window: own, .. }),
         ) => own == first,
+        (WhatRef::Window(WindowCall::Free { .. }), WhatRef::Window(WindowCall::Free { .. })) =>
+            true,
         (
-            WhatRef::Window(WindowCall::Free { .. }),
-            WhatRef::Window(WindowCall::Free { .. }),
-        ) => true,
-        (
-            WhatRef::Epoch(EpochCall::Fence { assertions: first, .. }),
-            WhatRef::Epoch(EpochCall::Fence { assertions: own, .. }),
+            WhatRef::Epoch(
+                EpochCall::Fence {
+                    assertions: first,
+                    ..
+                },
+            ),
+            WhatRef::Epoch(
+                EpochCall::Fence {
+                    assertions: own,
+                    ..
+                },
+            ),
         ) => first.noprecede == own.noprecede && first.nosucceed == own.nosucceed,
         _ => false,
     }

@@ -2,11 +2,14 @@
 ghost use Rattle.std.specs.Prelude.{◌≡◌, ◌++◌, [], true, IfOk, OnOk};
 ghost use Rattle.rma_run.specs.Run.{IsRun};
 ghost use Rattle.rma_match.specs.Matches.{AreMatches};
+ghost use Rattle.rma_round.specs.declared.kind.Kind.TheVariants as kind;
+ghost use Rattle.rma_sync.specs.inside.Agreement.{IsRegular};
 ghost use Rattle.rma_sync.specs.inside.Member.{AreMembers};
 ghost use Rattle.rma_sync.specs.Missing.{missing_calls, missing_data};
 ghost use Rattle.rma_sync.specs.Matching.{match_faults};
 ghost use Rattle.rma_sync.specs.inside.Matching.{first_faults, last_faults};
 
+use crate::agreement::are_regular;
 use crate::difference::differences;
 use crate::member::Members;
 use crate::missing::{MissingFaults, missing_calls};
@@ -31,7 +34,7 @@ pub fn match_faults(
     ensures { IfOk result (λ faults. faults ≡ match_faults ranks.now) }
 {
     let mut faults = matches.messages.faults(alloc)?;
-    let rounds = RoundFaults::of_calls(alloc, ranks)?;
+    let rounds = RoundFaults::of_calls(alloc, ranks, matches)?;
     append(&mut faults, &rounds.first)?;
     append(&mut faults, &matches.exposures.faults(alloc, ranks)?)?;
     append(&mut faults, &rounds.last)?;
@@ -48,8 +51,52 @@ struct RoundFaults {
 }
 
 impl RoundFaults {
-    /// Those of a run.
-    fn of_calls(alloc: Global, ranks: &[RankCalls]) -> Result<RoundFaults, Memory>
+    /// Those of a run with these matches.
+    fn of_calls(
+        alloc: Global,
+        ranks: &[RankCalls],
+        matches: &Matches,
+    ) -> Result<RoundFaults, Memory>
+        requires run { IsRun ranks.now }
+        requires matches { AreMatches ranks.now matches.now }
+        ensures first { IfOk result (λ faults. faults.first ≡ first_faults ranks.now) }
+        ensures last { IfOk result (λ faults. faults.last ≡ last_faults ranks.now) }
+    {
+        let members = Members::of_calls(alloc, ranks)?;
+        if are_regular(alloc, ranks, &matches.rounds, &members)? {
+            return RoundFaults::of_declarations(alloc, ranks, &members);
+        }
+        RoundFaults::of_scan(alloc, ranks)
+    }
+
+    /// Those of a run in whose rounds nothing is at fault.
+    fn of_declarations(
+        alloc: Global,
+        ranks: &[RankCalls],
+        members: &Members,
+    ) -> Result<RoundFaults, Memory>
+        requires members { AreMembers ranks.now members.now }
+        requires collectives { IsRegular kind.Collective ranks.now }
+        requires frees { IsRegular kind.Free ranks.now }
+        requires fences { IsRegular kind.Fence ranks.now }
+        requires movings { IsRegular kind.Moving ranks.now }
+        requires run { IsRun ranks.now }
+        ensures first { IfOk result (λ faults. faults.first ≡ first_faults ranks.now) }
+        ensures last { IfOk result (λ faults. faults.last ≡ last_faults ranks.now) }
+    {
+        let mut last = differences(alloc, MatchReason::WindowDiffers, &members.creations)?;
+        append(
+            &mut last,
+            &differences(alloc, MatchReason::CommDiffers, &members.comms)?,
+        )?;
+        Ok(RoundFaults {
+            first: Sequence::new(alloc),
+            last,
+        })
+    }
+
+    /// Those of any run. All calls are scanned.
+    fn of_scan(alloc: Global, ranks: &[RankCalls]) -> Result<RoundFaults, Memory>
         ensures first { IfOk result (λ faults. faults.first ≡ first_faults ranks.now) }
         ensures last { IfOk result (λ faults. faults.last ≡ last_faults ranks.now) }
     {
@@ -74,7 +121,6 @@ impl RoundFaults {
         Ok(RoundFaults { first, last })
     }
 }
-
 /// The faults of the calls that some member does not make, of which there are none where the counts are balanced.
 fn missing(
     alloc: Global,

@@ -1,13 +1,13 @@
 //! Who has to make a call: the members of its communicator, or of the communicator of its window.
-ghost use Rattle.std.specs.Prelude.{◌≡◌, List, IfOk};
+ghost use Rattle.std.specs.Prelude.{◌≡◌, ◌++◌, List, IfOk, OnOk};
 ghost use Rattle.rma_call.specs.Call.{RankCalls};
-ghost use Rattle.rma_sync.specs.Declaration.{declarations};
+ghost use Rattle.rma_sync.specs.Declaration.{declarations, declarations_of};
 ghost use Rattle.rma_sync.specs.Attribute.{declared, created};
 ghost use Rattle.rma_sync.specs.Member.{members_of_comm, members};
 ghost use Rattle.rma_sync.specs.inside.Member.{AreMembers};
 
 use crate::attribute::WindowAttributes;
-use crate::declaration::{Declaration, Declarations};
+use crate::declaration::{Declaration, Declarations, push_declaration};
 use rma_base::{Memory, Name, RankSet, Sequence};
 use rma_call::RankCalls;
 use rma_round::Kind;
@@ -43,6 +43,18 @@ impl Members {
         })
     }
 
+    /// Those of the run of these ranks.
+    pub(crate) fn of_calls(alloc: Global, ranks: &[RankCalls]) -> Result<Members, Memory>
+        ensures { IfOk result (λ it. AreMembers ranks.now it) }
+    {
+        let mut comms = Sequence::new(alloc);
+        let mut creations = Sequence::new(alloc);
+        for own in ranks {
+            push_declared(own, &mut comms, &mut creations)?;
+        }
+        Members::new(alloc, ranks, comms, creations)
+    }
+
     /// The ranks that have to make a call of this kind on the name.
     pub(crate) fn of(&self, kind: Kind, name: &Name) -> &[u32]
         ensures { (ranks : List RankCalls) → AreMembers ranks self.now → result.now ≡ members kind ranks name.now }
@@ -68,4 +80,22 @@ impl Members {
             None => &[],
         }
     }
+}
+
+/// Appends the communicators that the calls of a rank declare, and the windows that they create.
+fn push_declared(
+    own: &RankCalls,
+    comms: &mut Sequence<Declaration<RankSet>>,
+    creations: &mut Sequence<Declaration<WindowAttributes>>,
+) -> Result<(), Memory>
+    ensures comms { OnOk result (comms.new ≡ comms.old ++ declarations_of declared own.now.rank own.now.calls) }
+    ensures creations { OnOk result (creations.new ≡ creations.old ++ declarations_of created own.now.rank own.now.calls) }
+{
+    let calls = own.calls();
+    for i in 0..calls.len() {
+        let call = calls.get(i);
+        push_declaration(own.rank(), call, comms)?;
+        push_declaration(own.rank(), call, creations)?;
+    }
+    Ok(())
 }

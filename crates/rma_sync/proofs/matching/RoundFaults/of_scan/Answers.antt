@@ -3,7 +3,7 @@ use Rattle.rma_base.specs.declared.match_reason.MatchReason.TheVariants.{WindowD
 use Rattle.rma_sync.specs.Attribute.{same_ranks, same_attributes}
 use Rattle.rma_sync.specs.Difference.{differences}
 use Rattle.rma_sync.proofs.WalkLemmas.{appended}
-use Rattle.rma_sync.proofs.matching.RoundFaults.of_calls.Goals as goal
+use Rattle.rma_sync.proofs.matching.RoundFaults.of_scan.Goals as goal
 
 pub missing-requires-clause-calls : goal.missing-requires-clause-calls
 missing-requires-clause-calls c = λ balanced.
