@@ -1,4 +1,5 @@
 pub mod ApartLemmas
+pub mod WindowlessLemmas
 pub mod EventLemmas
 pub mod LiveLemmas
 pub mod MemberLemmas

@@ -1,5 +1,7 @@
 //! The epochs of a whole log, and its first epoch fault.
-ghost use Rattle.std.specs.Prelude.{◌≡◌, [], IfOk, OnOk};
+ghost use Rattle.std.specs.Prelude.{◌≡◌, [], IfOk, OnOk, ℕ, true, Some, None, slice_get};
+ghost use Rattle.rma_call.specs.Call.{Call};
+ghost use Rattle.rma_epoch.specs.Calls.{window_on};
 ghost use Rattle.rma_epoch.specs.Fault.{fault_of};
 ghost use Rattle.rma_epoch.specs.Table.{sound_calls, table_of};
 ghost use Rattle.rma_epoch.specs.inside.Live.{HasLocks, Represents};
@@ -8,7 +10,7 @@ use crate::fault::EpochFault;
 use crate::live::LiveEpochs;
 use crate::table::EpochOutcome;
 use rma_base::{EpochReason, Memory};
-use rma_call::RankCalls;
+use rma_call::{CallList, Group, RankCalls};
 use rma_window::Windows;
 use std::alloc::Global;
 
@@ -44,8 +46,21 @@ pub fn epoch_fault(
 ) -> Result<Option<EpochFault>, Memory>
     ensures { IfOk result (λ fault. fault ≡ fault_of windows.now own.now) }
 {
+    if are_on_no_window(own.calls()) {
+        return Ok(None);
+    }
     let mut live = LiveEpochs::new(alloc);
     take_sound(&mut live, own, windows)
+}
+
+/// Whether no call is on a window, as far as the groups of the calls tell.
+fn are_on_no_window(calls: &CallList) -> bool
+    ensures { result ≡ true → (i : ℕ) (call : Call) → slice_get calls.now.calls i ≡ Some call → window_on call.what ≡ None }
+{
+    if calls.has(Group::Epoch) || calls.has(Group::Rma) {
+        return false;
+    }
+    !calls.has(Group::Window)
 }
 
 /// Takes the sound calls of a rank, none of which is taken yet, and answers its first fault.
