@@ -1,11 +1,13 @@
 //! The order of points of small runs, as clocks tell it.
 ghost use Rattle.std.specs.Prelude.{◌≡◌, ◌<◌, ◌^◌, true, length, slice_index, [], ◌∷◌, All, IfOk};
+ghost use Rattle.rma_clock.specs.Reached.{points_of};
+ghost use Rattle.rma_clock.specs.inside.Live.{AreLive};
 ghost use Rattle.rma_link.specs.declared.links.Links.{Links};
 ghost use Rattle.rma_link.specs.Point.{IsPoint};
 ghost use Rattle.rma_link.specs.Within.{AreWithin};
 
 use rma_base::{Memory, Point, Rank, Sequence};
-use rma_clock::{Clocks, SharedClocks};
+use rma_clock::{Clocks, LiveClocks, SharedClocks};
 use rma_link::{Edge, Links, Meet, Member};
 use rma_walk::{Source, Walked, inboxes_of, walk};
 use std::alloc::Global;
@@ -135,8 +137,9 @@ fn is_point(lens: &[u32], point: Point) -> bool
 }
 
 /// Whether the clocks tell what the case says.
+#[tactic(auto, using(rma_clock::proofs::ReachedLemmas::point_reached))]
 fn holds<C: Clocks>(lens: &[u32], clocks: &C, case: &Case) -> bool
-    requires { (links : Links) × C.are_of clocks.now lens.now links }
+    requires { (links : Links) × C.are_of clocks.now (points_of lens.now) links }
 {
     let first = point(case.first.0, case.first.1);
     let second = point(case.second.0, case.second.1);
@@ -145,7 +148,7 @@ fn holds<C: Clocks>(lens: &[u32], clocks: &C, case: &Case) -> bool
 
 /// Whether they tell what all cases say.
 fn all_hold<C: Clocks>(lens: &[u32], clocks: &C, cases: &[Case]) -> bool
-    requires { (links : Links) × C.are_of clocks.now lens.now links }
+    requires { (links : Links) × C.are_of clocks.now (points_of lens.now) links }
 {
     for case in cases {
         if !holds(lens, clocks, case) {
@@ -219,6 +222,17 @@ fn waits_for(alloc: Global, lens: &[u32], links: &Links) -> Result<Sequence<Poin
     Ok(entries)
 }
 
+/// Two ranks of which rank 1 is at the return of its first call, and only the entry of the first call of rank 0 is settled.
+fn settled(alloc: Global) -> Result<LiveClocks, Memory>
+    ensures { IfOk result (λ clocks. (links : Links) × AreLive (1 ∷ 2 ∷ []) links clocks) }
+{
+    let mut clocks = LiveClocks::new(alloc, 2)?;
+    clocks.settle(point(0, 0), &[])?;
+    clocks.settle(point(1, 0), &[])?;
+    clocks.settle(point(1, 1), &[point(0, 0)])?;
+    Ok(clocks)
+}
+
 #[test]
 fn a_receive_waits_for_its_send(rt: HostRuntime) -> Result<(), Fail> {
     let links = message(rt.alloc())?;
@@ -238,5 +252,25 @@ fn a_send_comes_before_its_receive_returns(rt: HostRuntime) -> Result<(), Fail> 
 fn all_enter_a_barrier_before_one_leaves_it(rt: HostRuntime) -> Result<(), Fail> {
     let links = barrier(rt.alloc())?;
     assert!(rt; clocks_tell(rt.alloc(), &[2, 1, 3], &links, &BARRIER)?);
+    Ok(())
+}
+
+#[test]
+fn a_settled_receive_comes_after_its_send(rt: HostRuntime) -> Result<(), Fail> {
+    let clocks = settled(rt.alloc())?;
+    assert!(rt; clocks.leq(point(0, 0), point(1, 1)));
+    assert!(rt; !clocks.leq(point(1, 0), point(0, 0)));
+    assert!(rt; clocks.taken() == 3);
+    Ok(())
+}
+
+#[test]
+fn the_last_settled_point_of_a_rank_is_known(rt: HostRuntime) -> Result<(), Fail> {
+    let none = LiveClocks::new(rt.alloc(), 2)?;
+    assert!(rt; none.last(Rank(1)) == None);
+    let clocks = settled(rt.alloc())?;
+    assert!(rt; clocks.last(Rank(0)) == Some(point(0, 0)));
+    assert!(rt; clocks.last(Rank(1)) == Some(point(1, 1)));
+    assert!(rt; clocks.last(Rank(2)) == None);
     Ok(())
 }
