@@ -1,4 +1,4 @@
-use Rattle.std.proofs.Common.{◌≡◌, Some, slice_get, ap, ◌∙◌}
+use Rattle.std.proofs.Common.{ap, ◌∙◌}
 use Rattle.rma_call.specs.Call.{call_of}
 use Rattle.rma_message.specs.RankMessages.{with_call}
 use Rattle.rma_message.proofs.RunLemmas.{with_next_call}
