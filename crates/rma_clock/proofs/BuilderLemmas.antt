@@ -21,7 +21,7 @@ use Rattle.rma_clock.specs.inside.Table.{IsTable, AreShared, IsBuilder, IsSettle
 use Rattle.rma_clock.proofs.RowLemmas.{raised_then, raised_as}
 
 -- rows that get one more
-row_kept : (rows : List (List ℕ)) (numbers : List ℕ) (k : ℕ) → k < length rows → row_at (rows ++ numbers ∷ []) k ≡ row_at rows k
+pub row_kept : (rows : List (List ℕ)) (numbers : List ℕ) (k : ℕ) → k < length rows → row_at (rows ++ numbers ∷ []) k ≡ row_at rows k
 row_kept rows numbers k lt = get_or_append_left rows (numbers ∷ []) [] k lt
 
 pub row_new : (rows : List (List ℕ)) (numbers : List ℕ) (k : ℕ) → k ≡ length rows → row_at (rows ++ numbers ∷ []) k ≡ numbers

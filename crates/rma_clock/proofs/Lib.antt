@@ -6,3 +6,4 @@ pub mod BuilderLemmas
 pub mod SettleLemmas
 pub mod ReachedLemmas
 pub mod LiveLemmas
+pub mod DenseLemmas

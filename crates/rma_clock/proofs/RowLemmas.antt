@@ -1,8 +1,9 @@
 -- Rows that are raised.
-use Rattle.std.proofs.Common.{◌≡◌, ℕ, ◌<◌, ◌≤◌, ◌⊎◌, inl, inr, max, List, length, set, replicate, refl, sym, ap, ◌∙◌, arith, ⊎_elim}
-use Rattle.std.specs.Prelude.{slice_index}
+use Rattle.std.proofs.Common.{◌≡◌, ℕ, ◌<◌, ◌≤◌, ◌⊎◌, inl, inr, max, List, [], ◌∷◌, ◌++◌, length, set, replicate, refl, sym, ap, subst, ◌∙◌, arith, ⊎_elim}
+use Rattle.std.specs.Prelude.{slice_index, Contains}
 use Rattle.std.proofs.lemmas.Bool.{cases_eq, cases_lt}
 use Rattle.std.proofs.lemmas.List.{get_or-set_same, get_or-set_other, length-set}
+use Rattle.std.proofs.lemmas.List.Elements.{Contains-push, Contains-push_cases, Contains-append_left}
 use Rattle.rma_base.specs.declared.point.Point.{Point}
 use Rattle.rma_walk.proofs.ListLemmas.{replicate_at}
 use Rattle.rma_clock.specs.inside.Before.{Covers, IsRow, IsRaised}
@@ -62,6 +63,22 @@ raised_then P Q R a b c one two from to = record {
       (λ late. inr (to p (inr late)))
       (two.only p covered);
 }
+
+-- one more of these
+pub raised_by_more : {A : Type 0} (P : A → Point → Type 0) (some more : List A) (x : A) (none old new : List ℕ) → more ≡ some ++ x ∷ [] → IsRaised (λ p. (y : A) × Contains some y × P y p) none old → IsRaised (P x) old new
+    → IsRaised (λ p. (y : A) × Contains more y × P y p) none new
+raised_by_more {A = A} P some more x none old new is one two =
+    let S : List A → Point → Type 0 = λ xs p. (y : A) × Contains xs y × P y p in
+    subst (λ xs. IsRaised (S xs) none new) (sym is)
+    (raised_then (S some) (P x) (S (some ++ x ∷ [])) none old new one two
+    (λ p found. ⊎_elim
+    (λ early. inl (found.0, early, found.2))
+    (λ (last : x ≡ found.0). inr (subst (λ y. P y p) (sym last) found.2))
+    (Contains-push_cases some x found.0 found.1))
+    (λ p either. ⊎_elim
+    (λ (found : S some p). (found.0, Contains-append_left some (x ∷ []) found.0 found.1, found.2))
+    (λ last. (x, Contains-push some x, last))
+    either))
 
 pub raised_as : (P R : Point → Type 0) (a b : List ℕ) → IsRaised P a b → ((p : Point) → R p → P p) → ((p : Point) → P p → R p) → IsRaised R a b
 raised_as P R a b one from to = record {

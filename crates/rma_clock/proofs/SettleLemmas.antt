@@ -41,11 +41,26 @@ source_entry lens links r c (Meet index) e within is (m, there, (member, has, fr
     let P : IsEntry lens (entry member.rank member.call) = (member.call, one, refl) in
     subst (IsEntry lens) (sym from) P
 
-source_known : (lens : List ℕ) (links : Links) (r c : ℕ) (source : Source) → AreWithin lens links → IsSourceOf links r c source → IsSource (length lens) links source
+pub source_known : (lens : List ℕ) (links : Links) (r c : ℕ) (source : Source) → AreWithin lens links → IsSourceOf links r c source → IsSource (length lens) links source
 source_known lens links r c (Entry from) within is =
     let start = (All-contains (IsEdgeWithin lens) links.edges _ within.edges (edge_source links r c from is)).0 in
     in_ranks lens from.rank.0 start.0 start.1
 source_known lens links r c (Meet index) within is = let found = meet_source links r c index is in slice_get_within links.meets index found.0 found.1
+
+-- a point of the run is in range
+pub in_range : (lens : List ℕ) → All (λ n. n < 2 ^ 31) lens → (e : Point) → IsPoint lens e → (e.rank.0 < length lens) × (e.pos + 1 < 2 ^ 32)
+in_range lens calls e point =
+    let there : e.rank.0 < length lens = in_ranks lens e.rank.0 (e.pos / 2) (omega arith) in
+    let bound : slice_index lens e.rank.0 < 2 ^ 31 = calls e.rank.0 0 there in
+    (there, omega arith)
+
+is_return : (q : Point) → q.pos % 2 ≡ 1 → q ≡ return_of q.rank (q.pos / 2)
+is_return q odd = same_point q (return_of q.rank (q.pos / 2)) refl (omega arith)
+
+-- and a return of it receives its sources
+pub received_at : (lens : List ℕ) (links : Links) (inboxes : List (List (List Source))) → AreSources lens links inboxes → (q : Point) → q.pos % 2 ≡ 1 → IsReceived links q (sources_of (slice_index_or inboxes q.rank.0 []) (q.pos / 2))
+received_at lens links inboxes sources q odd =
+    subst (λ t. IsReceived links t (sources_of (slice_index_or inboxes q.rank.0 []) (q.pos / 2))) (sym (is_return q odd)) (received lens links inboxes sources q.rank.0 (q.pos / 2))
 
 -- what of the order is settled
 pub record IsSettledTo (links : Links) (order : List Point) (steps : List (List Step)) (i : ℕ) : Type 0 where
@@ -89,23 +104,14 @@ module _ (lens : List ℕ) (links : Links) (order : List Point) (within : AreWit
       (cases_lt q.pos s.pos)
 
   module _ (calls : All (λ n. n < 2 ^ 31) lens) (inboxes : List (List (List Source))) (sources : AreSources lens links inboxes) (q : Point) (here : IsAt order i q) (odd : q.pos % 2 ≡ 1) where
-    pub is_return : q ≡ return_of q.rank (q.pos / 2)
-    is_return = same_point q (return_of q.rank (q.pos / 2)) refl (omega arith)
-
     abbrev own_sources : List Source
     own_sources = sources_of (slice_index_or inboxes q.rank.0 []) (q.pos / 2)
 
     pub received_here : IsReceived links q own_sources
-    received_here = subst (λ t. IsReceived links t own_sources) (sym is_return) (received lens links inboxes sources q.rank.0 (q.pos / 2))
+    received_here = received_at lens links inboxes sources q odd
 
     before_here : (e : Point) → IsBefore links q e → IsAtOrBefore links e q
     before_here e (d, step, le) = before le step
-
-    in_range : (e : Point) → IsPoint lens e → (e.rank.0 < length lens) × (e.pos + 1 < 2 ^ 32)
-    in_range e point =
-        let there : e.rank.0 < length lens = in_ranks lens e.rank.0 (e.pos / 2) (omega arith) in
-        let bound : slice_index lens e.rank.0 < 2 ^ 31 = calls e.rank.0 0 there in
-        (there, omega arith)
 
     pub caught_own : IsCaught links steps (entry_before q)
     caught_own =
@@ -115,7 +121,7 @@ module _ (lens : List ℕ) (links : Links) (order : List Point) (within : AreWit
         (λ same. let alike : q.pos - 1 ≡ q.pos = ap (λ (p : Point). p.pos) same in absurd (omega arith))
 
     pub rank_here : q.rank.0 < length lens
-    rank_here = (in_range q (is.only i q here)).0
+    rank_here = (in_range lens calls q (is.only i q here)).0
 
     pub usable_here : All (IsUsable (length lens) links steps) own_sources
     usable_here k d lt =
@@ -129,7 +135,7 @@ module _ (lens : List ℕ) (links : Links) (order : List Point) (within : AreWit
               let even : e.pos ≡ 2 * start.0 = start.2 in
               let point : IsPoint lens e = omega arith in
               let le = before_here e (received_here.from e (inr (source, has, (e, entry_is, at)))) in
-              let range = in_range e point in
+              let range = in_range lens calls e point in
               (caught_before q e here point le (λ same. let alike : e.pos ≡ q.pos = ap (λ (p : Point). p.pos) same in absurd (omega arith)), range.0, range.1),
         )
 
@@ -142,7 +148,7 @@ module _ (lens : List ℕ) (links : Links) (order : List Point) (within : AreWit
           let same : q ≡ t = same_Some q t (sym here ∙ subst (λ k. IsAt order k t) (sym index) at_j) in
           let P : Point → Type 0 = λ x. (s : Step) × Contains (steps_of new x.rank.0) s × (s.pos ≡ x.pos) in
           let to_q : IsLinked links p q = subst (IsLinked links p) (sym same) linked in
-          subst P same (more.added (some_source lens links inboxes sources q.rank.0 (q.pos / 2) p (subst (IsLinked links p) is_return to_q))))
+          subst P same (more.added (some_source lens links inboxes sources q.rank.0 (q.pos / 2) p (subst (IsLinked links p) (is_return q odd) to_q))))
           (cases_lt j i);
       earlier = λ r s has. ⊎_elim
           (λ (before_it : Contains (steps_of steps r) s). let found = settled.earlier r s before_it in let lt = found.1 in (found.0, omega arith, found.2))

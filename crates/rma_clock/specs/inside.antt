@@ -1,3 +1,4 @@
 pub mod Before
 pub mod Table
 pub mod Live
+pub mod Dense

@@ -4,10 +4,12 @@
 //! rank, how many of its points are before, and only at returns that receive something. All returns of a meet share theirs, and
 //! a point finds its own by a binary search of its rank, so a point that receives nothing takes no memory. [`LiveClocks`] keep the
 //! same table while a run is still read: its points are settled one by one, each with the points that it comes after.
+//! [`DenseClocks`] are plain: a row for each point of a whole run. Tests compare others with them.
 #![tactic(auto)]
 
 mod builder;
 mod clocks;
+mod dense;
 mod live;
 mod row;
 mod shared;
@@ -15,5 +17,6 @@ mod step;
 mod table;
 
 pub use clocks::Clocks;
+pub use dense::DenseClocks;
 pub use live::LiveClocks;
 pub use shared::SharedClocks;

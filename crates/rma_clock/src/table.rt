@@ -28,7 +28,7 @@ impl Table {
         ensures rows { IfOk result (λ table. table.rows.items ≡ []) }
     {
         Ok(Table {
-            steps: no_steps(alloc, ranks)?,
+            steps: empty_lists(alloc, ranks)?,
             rows: Vec::new(alloc),
         })
     }
@@ -113,13 +113,13 @@ impl Table {
     }
 }
 
-/// No steps, of so many ranks.
-fn no_steps(alloc: Global, ranks: usize) -> Result<Vec<Sequence<Step>>, Memory>
-    ensures { IfOk result (λ steps. steps.items ≡ replicate ranks []) }
+/// An empty list for each of so many ranks.
+pub(crate) fn empty_lists<T: Drop>(alloc: Global, ranks: usize) -> Result<Vec<Sequence<T>>, Memory>
+    ensures { IfOk result (λ lists. lists.items ≡ replicate ranks []) }
 {
-    let mut steps = Vec::new(alloc);
+    let mut lists = Vec::new(alloc);
     for _rank in 0..ranks {
-        steps.push(Sequence::new(alloc))?;
+        lists.push(Sequence::new(alloc))?;
     }
-    Ok(steps)
+    Ok(lists)
 }

@@ -1,7 +1,9 @@
 -- What rows of numbers say of points.
 use Rattle.std.specs.Prelude.{ℕ, ◌≡◌, ◌<◌, ◌⊎◌, ◌+◌, List, Option, Some, None, length, slice_index, Contains}
 use Rattle.rma_base.specs.declared.point.Point.{Point}
+use Rattle.rma_link.specs.declared.meet.Member.{Member}
 use Rattle.rma_link.specs.declared.links.Links.{Links}
+use Rattle.rma_link.specs.Point.{entry}
 use Rattle.rma_link.specs.Order.{IsDirectlyBefore, IsAtOrBefore}
 use Rattle.rma_walk.specs.declared.source.Source.{Source}
 use Rattle.rma_walk.specs.Source.{IsEntryOf}
@@ -25,6 +27,10 @@ IsBeforeSource links source p = (e : Point) × IsEntryOf links source e × IsAtO
 -- a point is at or before an entry of one of these sources
 abbrev pub IsBeforeSome : Links → List Source → Point → Type 0
 IsBeforeSome links sources p = (source : Source) × Contains sources source × IsBeforeSource links source p
+
+-- a point is at or before the entry of one of these calls
+abbrev pub IsBeforeMember : Links → List Member → Point → Type 0
+IsBeforeMember links members p = (m : Member) × Contains members m × IsAtOrBefore links p (entry m.rank m.call)
 
 -- a row covers these points and no others
 pub record IsRow (IsIn : Point → Type 0) (row : List ℕ) : Type 0 where

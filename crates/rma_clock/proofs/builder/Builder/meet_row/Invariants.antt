@@ -1,6 +1,5 @@
 use Rattle.std.proofs.Common.{length, take, replicate}
-use Rattle.rma_clock.specs.inside.Before.{IsRaised}
-use Rattle.rma_clock.proofs.MeetLemmas.{IsBeforeMember}
+use Rattle.rma_clock.specs.inside.Before.{IsBeforeMember, IsRaised}
 use Rattle.rma_clock.proofs.builder.Builder.meet_row.Given as goal
 
 abbrev pub invariant-loop-member : goal.invariant-loop-member
