@@ -7,7 +7,7 @@ ghost use Rattle.rma_link.specs.Point.{IsPoint};
 ghost use Rattle.rma_link.specs.Within.{AreWithin};
 
 use rma_base::{Memory, Point, Rank, Sequence};
-use rma_clock::{Clocks, LiveClocks, SharedClocks};
+use rma_clock::{Clocks, DenseClocks, LiveClocks, SharedClocks};
 use rma_link::{Edge, Links, Meet, Member};
 use rma_walk::{Source, Walked, inboxes_of, walk};
 use std::alloc::Global;
@@ -173,6 +173,68 @@ fn clocks_tell(alloc: Global, lens: &[u32], links: &Links, cases: &[Case]) -> Re
     }
 }
 
+/// Whether both clocks answer alike on the two points.
+#[tactic(auto, using(rma_clock::proofs::ReachedLemmas::point_reached))]
+fn alike<C: Clocks, D: Clocks>(
+    lens: &[u32],
+    clocks: &C,
+    others: &D,
+    first: Point,
+    second: Point,
+) -> bool
+    requires { (links : Links) × C.are_of clocks.now (points_of lens.now) links × D.are_of others.now (points_of lens.now) links }
+{
+    is_point(lens, first)
+        && is_point(lens, second)
+        && clocks.leq(first, second) == others.leq(first, second)
+}
+
+/// Whether they do on this point and each of those.
+fn alike_after<C: Clocks, D: Clocks>(
+    lens: &[u32],
+    clocks: &C,
+    others: &D,
+    first: Point,
+    points: &[Point],
+) -> bool
+    requires { (links : Links) × C.are_of clocks.now (points_of lens.now) links × D.are_of others.now (points_of lens.now) links }
+{
+    for second in points {
+        if !alike(lens, clocks, others, first, *second) {
+            return false;
+        }
+    }
+    true
+}
+
+/// Whether they do on all pairs of the points.
+fn all_alike<C: Clocks, D: Clocks>(lens: &[u32], clocks: &C, others: &D, points: &[Point]) -> bool
+    requires { (links : Links) × C.are_of clocks.now (points_of lens.now) links × D.are_of others.now (points_of lens.now) links }
+{
+    for first in points {
+        if !alike_after(lens, clocks, others, *first, points) {
+            return false;
+        }
+    }
+    true
+}
+
+/// Whether shared and dense clocks of the run, if it is possible, answer alike on all pairs of its points.
+fn clocks_agree(alloc: Global, lens: &[u32], links: &Links) -> Result<bool, Memory>
+    requires ranks { length lens.now < 2 ^ 32 }
+    requires calls { All (λ calls. calls < 2 ^ 31) lens.now }
+    requires links { AreWithin lens.now links.now }
+{
+    match walk(alloc, lens, links)? {
+        Walked::Order(order) => {
+            let shared = SharedClocks::build(alloc, lens, links, &order)?;
+            let dense = DenseClocks::build(alloc, lens, links, order.as_slice())?;
+            Ok(all_alike(lens, &shared, &dense, order.as_slice()))
+        }
+        Walked::Stuck(_) => Ok(false),
+    }
+}
+
 /// A message that rank 0 sends to rank 1, where each makes one call.
 fn message(alloc: Global) -> Result<Links, Memory>
     ensures { IfOk result (λ links. AreWithin (1 ∷ 1 ∷ 0 ∷ []) links) }
@@ -185,9 +247,9 @@ fn message(alloc: Global) -> Result<Links, Memory>
     Ok(links)
 }
 
-/// A barrier of three ranks, the last call of each.
-fn barrier(alloc: Global) -> Result<Links, Memory>
-    ensures { IfOk result (λ links. AreWithin (2 ∷ 1 ∷ 3 ∷ []) links) }
+/// The last call of each of three ranks.
+fn last_calls(alloc: Global) -> Result<Sequence<Member>, Memory>
+    ensures { IfOk result (λ calls. calls ≡ record { rank = record { 0 = 0 }; call = 1 } ∷ record { rank = record { 0 = 1 }; call = 0 } ∷ record { rank = record { 0 = 2 }; call = 2 } ∷ []) }
 {
     let mut calls = Sequence::new(alloc);
     calls.push(Member {
@@ -202,8 +264,32 @@ fn barrier(alloc: Global) -> Result<Links, Memory>
         rank: Rank(2),
         call: 2,
     })?;
+    Ok(calls)
+}
+
+/// A barrier of three ranks, the last call of each.
+fn barrier(alloc: Global) -> Result<Links, Memory>
+    ensures { IfOk result (λ links. AreWithin (2 ∷ 1 ∷ 3 ∷ []) links) }
+{
     let mut links = Links::new(alloc);
-    links.push_meet(Meet { calls })?;
+    links.push_meet(Meet {
+        calls: last_calls(alloc)?,
+    })?;
+    Ok(links)
+}
+
+/// A message that rank 0 sends to rank 2, and then a barrier of three ranks.
+fn message_and_barrier(alloc: Global) -> Result<Links, Memory>
+    ensures { IfOk result (λ links. AreWithin (2 ∷ 1 ∷ 3 ∷ []) links) }
+{
+    let mut links = Links::new(alloc);
+    links.push_edge(Edge {
+        from: point(0, 0),
+        to: point(2, 3),
+    })?;
+    links.push_meet(Meet {
+        calls: last_calls(alloc)?,
+    })?;
     Ok(links)
 }
 
@@ -252,6 +338,13 @@ fn a_send_comes_before_its_receive_returns(rt: HostRuntime) -> Result<(), Fail> 
 fn all_enter_a_barrier_before_one_leaves_it(rt: HostRuntime) -> Result<(), Fail> {
     let links = barrier(rt.alloc())?;
     assert!(rt; clocks_tell(rt.alloc(), &[2, 1, 3], &links, &BARRIER)?);
+    Ok(())
+}
+
+#[test]
+fn dense_clocks_answer_as_shared_ones(rt: HostRuntime) -> Result<(), Fail> {
+    let links = message_and_barrier(rt.alloc())?;
+    assert!(rt; clocks_agree(rt.alloc(), &[2, 1, 3], &links)?);
     Ok(())
 }
 
