@@ -3,13 +3,13 @@ use crate::shorthand::Short::{
     Complete, Exclusive, Expwait, Fence, Flush, FlushAll, FlushLocal, FlushLocalAll, Free, LockAll,
     Post, Put, PutNull, Rput, Shared, Start, Sync, Unlock, UnlockAll,
 };
-use crate::shorthand::{Short, calls_of, creation};
+use crate::shorthand::{Short, calls_of};
 use rma_base::EpochReason::{
     AccessOverlap, CloseWithoutOpen, EpochLeftOpen, ExposureOverlap, FenceInEpoch,
     FlushOutsidePassive, NoEpoch, NoPrecedeBroken, NotMember, OutsideWindow, RequestOutsidePassive,
 };
-use rma_base::{EpochReason, LineNo, Rank};
-use rma_call::{CallRef, WhatRef};
+use rma_base::{AccOps, EpochReason, LineNo, Name, Rank, WinModel};
+use rma_call::{CallRef, WhatRef, WindowCall};
 use rma_epoch::{EpochFault, LiveEpochs, epoch_fault};
 use rma_window::Windows;
 use std::alloc::Global;
@@ -252,7 +252,16 @@ static CASES: [Case; 40] = [
 
 /// The window, with the parts of two ranks.
 pub fn windows(alloc: Global) -> Result<Windows, Fail> {
-    let call = creation(alloc)?;
+    let call = WindowCall::Create {
+        window: Name::new(alloc, b"W")?,
+        comm: Name::new(alloc, b"world")?,
+        base: 4096,
+        size: 64,
+        unit: 4,
+        model: WinModel::Unified,
+        ops: AccOps::SameOp,
+        dynamic: false,
+    };
     let creation = CallRef {
         line: LineNo(2),
         site: None,

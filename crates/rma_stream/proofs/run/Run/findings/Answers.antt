@@ -23,17 +23,17 @@ found_in : (pass own : Pass) (kept : Outcomes) (calls : List RankCalls) (answer 
 found_in pass own kept calls (Ok found) same is finds = λ ends are. subst (λ p. Finds ends p found) (sym is) (finds ends (same ∙ are.calls_are))
 found_in pass own kept calls (Err memory) same is finds = tt
 
-pub returns-in-Matching : goal.returns-in-Matching
-returns-in-Matching c =
-    found_in c.args.pass Matching c.args.self.now.outcomes c.as_slice-calls.result.now c.mismatches.result c.as_slice-calls.ensures c.in-Matching.is
+pub returns-in_ok-matches-in-Matching : goal.returns-in_ok-matches-in-Matching
+returns-in_ok-matches-in-Matching c =
+    found_in c.args.pass Matching c.args.self.now.outcomes c.as_slice-calls.result.now c.mismatches.result c.as_slice-calls.ensures.value c.in-Matching.is
     (λ ends same. subst (λ (calls : List RankCalls). IfOk c.mismatches.result (λ found. found ≡ map Mismatch (match_faults calls))) same c.mismatches.ensures)
 
-pub returns-in-Order : goal.returns-in-Order
-returns-in-Order c =
-    found_in c.args.pass Order c.args.self.now.outcomes c.as_slice-calls.result.now c.impossible_findings.result c.as_slice-calls.ensures c.in-Order.is
+pub returns-in_ok-matches-in-Order : goal.returns-in_ok-matches-in-Order
+returns-in_ok-matches-in-Order c =
+    found_in c.args.pass Order c.args.self.now.outcomes c.as_slice-calls.result.now c.impossible_findings.result c.as_slice-calls.ensures.value c.in-Order.is
     (λ ends same. subst (λ (calls : List RankCalls). IfOk c.impossible_findings.result (λ found. (told : List ImpossibleCall) × AreImpossibleCalls calls told × (found ≡ map impossible told))) same c.impossible_findings.ensures)
 
 pub returns-in-Epochs : goal.returns-in-Epochs
 returns-in-Epochs c =
-    found_in c.args.pass Epochs c.args.self.now.outcomes c.as_slice-calls.result.now c.epoch_findings.result c.as_slice-calls.ensures c.in-Epochs.is
+    found_in c.args.pass Epochs c.args.self.now.outcomes c.as_slice-calls.result.now c.epoch_findings.result c.as_slice-calls.ensures.value c.in-Epochs.is
     (λ ends same. subst (λ (calls : List RankCalls). IfOk c.epoch_findings.result (λ found. found ≡ filter_map (epoch_finding (windows_by (creations calls))) calls)) same c.epoch_findings.ensures)
