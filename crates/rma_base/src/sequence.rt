@@ -33,6 +33,20 @@ impl<T> Sequence<T> {
         }
     }
 
+    /// The empty list, with room for so many items.
+    ///
+    /// # Errors
+    ///
+    /// `Memory` where there is none left.
+    pub fn with_capacity(alloc: Global, items: usize) -> Result<Self, Memory>
+        ensures { IfOk result (λ list. list ≡ []) }
+    {
+        match Vec::with_capacity(alloc, items) {
+            Ok(items) => Ok(Sequence { items }),
+            Err(_) => Err(Memory),
+        }
+    }
+
     /// The number of items.
     pub fn len(&self) -> usize
         ensures { result ≡ length self.now }

@@ -117,11 +117,11 @@ impl CallList {
     }
 
     /// How many numbers there are of what calls do: one for each call that does something new. What each call does has one.
-    pub fn whats(&self) -> usize
+    pub fn whats(&self) -> u32
         ensures count { result ≡ length self.now.whats }
         ensures each { (i : ℕ) (call : Call) → slice_get self.now.calls i ≡ Some call → (number : ℕ) × (slice_get self.now.whats number ≡ Some call.what) }
     {
-        self.places.len()
+        self.places.len() as u32
     }
 
     /// Whether a call may be of the group: where not, none is.

@@ -7,7 +7,7 @@ pub enum Group {
     Frame,
     /// Messages.
     Message,
-    /// Creations of windows, and what frees them.
+    /// Creations of windows, what frees them, and what attaches memory to them or detaches it.
     Window,
     /// Calls that open, complete or close an epoch.
     Epoch,

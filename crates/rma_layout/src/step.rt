@@ -30,30 +30,25 @@ pub(crate) enum Step {
     Again { count: u64, stride: i128 },
 }
 
-/// The only row, as a step.
-fn one_row(i: usize, row: Row) -> Option<Step>
-    ensures value { result ≡ slice_get (Step.Copies row ∷ []) i }
-    ensures over { IsStepOver row.old result }
+/// The i-th of one step: copies of the old datatype from displacement 0 on.
+fn one_row(i: usize, old: TypeId, count: u64) -> Option<Step>
+    ensures value { result ≡ slice_get (a_row old count (pos 0) ∷ []) i }
+    ensures over { IsStepOver old result }
 {
     if i == 0 {
-        Some(Step::Copies(row))
+        Some(Step::Copies(Row { old, count, at: 0 }))
     } else {
         None
     }
 }
 
-/// The i-th of two steps: a row, and the same so often in all, a stride apart.
-fn row_of_rows(i: usize, count: u64, row: Row, stride: i128) -> Option<Step>
-    requires { row.at ≡ pos 0 }
-    ensures over { IsStepOver row.old result }
-    ensures value { result ≡ slice_get (rows count row.old row.count stride) i }
+/// The i-th of two steps: a block of so many copies, and blocks so often in all, a stride apart.
+fn vector(i: usize, old: TypeId, count: u64, length: u64, stride: i128) -> Option<Step>
+    ensures over { IsStepOver old result }
+    ensures value { result ≡ slice_get (rows count old length stride) i }
 {
     if i == 0 {
-        let there = if count == 0 { 0 } else { row.count };
-        Some(Step::Copies(Row {
-            count: there,
-            ..row
-        }))
+        one_row(i, old, if count == 0 { 0 } else { length })
     } else if i == 1 {
         Some(Step::Again {
             count: count.saturating_sub(1),
@@ -181,14 +176,7 @@ fn single(
     ensures memory { IfErr result (λ e. e ≡ LayoutError.Memory) }
 {
     match constructor {
-        Make::Contiguous { count, .. } => Ok(one_row(
-            i,
-            Row {
-                old,
-                count: copies(*count),
-                at: 0,
-            },
-        )),
+        Make::Contiguous { count, .. } => Ok(one_row(i, old, copies(*count))),
         Make::Vector {
             count,
             length,
@@ -196,32 +184,17 @@ fn single(
             ..
         } => {
             let stride = product(i128::from(*stride), extent)?;
-            Ok(row_of_rows(
-                i,
-                copies(*count),
-                Row {
-                    old,
-                    count: copies(*length),
-                    at: 0,
-                },
-                stride,
-            ))
+            Ok(vector(i, old, copies(*count), copies(*length), stride))
         }
         Make::Hvector {
             count,
             length,
             stride,
             ..
-        } => Ok(row_of_rows(
-            i,
-            copies(*count),
-            Row {
-                old,
-                count: copies(*length),
-                at: 0,
-            },
-            i128::from(*stride),
-        )),
+        } => {
+            let stride = i128::from(*stride);
+            Ok(vector(i, old, copies(*count), copies(*length), stride))
+        }
         Make::Indexed { blocks, .. } => indexed(i, blocks.as_slice(), old, extent),
         Make::Hindexed { blocks, .. } => Ok(hindexed(i, blocks.as_slice(), old)),
         Make::IndexedBlock {
@@ -230,14 +203,7 @@ fn single(
             ..
         } => indexed_block(i, *length, displacements.as_slice(), old, extent),
         Make::Struct { .. } => Ok(None),
-        Make::Resized { .. } => Ok(one_row(
-            i,
-            Row {
-                old,
-                count: 1,
-                at: 0,
-            },
-        )),
+        Make::Resized { .. } => Ok(one_row(i, old, 1)),
         Make::Subarray {
             order,
             dimensions,

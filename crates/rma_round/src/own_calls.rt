@@ -96,24 +96,11 @@ fn places(
     ensures lists { OnOk result ((name : List ℕ) → list_of lists.new.entries name ≡ list_of lists.old.entries name) }
 {
     let mut places = Vec::new(alloc);
-    for number in 0..count(calls)? {
+    for number in 0..calls.whats() {
         let place = place_for(alloc, kind, calls.what(number), lists)?;
         places.push(place)?;
     }
     Ok(places)
-}
-
-/// How many numbers there are of what calls do.
-fn count(calls: &CallList) -> Result<u32, Memory>
-    ensures count { IfOk result (λ count. count ≡ length calls.now.whats) }
-    ensures each { OnOk result (HasNumbers calls.now.whats calls.now.calls) }
-{
-    let count = calls.whats();
-    if count <= u32::MAX as usize {
-        Ok(count as u32)
-    } else {
-        Err(Memory)
-    }
 }
 
 /// The place of the name that calls are on which do this, if they are of the kind.
