@@ -3,7 +3,11 @@
 #![tactic(auto)]
 
 #[cfg(test)]
+mod access_fields;
+#[cfg(test)]
 mod accesses;
+#[cfg(test)]
+mod call_fields;
 #[cfg(test)]
 mod calls;
 #[cfg(test)]

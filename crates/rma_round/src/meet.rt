@@ -46,7 +46,7 @@ fn longest(rows: &[RankRounds<'_>]) -> usize
 fn members(alloc: Global, rows: &[RankRounds<'_>], place: usize) -> Result<Sequence<Member>, Memory>
     ensures { IfOk result (λ members. members ≡ filter_map (member_in place) (row_entries rows.now)) }
 {
-    let mut members = Sequence::new(alloc);
+    let mut members = Sequence::with_capacity(alloc, rows.len())?;
     for row in rows {
         push_member(&mut members, *row, place)?;
     }
