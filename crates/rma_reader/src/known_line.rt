@@ -6,15 +6,22 @@ use rma_base::{Memory, Version};
 use std::alloc::Global;
 use std::marker::Model;
 
-/// The words of a line without its site, and the call that they state.
+/// The words of a line without its site, and the call that they state. All of it stands in a place of its own: most slots of the
+/// known lines are empty, and take the room of a pointer.
 #[derive(Drop)]
 pub(crate) struct KnownLine {
+    stated: Box<StatedWords>,
+}
+
+/// Words and the call that they state.
+#[derive(Drop)]
+struct StatedWords {
     /// The version of the format in which they state it.
     version: Version,
     /// The words.
     words: Vec<u8>,
     /// What they state: a call.
-    event: Box<ReadEvent>,
+    event: ReadEvent,
 }
 
 impl Model for KnownLine {
@@ -22,7 +29,7 @@ impl Model for KnownLine {
 
     ghost Value = { Known };
 
-    ghost view = { λ line. record { version = line.version; words = line.words.items; event = line.event.value } };
+    ghost view = { λ line. record { version = line.stated.value.version; words = line.stated.value.words.items; event = line.stated.value.event } };
 }
 
 impl KnownLine {
@@ -36,11 +43,13 @@ impl KnownLine {
         ensures { IfOk result (λ line. line ≡ record { version = version; words = words.now; event = event }) }
     {
         let words = Vec::from_slice(alloc, words)?;
-        let event = Box::new(alloc, event)?;
-        Ok(KnownLine {
+        let stated = StatedWords {
             version,
             words,
             event,
+        };
+        Ok(KnownLine {
+            stated: Box::new(alloc, stated)?,
         })
     }
 
@@ -50,7 +59,8 @@ impl KnownLine {
         ensures version { result ≡ true → self.now.version ≡ version }
         ensures words { result ≡ true → self.now.words ≡ words.now }
     {
-        self.version == version && self.words.as_slice() == words
+        let stated = &self.stated;
+        stated.version == version && stated.words.as_slice() == words
     }
 
     /// What they state.
@@ -58,6 +68,6 @@ impl KnownLine {
     pub(crate) fn event(&self) -> &ReadEvent
         ensures { result.now ≡ self.now.event }
     {
-        &self.event
+        &self.stated.event
     }
 }
