@@ -1,6 +1,13 @@
+pub mod FoundLemmas
+pub mod KeptLemmas
+pub mod KeyListLemmas
+pub mod LiveLemmas
 pub mod MatchLemmas
 pub mod NoMessageLemmas
 pub mod NumberLemmas
 pub mod NumberedLemmas
+pub mod PlaceLemmas
 pub mod ReceiveLemmas
 pub mod RunLemmas
+pub mod SourceEdgeLemmas
+pub mod SourceLemmas

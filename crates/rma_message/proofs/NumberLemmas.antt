@@ -56,7 +56,7 @@ module _ (limit : ℕ) where
   completed_done (suc index) completion (r ∷ rs) lt all =
       All-cons (IsDone limit) r (complete_at index completion rs) (All-head (IsDone limit) r rs all) (completed_done index completion rs lt (All-tail (IsDone limit) r rs all))
 
-  waited_done : (request : Option ℕ) (received : Option Received) (number : ℕ) (rs : List Receive) → number < limit → All (IsDone limit) rs → All (IsDone limit) (waited request received number rs)
+  pub waited_done : (request : Option ℕ) (received : Option Received) (number : ℕ) (rs : List Receive) → number < limit → All (IsDone limit) rs → All (IsDone limit) (waited request received number rs)
   waited_done None received number rs lt all = all
   waited_done (Some request) None number rs lt all = all
   waited_done (Some request) (Some received) number rs lt all = by (open_at request rs)
@@ -162,3 +162,33 @@ messages_numbered (own ∷ ranks) all =
       receives = All-append IsNumbered (receives_in (messages_by own)) (flat_map (λ (r : RankCalls). receives_in (messages_by r)) ranks)
           (numbered (IsMadeBy (length own.calls) own.rank) (receives_in (messages_by own)) (λ e made. let lt = made.1 in omega arith) (rank_receives own)) rest.receives;
     }
+
+-- the calls of a rank complete its receives
+pub calls_before : (rank : Rank) (calls : List Call) → All (λ r. IfSome r.completion (λ c. c.call < length calls)) (with_calls (no_messages rank) 0 calls).receives
+calls_before rank calls = (rank_done (record { rank = rank; calls = calls; end = record { 0 = 0 } })).receives
+
+-- the messages of a rank are its own
+pub calls_rank : (rank : Rank) (calls : List Call) → (with_calls (no_messages rank) 0 calls).rank ≡ rank
+calls_rank rank calls = (rank_done (record { rank = rank; calls = calls; end = record { 0 = 0 } })).rank_is
+
+-- a rank makes its sends
+pub sends_from : (own : RankCalls) → All (λ e. e.key.from ≡ own.rank) (messages_by own).sends
+sends_from own = λ k d lt. ((rank_done own).sends k d lt).0
+
+ends_to : (rank : Rank) (rs : List Receive) → All (λ e. e.key.to ≡ rank) (filter_map (end_of rank) rs)
+ends_to rank [] = All-nil (λ e. e.key.to ≡ rank)
+ends_to rank (r ∷ rs) = by r.completion (ends_to rank rs)
+  where
+    by : (completion : Option Completion) → All (λ e. e.key.to ≡ rank) (filter_map (end_of rank) rs)
+        → All (λ e. e.key.to ≡ rank) (cons_option (end_of rank (record r { completion = completion })) (filter_map (end_of rank) rs))
+    by None rest = rest
+    by (Some c) rest =
+        All-cons (λ (e : End). e.key.to ≡ rank) (record { key = record { from = c.from; to = rank; comm = r.comm; tag = c.tag }; rank = rank; call = c.call; line = r.line }) (filter_map (end_of rank) rs) refl rest
+
+-- and gets its receives
+pub receives_to : (own : RankCalls) → All (λ e. e.key.to ≡ own.rank) (receives_in (messages_by own))
+receives_to own = subst (λ r. All (λ e. e.key.to ≡ own.rank) (filter_map (end_of r) (messages_by own).receives)) (sym (rank_done own).rank_is) (ends_to own.rank (messages_by own).receives)
+
+-- it makes the calls that complete them
+pub receives_by : (own : RankCalls) → All (λ e. e.rank ≡ own.rank) (receives_in (messages_by own))
+receives_by own = λ k d lt. (rank_receives own k d lt).0

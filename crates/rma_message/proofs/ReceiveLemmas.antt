@@ -55,18 +55,18 @@ list_any_complete request zero completion (r ∷ rs) = refl
 list_any_complete request (suc index) completion (r ∷ rs) = ap (λ b. makes request r || b) (list_any_complete request index completion rs)
 
 -- the index of a pending receive is past the first one, or the first one is pending
-record IsLater (some : Bool) (found : Option ℕ) (index : ℕ) : Type 0 where
-  there : some ≡ true
-  before : ℕ
-  is : found ≡ Some before
-  next : index ≡ suc before
+pub record IsLater (some : Bool) (found : Option ℕ) (index : ℕ) : Type 0 where
+  pub there : some ≡ true
+  pub before : ℕ
+  pub is : found ≡ Some before
+  pub next : index ≡ suc before
 
-record IsFirst (some own : Bool) (index : ℕ) : Type 0 where
-  absent : some ≡ false
-  here : own ≡ true
-  first : index ≡ 0
+pub record IsFirst (some own : Bool) (index : ℕ) : Type 0 where
+  pub absent : some ≡ false
+  pub here : own ≡ true
+  pub first : index ≡ 0
 
-where_open : (some own : Bool) (found : Option ℕ) (index : ℕ) → cond some (option_map suc found) (cond own (Some 0) None) ≡ Some index → IsLater some found index ⊎ IsFirst some own index
+pub where_open : (some own : Bool) (found : Option ℕ) (index : ℕ) → cond some (option_map suc found) (cond own (Some 0) None) ≡ Some index → IsLater some found index ⊎ IsFirst some own index
 where_open true own None index at = cc
 where_open true own (Some before) index at = inl (record { there = refl; before = before; is = refl; next = sym (same_Some (suc before) index at) })
 where_open false true found index at = inr (record { absent = refl; here = refl; first = sym (same_Some 0 index at) })

@@ -3,4 +3,5 @@ pub mod Receive
 pub mod RankMessages
 pub mod Matching
 pub mod Messages
+pub mod Source
 pub mod inside

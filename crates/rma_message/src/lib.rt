@@ -7,20 +7,29 @@
 //!
 //! The messages of a run have two answers: the ends that nothing matches, as faults, and an edge for each message, from the
 //! entry of its send to the return of the call that completes its receive.
+//!
+//! [`LiveMessages`] takes one call of any rank at a time, and answers for a call that completes a receive where its message
+//! comes from, as soon as the calls that are taken settle that.
 #![tactic(auto)]
 
+mod comm_receives;
 mod edge;
 mod end;
 mod fault;
 mod key;
 pub mod laws;
+mod live;
 mod messages;
 mod queue;
 mod rank_messages;
+mod rank_receives;
 mod receive;
+mod source;
 
 pub use end::End;
 pub use key::Key;
+pub use live::LiveMessages;
 pub use messages::Messages;
 pub use rank_messages::RankMessages;
 pub use receive::{Completion, Receive};
+pub use source::MessageSource;
