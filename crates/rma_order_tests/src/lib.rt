@@ -1,4 +1,5 @@
-//! Tests of the order of a run and of the epochs of its ranks, through public calls: small runs with what is to be answered of each,
+//! Tests of the order of a run, of what its calls wait for as they come, and of the epochs of its ranks, through public calls:
+//! small runs with what is to be answered of each,
 //! worked out by hand.
 #![tactic(auto)]
 
@@ -14,3 +15,5 @@ mod impossible;
 mod logs;
 #[cfg(test)]
 mod shorthand;
+#[cfg(test)]
+mod source;
