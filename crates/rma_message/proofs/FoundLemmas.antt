@@ -115,7 +115,7 @@ next_before number rs before = All-weaker (IsBefore number) (IsBefore (number + 
     by None is = tt
     by (Some c) is = omega arith
 
-what_before : (m : RankMessages) (number : ℕ) (line : LineNo) (request : Option ℕ) (what : What) → AreBefore number m.receives → AreBefore (number + 1) (with_what m number line request what).receives
+pub what_before : (m : RankMessages) (number : ℕ) (line : LineNo) (request : Option ℕ) (what : What) → AreBefore number m.receives → AreBefore (number + 1) (with_what m number line request what).receives
 what_before m number line request (Sync (Message (Send to tag comm))) before = next_before number m.receives before
 what_before m number line request (Sync (Message (Isend to tag comm))) before = next_before number m.receives before
 what_before m number line request (Sync (Message (Recv from tag comm))) before =

@@ -1,6 +1,7 @@
 pub mod FoundLemmas
 pub mod KeptLemmas
 pub mod KeyListLemmas
+pub mod KnownLemmas
 pub mod LiveLemmas
 pub mod MatchLemmas
 pub mod NoMessageLemmas
@@ -11,3 +12,4 @@ pub mod ReceiveLemmas
 pub mod RunLemmas
 pub mod SourceEdgeLemmas
 pub mod SourceLemmas
+pub mod StayLemmas

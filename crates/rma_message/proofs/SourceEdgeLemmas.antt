@@ -9,24 +9,25 @@ use Rattle.std.proofs.lemmas.List.Sums.{sum_by-cons}
 use Rattle.std.proofs.lemmas.Option.{same_Some, slice_get_read, slice_get_within, get_or_from_slice_get}
 use Rattle.rma_base.specs.declared.rank.Rank.{Rank}
 use Rattle.rma_base.specs.declared.point.Point.{Point}
-use Rattle.rma_call.specs.Call.{Call, RankCalls}
+use Rattle.rma_call.specs.Call.{RankCalls}
 use Rattle.rma_link.specs.declared.edge.Edge.{Edge}
 use Rattle.rma_link.specs.Point.{entry, return_of}
 use Rattle.rma_run.specs.Run.{AreInOrder, calls_of}
 use Rattle.rma_run.proofs.CallLemmas.{calls_are_own}
 use Rattle.rma_run.proofs.ContainLemmas.{in_flat_map}
+use Rattle.rma_message.proofs.KnownLemmas.{IsFrom, known, source_is}
 use Rattle.rma_message.proofs.FoundLemmas.{receives_are_found}
 use Rattle.rma_message.specs.declared.key.Key.{Key}
 use Rattle.rma_message.specs.declared.end.End.{End}
 use Rattle.rma_message.specs.declared.receive.Receive.{Receive}
 use Rattle.rma_message.specs.declared.receive.Completion.{Completion}
-use Rattle.rma_message.specs.declared.source.MessageSource.TheVariants.{NoReceive, Unknown, From}
+use Rattle.rma_message.specs.declared.source.MessageSource.TheVariants.{NoReceive, From}
 use Rattle.rma_message.specs.Key.{has_key}
 use Rattle.rma_message.specs.Receive.{end_of}
 use Rattle.rma_message.specs.RankMessages.{RankMessages, no_messages, with_calls, messages_by}
 use Rattle.rma_message.specs.Matching.{partner}
 use Rattle.rma_message.specs.Messages.{IsMessageEdge, messages_of, message_edges, receives_in}
-use Rattle.rma_message.specs.Source.{messages_at, completed_at, completes, is_complete, is_on, source_of_end, source_after, source_at, source_of}
+use Rattle.rma_message.specs.Source.{messages_at, completed_at, completes, is_complete, is_on, source_at, source_of}
 use Rattle.rma_message.proofs.MatchLemmas.{same_key_true, same_key_refl}
 use Rattle.rma_message.proofs.NumberLemmas.{calls_rank, sends_from, receives_to, receives_by}
 use Rattle.rma_message.proofs.NumberedLemmas.{IsNumber, of_number, edge_by_number, edge_of_number}
@@ -131,45 +132,7 @@ module _ (h : Receive → Option End) (p : End → Bool) where
       by None rest = rest
       by (Some y) rest = ap (slice_get (filter p (y ∷ filter_map h rs))) (count_more y (filter_map h (take i rs))) ∙ step (p y) y rest
 
--- ---- a source that is known
-
--- what makes it known
-record IsFrom (calls : ℕ → List Call) (rank number : ℕ) (rs : List Receive) (point : Point) : Type 0 where
-  index : ℕ
-  receive : Receive
-  end : End
-  send : End
-  found : completed_at number rs ≡ Some index
-  there : slice_get rs index ≡ Some receive
-  is_end : own_end rank receive ≡ Some end
-  matched : partner (messages_at calls end.key.from.0).sends (filter_map (end_of (record { 0 = rank })) (take index rs)) end ≡ Some send
-  is_point : entry end.key.from send.call ≡ point
-
-module _ (calls : ℕ → List Call) (rank number : ℕ) (rs : List Receive) (point : Point) where
-  known : option_map_or (source_at calls rank rs) (completed_at number rs) NoReceive ≡ From point → IsFrom calls rank number rs point
-  known = by_found (completed_at number rs) refl
-    where
-      by_send : (i : ℕ) (r : Receive) (e : End) → completed_at number rs ≡ Some i → slice_get rs i ≡ Some r → own_end rank r ≡ Some e → (o : Option End)
-          → partner (messages_at calls e.key.from.0).sends (filter_map (end_of (record { 0 = rank })) (take i rs)) e ≡ o
-          → option_map_or (λ (send : End). From (entry e.key.from send.call)) o Unknown ≡ From point → IsFrom calls rank number rs point
-      by_send i r e at there is_end None matched is = cc
-      by_send i r e at there is_end (Some send) matched is =
-          record { index = i; receive = r; end = e; send = send; found = at; there = there; is_end = is_end; matched = matched; is_point = cc }
-
-      by_end : (i : ℕ) (r : Receive) → completed_at number rs ≡ Some i → slice_get rs i ≡ Some r → (b : Bool) (o : Option End) → own_end rank r ≡ o
-          → cond b (option_map_or (source_of_end calls (filter_map (end_of (record { 0 = rank })) (take i rs))) o Unknown) Unknown ≡ From point → IsFrom calls rank number rs point
-      by_end i r at there false o is_end is = cc
-      by_end i r at there true None is_end is = cc
-      by_end i r at there true (Some e) is_end is =
-          by_send i r e at there is_end (partner (messages_at calls e.key.from.0).sends (filter_map (end_of (record { 0 = rank })) (take i rs)) e) refl is
-
-      by_there : (i : ℕ) → completed_at number rs ≡ Some i → (o : Option Receive) → slice_get rs i ≡ o → option_map_or (source_after calls rank (take i rs)) o NoReceive ≡ From point → IsFrom calls rank number rs point
-      by_there i at None there is = cc
-      by_there i at (Some r) there is = by_end i r at there (list_all is_complete (filter (is_on r.comm) (take i rs))) (own_end rank r) refl is
-
-      by_found : (o : Option ℕ) → completed_at number rs ≡ o → option_map_or (source_at calls rank rs) o NoReceive ≡ From point → IsFrom calls rank number rs point
-      by_found None at is = cc
-      by_found (Some i) at is = by_there i at (slice_get rs i) refl is
+-- ---- the edge of a source
 
 -- the receive that a call completes is completed by it
 completed_by : (number i : ℕ) (rs : List Receive) (r : Receive) → completed_at number rs ≡ Some i → slice_get rs i ≡ Some r → completes number r ≡ true
@@ -301,18 +264,6 @@ end_completes rank number r e is call = by r.completion is
     by (Some c) at =
         eq-eqb c.call number
         (ap (λ (x : End). x.call) (same_Some (record { key = record { from = c.from; to = record { 0 = rank }; comm = r.comm; tag = c.tag }; rank = record { 0 = rank }; call = c.call; line = r.line }) e at) ∙ call)
-
--- what the source of a message is, where its receives before are complete
-source_is : (calls : ℕ → List Call) (rank number : ℕ) (rs : List Receive) (index : ℕ) (r : Receive) (e send : End) → completed_at number rs ≡ Some index → slice_get rs index ≡ Some r →
-    list_all is_complete (filter (is_on r.comm) (take index rs)) ≡ true → own_end rank r ≡ Some e →
-    partner (messages_at calls e.key.from.0).sends (filter_map (end_of (record { 0 = rank })) (take index rs)) e ≡ Some send →
-    option_map_or (source_at calls rank rs) (completed_at number rs) NoReceive ≡ From (entry e.key.from send.call)
-source_is calls rank number rs index r e send found there all is matched =
-    ap (λ o. option_map_or (source_at calls rank rs) o NoReceive) found
-    ∙ ap (λ o. option_map_or (source_after calls rank (take index rs)) o NoReceive) there
-    ∙ ap (λ b. cond b (option_map_or (source_of_end calls (filter_map (end_of (record { 0 = rank })) (take index rs))) (own_end rank r) Unknown) Unknown) all
-    ∙ ap (λ o. option_map_or (source_of_end calls (filter_map (end_of (record { 0 = rank })) (take index rs))) o Unknown) is
-    ∙ ap (λ o. option_map_or (λ (s : End). From (entry e.key.from s.call)) o Unknown) matched
 
 -- the receive of a key goes to the rank that gets it
 to_rank : (ranks : List RankCalls) (e : End) → Contains (messages_of ranks).receives e → e.key.to ≡ e.rank

@@ -47,7 +47,7 @@ all_on rank comm (r ∷ rs) = by (is_on comm r) (all_on rank comm rs)
     by false rest = rest
 
 -- the communicator of the end of a receive is its own
-end_comm : (rank : ℕ) (r : Receive) (e : End) → own_end rank r ≡ Some e → e.key.comm ≡ r.comm
+pub end_comm : (rank : ℕ) (r : Receive) (e : End) → own_end rank r ≡ Some e → e.key.comm ≡ r.comm
 end_comm rank r e is = by r.completion is
   where
     by : (done : Option Completion) → own_end rank (record r { completion = done }) ≡ Some e → e.key.comm ≡ r.comm
@@ -57,7 +57,7 @@ end_comm rank r e is = by r.completion is
         (sym (same_Some (record { key = record { from = c.from; to = record { 0 = rank }; comm = r.comm; tag = c.tag }; rank = record { 0 = rank }; call = c.call; line = r.line }) e at))
 
 -- as many have a key on its communicator as in all
-count_on : (rank : ℕ) (key : Key) (rs : List Receive) → count_by (is_key key) (keys_on rank key.comm rs) ≡ count_by (has_key key) (filter_map (end_of (record { 0 = rank })) rs)
+pub count_on : (rank : ℕ) (key : Key) (rs : List Receive) → count_by (is_key key) (keys_on rank key.comm rs) ≡ count_by (has_key key) (filter_map (end_of (record { 0 = rank })) rs)
 count_on rank key [] = refl
 count_on rank key (r ∷ rs) = by (is_on key.comm r) (own_end rank r) refl refl (count_on rank key rs)
   where
