@@ -19,7 +19,8 @@ use Rattle.rma_message.specs.RankMessages.{RankMessages, no_messages, with_what,
 use Rattle.rma_message.specs.Source.{completed_at, completes}
 use Rattle.rma_message.specs.inside.Live.{AreBefore}
 use Rattle.rma_message.proofs.NumberLemmas.{waited_done}
-use Rattle.rma_message.proofs.PlaceLemmas.{posted_get, posted_last, not_completed, completed_other, completed_own, completed_now, completed_elsewhere, IsPending, pending_there}
+use Rattle.rma_message.proofs.PlaceLemmas.{not_completed, completed_other, completed_own, completed_now, completed_elsewhere, IsPending, pending_there}
+use Rattle.rma_message.proofs.ListLemmas.{get_before, get_last}
 
 -- what a call completes is the first that it completes
 abbrev pub AreFound : List Receive → Type 0
@@ -34,7 +35,7 @@ found_posted rs r are fresh q i x at done = ⊎_elim before last (cases_lt i (le
     before lt = by (completes q r) refl
       where
         found : completed_at q rs ≡ Some i
-        found = are q i x (sym (posted_get rs r i lt) ∙ at) done
+        found = are q i x (sym (get_before rs (r ∷ []) i lt) ∙ at) done
 
         by : (b : Bool) → completes q r ≡ b → completed_at q (rs ++ r ∷ []) ≡ Some i
         by true h = absurd (let wrong : None ≡ Some i = sym (fresh q h) ∙ found in cc)
@@ -45,7 +46,7 @@ found_posted rs r are fresh q i x at done = ⊎_elim before last (cases_lt i (le
         let lt : i < length (rs ++ r ∷ []) = slice_get_within (rs ++ r ∷ []) i x at in
         let longer : length (rs ++ r ∷ []) ≡ length rs + 1 = simp length-append refl in
         let same : length rs ≡ i = omega (arith, longer) in
-        let own : x ≡ r = same_Some x r (sym at ∙ ap (slice_get (rs ++ r ∷ [])) (sym same) ∙ posted_last rs r) in
+        let own : x ≡ r = same_Some x r (sym at ∙ ap (slice_get (rs ++ r ∷ [])) (sym same) ∙ get_last rs r) in
         let its : completes q r ≡ true = ap (λ (y : Receive). completes q y) (sym own) ∙ done in
         completed_own q rs r (fresh q its) its ∙ ap Some same
 

@@ -1,6 +1,6 @@
 -- The numbers of the receives of a rank on one communicator.
-use Rattle.std.proofs.Common.{◌≡◌, ℕ, zero, suc, ◌+◌, ◌<◌, ◌≤◌, Bool, true, false, cond, List, [], ◌∷◌, ◌++◌, length, length-append, take, set, Option, Some, None, is_some, slice_get, Result, Ok, Err, ⊎_elim, refl, sym, ap, subst, ◌∙◌, arith}
-use Rattle.std.specs.Prelude.{count_by, unwrap_or, OnOk}
+use Rattle.std.proofs.Common.{◌≡◌, ℕ, zero, suc, ◌+◌, ◌<◌, ◌≤◌, Bool, true, false, cond, List, [], ◌∷◌, ◌++◌, length, length-append, take, set, Option, Some, None, is_some, slice_get, ⊎_elim, refl, sym, ap, subst, ◌∙◌, arith}
+use Rattle.std.specs.Prelude.{count_by, unwrap_or}
 use Rattle.std.specs.Map.{lookup}
 use Rattle.std.specs.List.{list_all}
 use Rattle.std.specs.Option.{option_and_then}
@@ -13,6 +13,7 @@ use Rattle.rma_message.specs.Key.{same_key}
 use Rattle.rma_run.proofs.WalkLemmas.{taken_there}
 use Rattle.rma_message.proofs.MatchLemmas.{same_key_true}
 use Rattle.rma_message.specs.inside.Live.{count_in, count_of, is_key, key_at, number_at, IsNumbered, AreNumbered, ArePlaced}
+use Rattle.rma_message.proofs.ListLemmas.{get_before, get_last}
 
 -- ---- lists that begin alike
 
@@ -132,17 +133,6 @@ module _ (keys : List (Option Key)) (numbers : List ℕ) (counts : List (Key × 
       past : length numbers ≤ index → slice_get numbers index ≡ number_at keys index
       past le = slice_get_past numbers index le ∙ beyond (key_at keys index) refl le
 
--- ---- one more number
-
-numbered_push : (numbers : List ℕ) (number : ℕ) → slice_get (numbers ++ number ∷ []) (length numbers) ≡ Some number
-numbered_push [] number = refl
-numbered_push (n ∷ numbers) number = numbered_push numbers number
-
-numbered_kept : (numbers : List ℕ) (number i : ℕ) → i < length numbers → slice_get (numbers ++ number ∷ []) i ≡ slice_get numbers i
-numbered_kept [] number i lt = absurd (omega arith)
-numbered_kept (n ∷ numbers) number zero lt = refl
-numbered_kept (n ∷ numbers) number (suc i) lt = numbered_kept numbers number i (omega arith)
-
 -- ---- counts
 
 -- a count that is put under its key
@@ -176,19 +166,14 @@ module _ (keys : List (Option Key)) (numbers : List ℕ) (old new : List (Key ×
           before : index < length numbers → IsNumbered keys (numbers ++ number ∷ []) index
           before less =
               let one = are.numbered index less in
-              record { key = one.key; is_complete = one.is_complete; number_is = numbered_kept numbers number index less ∙ one.number_is }
+              record { key = one.key; is_complete = one.is_complete; number_is = get_before numbers (number ∷ []) index less ∙ one.number_is }
 
           last : length numbers ≤ index → IsNumbered keys (numbers ++ number ∷ []) index
           last le =
               let same : length numbers ≡ index = omega (arith, longer) in
               subst (IsNumbered keys (numbers ++ number ∷ [])) same
-              (record { key = key; is_complete = there; number_is = numbered_push numbers number ∙ ap Some (own ∙ are.counted key) })
+              (record { key = key; is_complete = there; number_is = get_last numbers number ∙ ap Some (own ∙ are.counted key) })
 
       counted : (other : Key) (b : Bool) → same_key key other ≡ b → cond b (count_of old key + 1) (count_of old other) ≡ count_in other keys (length numbers) + cond b 1 0
       counted other true h = ap (λ k. count_of old k + 1) (same_key_true key other h) ∙ ap (λ n. n + 1) (are.counted other)
       counted other false h = are.counted other ∙ (let e : count_in other keys (length numbers) ≡ count_in other keys (length numbers) + 0 = omega arith in e)
-
--- what follows from what a call says that ends well
-pub OnOk_then : {T E P Q : Type 0} (r : Result T E) → (P → Q) → OnOk r P → OnOk r Q
-OnOk_then (Ok x) step holds = step holds
-OnOk_then (Err e) step holds = tt

@@ -2,6 +2,7 @@ pub mod FoundLemmas
 pub mod KeptLemmas
 pub mod KeyListLemmas
 pub mod KnownLemmas
+pub mod ListLemmas
 pub mod LiveLemmas
 pub mod MatchLemmas
 pub mod NoMessageLemmas

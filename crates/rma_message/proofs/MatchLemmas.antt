@@ -21,12 +21,9 @@ use Rattle.rma_message.specs.declared.end.End.{End}
 use Rattle.rma_message.specs.Key.{same_key, has_key}
 use Rattle.rma_message.specs.Matching.{partner, walked, fault_of, edge_of, edge_between, IsNumbered}
 use Rattle.rma_message.specs.inside.Queue.{queue_of, calls_of, AreLeft}
+use Rattle.rma_message.proofs.ListLemmas.{both}
 
 -- ---- keys
-
-both : (a b : Bool) → (a && b) ≡ true → (a ≡ true) × (b ≡ true)
-both true b h = (refl, h)
-both false b h = absurd (false≢true h)
 
 abbrev key_of : ℕ → ℕ → List ℕ → ℕ → Key
 key_of from to comm tag = record { from = record { 0 = from }; to = record { 0 = to }; comm = comm; tag = tag }

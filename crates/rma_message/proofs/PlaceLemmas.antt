@@ -1,11 +1,11 @@
 -- Where the receives of a rank stand on their communicators, as they are posted and completed.
-use Rattle.std.proofs.Common.{◌≡◌, ℕ, zero, suc, ◌+◌, ◌<◌, ◌≤◌, Bool, true, false, cond, ◌&&◌, not, List, [], ◌∷◌, ◌++◌, length, take, set, Option, Some, None, is_some, eqb, slice_get, ⊎_elim, refl, sym, ap, ◌∙◌, arith}
+use Rattle.std.proofs.Common.{◌≡◌, ℕ, zero, suc, ◌+◌, ◌<◌, Bool, true, false, cond, ◌&&◌, not, List, [], ◌∷◌, ◌++◌, length, take, set, Option, Some, None, is_some, eqb, slice_get, ⊎_elim, refl, sym, ap, ◌∙◌, arith}
 use Rattle.std.specs.Prelude.{map, filter, count_by, option_map, IfSome}
 use Rattle.std.specs.List.{list_any}
 use Rattle.std.specs.Option.{option_map_or, option_and_then}
 use Rattle.std.specs.Cmp.Lexicographic.{nat_list_eq_equiv}
 use Rattle.std.proofs.lemmas.Bool.{false≢true, eqb-true, eq-eqb}
-use Rattle.std.proofs.lemmas.List.{map-append, length-map}
+use Rattle.std.proofs.lemmas.List.{take-append-le, take_at, map-append, length-map}
 use Rattle.std.proofs.lemmas.List.Elements.{filter-append, All-head, All-tail}
 use Rattle.std.proofs.lemmas.List.Sums.{length-filter, sum_by-cons}
 use Rattle.std.proofs.lemmas.Option.{same_Some}
@@ -17,16 +17,9 @@ use Rattle.rma_message.specs.Receive.{makes, is_open, open_at, complete_at}
 use Rattle.rma_message.specs.Source.{completed_at, completes, is_on}
 use Rattle.rma_message.specs.inside.Live.{key_of, keys_on, place_of, AreBefore}
 use Rattle.rma_message.proofs.ReceiveLemmas.{IsFirst, IsLater, where_open}
+use Rattle.rma_message.proofs.ListLemmas.{both, get_before, get_last, count_cons}
 
 -- ---- one more receive
-
--- how many are on a communicator, with one more before the others
-counted : (comm : List ℕ) (r : Receive) (rs : List Receive) → count_by (is_on comm) (r ∷ rs) ≡ cond (is_on comm r) (suc (count_by (is_on comm) rs)) (count_by (is_on comm) rs)
-counted comm r rs = sum_by-cons (λ (y : Receive). cond (is_on comm y) 1 0) r rs ∙ by (is_on comm r) (count_by (is_on comm) rs)
-  where
-    by : (b : Bool) (n : ℕ) → cond b 1 0 + n ≡ cond b (suc n) n
-    by true n = omega arith
-    by false n = omega arith
 
 -- on a communicator
 pub keys_posted : (rank : ℕ) (comm : List ℕ) (rs : List Receive) (r : Receive) → keys_on rank comm (rs ++ r ∷ []) ≡ keys_on rank comm rs ++ cond (is_on comm r) (key_of rank r ∷ []) []
@@ -42,38 +35,17 @@ keys_posted rank comm rs r =
 pub keys_length : (rank : ℕ) (comm : List ℕ) (rs : List Receive) → length (keys_on rank comm rs) ≡ count_by (is_on comm) rs
 keys_length rank comm rs = length-map (filter (is_on comm) rs) (key_of rank) ∙ length-filter (is_on comm) rs
 
-place_posted_count : (p : Receive → Bool) (rs : List Receive) (r : Receive) (i : ℕ) → i ≤ length rs → count_by p (take i (rs ++ r ∷ [])) ≡ count_by p (take i rs)
-place_posted_count p rs r zero le = refl
-place_posted_count p [] r (suc i) le = absurd (omega arith)
-place_posted_count p (x ∷ rs) r (suc i) le =
-    sum_by-cons (λ y. cond (p y) 1 0) x (take i (rs ++ r ∷ []))
-    ∙ ap (λ n. cond (p x) 1 0 + n) (place_posted_count p rs r i (omega arith))
-    ∙ sym (sum_by-cons (λ y. cond (p y) 1 0) x (take i rs))
-
-pub posted_get : (rs : List Receive) (r : Receive) (i : ℕ) → i < length rs → slice_get (rs ++ r ∷ []) i ≡ slice_get rs i
-posted_get [] r i lt = absurd (omega arith)
-posted_get (x ∷ rs) r zero lt = refl
-posted_get (x ∷ rs) r (suc i) lt = posted_get rs r i (omega arith)
-
-pub posted_last : (rs : List Receive) (r : Receive) → slice_get (rs ++ r ∷ []) (length rs) ≡ Some r
-posted_last [] r = refl
-posted_last (x ∷ rs) r = posted_last rs r
-
-taken_whole : (rs : List Receive) → take (length rs) rs ≡ rs
-taken_whole [] = refl
-taken_whole (x ∷ rs) = ap (λ l. x ∷ l) (taken_whole rs)
-
 -- where a receive stands, by what stands at its index
-abbrev place_in : List Receive → ℕ → Option Receive → Option Place
+abbrev pub place_in : List Receive → ℕ → Option Receive → Option Place
 place_in rs i at = option_map (λ (x : Receive). record { comm = x.comm; index = count_by (is_on x.comm) (take i rs) }) at
 
 -- the receives before stand where they stood
 pub place_before : (rs : List Receive) (r : Receive) (i : ℕ) → i < length rs → place_of (rs ++ r ∷ []) i ≡ place_of rs i
-place_before rs r i lt = ap (place_in (rs ++ r ∷ []) i) (posted_get rs r i lt) ∙ by (slice_get rs i)
+place_before rs r i lt = ap (place_in (rs ++ r ∷ []) i) (get_before rs (r ∷ []) i lt) ∙ by (slice_get rs i)
   where
     by : (at : Option Receive) → place_in (rs ++ r ∷ []) i at ≡ place_in rs i at
     by None = refl
-    by (Some x) = ap (λ n. Some (record { comm = x.comm; index = n })) (place_posted_count (is_on x.comm) rs r i (omega arith))
+    by (Some x) = ap (λ l. Some (record { comm = x.comm; index = count_by (is_on x.comm) l })) (take-append-le i rs (r ∷ []) (omega arith))
 
 -- the same of one that may be found
 pub places_before : (rs : List Receive) (r : Receive) (found : Option ℕ) → ((i : ℕ) → found ≡ Some i → i < length rs) →
@@ -84,9 +56,9 @@ places_before rs r (Some i) within = place_before rs r i (within i refl)
 -- the new one stands last
 pub place_last : (rank : ℕ) (rs : List Receive) (r : Receive) → place_of (rs ++ r ∷ []) (length rs) ≡ Some (record { comm = r.comm; index = length (keys_on rank r.comm rs) })
 place_last rank rs r =
-    ap (place_in (rs ++ r ∷ []) (length rs)) (posted_last rs r)
+    ap (place_in (rs ++ r ∷ []) (length rs)) (get_last rs r)
     ∙ ap (λ n. Some (record { comm = r.comm; index = n }))
-    (place_posted_count (is_on r.comm) rs r (length rs) (omega arith) ∙ ap (count_by (is_on r.comm)) (taken_whole rs) ∙ sym (keys_length rank r.comm rs))
+    (ap (count_by (is_on r.comm)) (take_at rs (r ∷ []) (length rs) refl) ∙ sym (keys_length rank r.comm rs))
 
 -- ---- what a call completes
 
@@ -195,7 +167,7 @@ keys_complete rank zero done (x ∷ rs) r at =
     let own : is_on r.comm x ≡ true = ap (λ (y : Receive). is_on r.comm y) same ∙ nat_list_eq_equiv.refl r.comm in
     rw own (ap (λ (y : Receive). Some (done_key rank y.comm done) ∷ keys_on rank r.comm rs) same)
 keys_complete rank (suc index) done (x ∷ rs) r at =
-    by (is_on r.comm x) (keys_complete rank index done rs r at) ∙ ap (λ n. set (keys_on rank r.comm (x ∷ rs)) n (Some (done_key rank r.comm done))) (sym (counted r.comm x (take index rs)))
+    by (is_on r.comm x) (keys_complete rank index done rs r at) ∙ ap (λ n. set (keys_on rank r.comm (x ∷ rs)) n (Some (done_key rank r.comm done))) (sym (count_cons (is_on r.comm) x (take index rs)))
   where
     by : (b : Bool) → keys_on rank r.comm (complete_at index done rs) ≡ set (keys_on rank r.comm rs) (count_by (is_on r.comm) (take index rs)) (Some (done_key rank r.comm done))
         → map (key_of rank) (cond b (x ∷ filter (is_on r.comm) (complete_at index done rs)) (filter (is_on r.comm) (complete_at index done rs)))
@@ -225,7 +197,7 @@ pub keys_before : (rank i : ℕ) (comm : List ℕ) (rs : List Receive) → take 
 keys_before rank zero comm rs = refl
 keys_before rank (suc i) comm [] = refl
 keys_before rank (suc i) comm (x ∷ rs) =
-    ap (λ n. take n (keys_on rank comm (x ∷ rs))) (counted comm x (take i rs)) ∙ by (is_on comm x) (keys_before rank i comm rs)
+    ap (λ n. take n (keys_on rank comm (x ∷ rs))) (count_cons (is_on comm) x (take i rs)) ∙ by (is_on comm x) (keys_before rank i comm rs)
   where
     by : (b : Bool) → take (count_by (is_on comm) (take i rs)) (keys_on rank comm rs) ≡ keys_on rank comm (take i rs)
         → take (cond b (suc (count_by (is_on comm) (take i rs))) (count_by (is_on comm) (take i rs))) (map (key_of rank) (cond b (x ∷ filter (is_on comm) rs) (filter (is_on comm) rs)))
@@ -241,7 +213,7 @@ key_there rank zero (x ∷ rs) r at =
     let own : is_on r.comm x ≡ true = ap (λ (y : Receive). is_on r.comm y) same ∙ nat_list_eq_equiv.refl r.comm in
     rw own (ap (λ (y : Receive). Some (key_of rank y)) same)
 key_there rank (suc i) (x ∷ rs) r at =
-    ap (slice_get (keys_on rank r.comm (x ∷ rs))) (counted r.comm x (take i rs)) ∙ by (is_on r.comm x) (key_there rank i rs r at)
+    ap (slice_get (keys_on rank r.comm (x ∷ rs))) (count_cons (is_on r.comm) x (take i rs)) ∙ by (is_on r.comm x) (key_there rank i rs r at)
   where
     by : (b : Bool) → slice_get (keys_on rank r.comm rs) (count_by (is_on r.comm) (take i rs)) ≡ Some (key_of rank r)
         → slice_get (map (key_of rank) (cond b (x ∷ filter (is_on r.comm) rs) (filter (is_on r.comm) rs))) (cond b (suc (count_by (is_on r.comm) (take i rs))) (count_by (is_on r.comm) (take i rs))) ≡ Some (key_of rank r)
@@ -249,10 +221,6 @@ key_there rank (suc i) (x ∷ rs) r at =
     by false rest = rest
 
 -- ---- a receive that is pending
-
-both : (a b : Bool) → (a && b) ≡ true → (a ≡ true) × (b ≡ true)
-both true b h = (refl, h)
-both false b h = absurd (false≢true h)
 
 -- a receive that is there, and not complete
 pub record IsPending (rs : List Receive) (index : ℕ) : Type 0 where

@@ -10,6 +10,7 @@ use Rattle.rma_message.specs.declared.receive.Receive.{Receive}
 use Rattle.rma_message.specs.declared.receive.Completion.{Completion}
 use Rattle.rma_message.specs.Receive.{makes, is_open, open_at, complete_at}
 use Rattle.rma_message.specs.inside.Open.{AreOpen}
+use Rattle.rma_message.proofs.ListLemmas.{both}
 
 -- ---- one more receive
 
@@ -102,10 +103,6 @@ open_at_completed request index completion (r ∷ rs) at =
     (λ (here : IsFirst (list_any (makes request) rs) (is_pending request r) index).
     rw here.first (rw (here.absent, and_false (makes request r)) refl))
     (where_open (list_any (makes request) rs) (is_pending request r) (open_at request rs) index at)
-
-both : (a b : Bool) → (a && b) ≡ true → (a ≡ true) × (b ≡ true)
-both true b h = (refl, h)
-both false b h = absurd (false≢true h)
 
 -- a receive makes one request
 makes_one : (request other : ℕ) (r : Receive) → makes request r ≡ true → makes other r ≡ eqb request other

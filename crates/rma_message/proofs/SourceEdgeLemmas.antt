@@ -1,11 +1,10 @@
 -- The edges of a run that the sources of its messages are.
-use Rattle.std.proofs.Common.{◌≡◌, ℕ, zero, suc, ◌+◌, ◌<◌, Bool, true, false, cond, List, [], ◌∷◌, ◌++◌, length, take, Option, Some, None, slice_get, eqb, append-nil, refl, sym, ap, ◌∙◌, arith, ◌&&◌, ◌*◌}
+use Rattle.std.proofs.Common.{◌≡◌, ℕ, zero, suc, ◌+◌, ◌<◌, Bool, true, false, cond, List, [], ◌∷◌, ◌++◌, length, take, Option, Some, None, slice_get, eqb, append-nil, refl, sym, ap, ◌∙◌, arith, ◌*◌}
 use Rattle.std.specs.Prelude.{All, Contains, filter, count_by, option_map}
 use Rattle.std.specs.List.{filter_map, flat_map, list_all, cons_option}
 use Rattle.std.specs.Option.{option_map_or}
 use Rattle.std.proofs.lemmas.Bool.{eqb-true, eq-eqb, false≢true}
 use Rattle.std.proofs.lemmas.List.Elements.{All-head, All-tail, All-contains, filter-append}
-use Rattle.std.proofs.lemmas.List.Sums.{sum_by-cons}
 use Rattle.std.proofs.lemmas.Option.{same_Some, slice_get_read, slice_get_within, get_or_from_slice_get}
 use Rattle.rma_base.specs.declared.rank.Rank.{Rank}
 use Rattle.rma_base.specs.declared.point.Point.{Point}
@@ -32,6 +31,7 @@ use Rattle.rma_message.proofs.MatchLemmas.{same_key_true, same_key_refl}
 use Rattle.rma_message.proofs.NumberLemmas.{calls_rank, sends_from, receives_to, receives_by}
 use Rattle.rma_message.proofs.NumberedLemmas.{IsNumber, of_number, edge_by_number, edge_of_number}
 use Rattle.rma_message.proofs.SourceLemmas.{own_end}
+use Rattle.rma_message.proofs.ListLemmas.{both, count_cons}
 
 -- ---- the ends of one rank among those of all
 
@@ -107,13 +107,6 @@ receives_of_key ranks own key in_order there to =
 -- ---- the number of a receive
 
 module _ (h : Receive → Option End) (p : End → Bool) where
-  count_more : (e : End) (es : List End) → count_by p (e ∷ es) ≡ cond (p e) (suc (count_by p es)) (count_by p es)
-  count_more e es = sum_by-cons (λ (x : End). cond (p x) 1 0) e es ∙ by (p e) (count_by p es)
-    where
-      by : (b : Bool) (n : ℕ) → cond b 1 0 + n ≡ cond b (suc n) n
-      by true n = omega arith
-      by false n = omega arith
-
   -- an end has as its number how many that pass come before it
   number_in : (rs : List Receive) (i : ℕ) (r : Receive) (e : End) → slice_get rs i ≡ Some r → h r ≡ Some e → p e ≡ true → slice_get (filter p (filter_map h rs)) (count_by p (filter_map h (take i rs))) ≡ Some e
   number_in [] i r e at is pass = cc
@@ -130,7 +123,7 @@ module _ (h : Receive → Option End) (p : End → Bool) where
       by : (o : Option End) → slice_get (filter p (filter_map h rs)) (count_by p (filter_map h (take i rs))) ≡ Some e
           → slice_get (filter p (cons_option o (filter_map h rs))) (count_by p (cons_option o (filter_map h (take i rs)))) ≡ Some e
       by None rest = rest
-      by (Some y) rest = ap (slice_get (filter p (y ∷ filter_map h rs))) (count_more y (filter_map h (take i rs))) ∙ step (p y) y rest
+      by (Some y) rest = ap (slice_get (filter p (y ∷ filter_map h rs))) (count_cons p y (filter_map h (take i rs))) ∙ step (p y) y rest
 
 -- ---- the edge of a source
 
@@ -148,10 +141,6 @@ completed_by number i (x ∷ rs) r at there = by (completes number x) refl (comp
     by false h (Some j) k rest is at_k =
         let next : suc j ≡ k = same_Some (suc j) k is in
         rest j refl (ap (slice_get (x ∷ rs)) next ∙ at_k)
-
-both : (a b : Bool) → (a && b) ≡ true → (a ≡ true) × (b ≡ true)
-both true b h = (refl, h)
-both false b h = absurd (false≢true h)
 
 -- the end of a receive that a call completes
 record IsOwnEnd (rank number : ℕ) (e : End) : Type 0 where
@@ -233,11 +222,11 @@ module _ (h : Receive → Option End) (p : End → Bool) where
       one y is true pass (suc n) at rest =
           let found : IsAt rs n e = rest n e at in
           later (Some y) is n found (suc n)
-          (count_more h p y (filter_map h (take found.index rs)) ∙ ap (λ b. cond b (suc (count_by p (filter_map h (take found.index rs)))) (count_by p (filter_map h (take found.index rs)))) pass ∙ ap suc found.count)
+          (count_cons p y (filter_map h (take found.index rs)) ∙ ap (λ b. cond b (suc (count_by p (filter_map h (take found.index rs)))) (count_by p (filter_map h (take found.index rs)))) pass ∙ ap suc found.count)
       one y is false pass n at rest =
           let found : IsAt rs n e = rest n e at in
           later (Some y) is n found n
-          (count_more h p y (filter_map h (take found.index rs)) ∙ ap (λ b. cond b (suc (count_by p (filter_map h (take found.index rs)))) (count_by p (filter_map h (take found.index rs)))) pass ∙ found.count)
+          (count_cons p y (filter_map h (take found.index rs)) ∙ ap (λ b. cond b (suc (count_by p (filter_map h (take found.index rs)))) (count_by p (filter_map h (take found.index rs)))) pass ∙ found.count)
 
       by : (o : Option End) → h x ≡ o → (n : ℕ) → slice_get (filter p (cons_option o (filter_map h rs))) n ≡ Some e → ((k : ℕ) (z : End) → slice_get (filter p (filter_map h rs)) k ≡ Some z → IsAt rs k z) → IsAt (x ∷ rs) n e
       by None is n at rest = let found : IsAt rs n e = rest n e at in later None is n found n found.count

@@ -21,7 +21,7 @@ use Rattle.rma_message.specs.Receive.{end_of}
 use Rattle.rma_message.specs.Source.{messages_at, completed_at, is_on, is_complete, source_of_end, source_after, source_at, source_of}
 use Rattle.rma_message.specs.inside.Live.{is_key, key_at, number_at, key_of, keys_on, place_of, entries_of}
 use Rattle.rma_message.proofs.MatchLemmas.{same_key_true}
-use Rattle.rma_message.proofs.PlaceLemmas.{key_there, keys_before}
+use Rattle.rma_message.proofs.PlaceLemmas.{place_in, key_there, keys_before}
 
 -- the end of a receive
 abbrev pub own_end : ℕ → Receive → Option End
@@ -158,10 +158,6 @@ source_found calls rank number place = by (completed_at number (messages_at call
         → sent_of calls (key_at (keys_on rank place.comm (messages_at calls rank).receives) place.index) (number_at (keys_on rank place.comm (messages_at calls rank).receives) place.index) ≡ option_map_or (source_at calls rank (messages_at calls rank).receives) found NoReceive
     by None stands = cc
     by (Some i) stands = there i (slice_get (messages_at calls rank).receives i) refl stands
-
--- where a receive stands that may be there
-abbrev place_in : List Receive → ℕ → Option Receive → Option Place
-place_in rs i at = option_map (λ (r : Receive). record { comm = r.comm; index = count_by (is_on r.comm) (take i rs) }) at
 
 -- a call that completes no receive
 pub no_source : (calls : ℕ → List Call) (rank number : ℕ) → option_and_then (place_of (messages_at calls rank).receives) (completed_at number (messages_at calls rank).receives) ≡ None →

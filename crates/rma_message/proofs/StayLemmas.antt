@@ -1,12 +1,12 @@
 -- The source of a message stays as more calls are taken.
-use Rattle.std.proofs.Common.{◌≡◌, ℕ, zero, suc, ◌+◌, ◌<◌, Bool, true, false, cond, ◌&&◌, List, [], ◌∷◌, ◌++◌, length, take, Option, Some, None, slice_get, nat_eq, eqb, refl, sym, ap, subst, ◌∙◌, arith}
+use Rattle.std.proofs.Common.{◌≡◌, ℕ, zero, suc, ◌+◌, ◌<◌, Bool, true, false, cond, List, [], ◌∷◌, ◌++◌, length, take, Option, Some, None, slice_get, nat_eq, eqb, refl, sym, ap, subst, ◌∙◌, arith}
 use Rattle.std.specs.Prelude.{filter, count_by, map, option_map}
 use Rattle.std.specs.List.{filter_map, list_all}
 use Rattle.std.specs.Option.{option_map_or}
 use Rattle.std.proofs.lemmas.Bool.{eqb-true, false≢true}
 use Rattle.std.proofs.lemmas.List.{take-append-le}
 use Rattle.std.proofs.lemmas.List.Elements.{filter-append}
-use Rattle.std.proofs.lemmas.Option.{same_Some}
+use Rattle.std.proofs.lemmas.Option.{same_Some, slice_get_within}
 use Rattle.rma_base.specs.declared.line.LineNo.{LineNo}
 use Rattle.rma_base.specs.declared.point.Point.{Point}
 use Rattle.rma_call.specs.Call.{Call}
@@ -27,9 +27,10 @@ use Rattle.rma_message.specs.Source.{messages_at, completed_at, is_complete, is_
 use Rattle.rma_message.specs.inside.Live.{AreBefore, is_key, key_of}
 use Rattle.rma_message.proofs.FoundLemmas.{what_before}
 use Rattle.rma_message.proofs.LiveLemmas.{receives_before}
-use Rattle.rma_message.proofs.PlaceLemmas.{posted_get, completed_within, not_completed, completed_elsewhere, IsPending, pending_there}
+use Rattle.rma_message.proofs.PlaceLemmas.{completed_within, not_completed, completed_elsewhere, IsPending, pending_there}
 use Rattle.rma_message.proofs.SourceLemmas.{own_end, end_comm, count_on}
 use Rattle.rma_message.proofs.KnownLemmas.{IsFrom, known, source_is}
+use Rattle.rma_message.proofs.ListLemmas.{both, get_before}
 
 -- ---- a receive of which the number is settled
 
@@ -42,10 +43,6 @@ record IsSettled (rank number : ℕ) (rs : List Receive) (e : End) (n : ℕ) : T
   complete : list_all is_complete (filter (is_on receive.comm) (take index rs)) ≡ true
   is_end : own_end rank receive ≡ Some e
   count : count_by (has_key e.key) (filter_map (end_of (record { 0 = rank })) (take index rs)) ≡ n
-
-both : (a b : Bool) → (a && b) ≡ true → (a ≡ true) × (b ≡ true)
-both true b h = (refl, h)
-both false b h = absurd (false≢true h)
 
 -- ---- one more receive
 
@@ -69,7 +66,7 @@ module _ (rank number : ℕ) (rs : List Receive) (e : End) (n : ℕ) (settled : 
         index = i;
         receive = settled.receive;
         found = completed_kept number i rs r settled.found;
-        there = posted_get rs r i lt ∙ settled.there;
+        there = get_before rs (r ∷ []) i lt ∙ settled.there;
         complete = ap (λ l. list_all is_complete (filter (is_on settled.receive.comm) l)) front ∙ settled.complete;
         is_end = settled.is_end;
         count = ap (λ l. count_by (has_key e.key) (filter_map (end_of (record { 0 = rank })) l)) front ∙ settled.count;
@@ -176,14 +173,9 @@ module _ (rank number : ℕ) (e : End) (n : ℕ) where
   calls_settled m k (call ∷ calls) before settled =
       calls_settled (with_call m k call) (k + 1) calls (what_before m k call.line call.request call.what before) (what_settled m k call.line call.request call.what before settled)
 
-get_kept : (xs ys : List End) (n : ℕ) (s : End) → slice_get xs n ≡ Some s → slice_get (xs ++ ys) n ≡ Some s
-get_kept [] ys n s at = cc
-get_kept (x ∷ xs) ys zero s at = at
-get_kept (x ∷ xs) ys (suc n) s at = get_kept xs ys n s at
-
 module _ (p : End → Bool) (n : ℕ) (s : End) where
   sent_more : (sends : List End) (e : End) → slice_get (filter p sends) n ≡ Some s → slice_get (filter p (sends ++ e ∷ [])) n ≡ Some s
-  sent_more sends e at = ap (λ l. slice_get l n) (filter-append p sends (e ∷ [])) ∙ get_kept (filter p sends) (filter p (e ∷ [])) n s at
+  sent_more sends e at = ap (λ l. slice_get l n) (filter-append p sends (e ∷ [])) ∙ get_before (filter p sends) (filter p (e ∷ [])) n (slice_get_within (filter p sends) n s at) ∙ at
 
   what_sent : (m : RankMessages) (k : ℕ) (line : LineNo) (request : Option ℕ) (what : What) → slice_get (filter p m.sends) n ≡ Some s → slice_get (filter p (with_what m k line request what).sends) n ≡ Some s
   what_sent m k line request (Sync (Message (Send to tag comm))) at = sent_more m.sends (sent_end m.rank k line to tag comm) at

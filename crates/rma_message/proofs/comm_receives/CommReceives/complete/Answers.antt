@@ -1,12 +1,13 @@
 use Rattle.std.proofs.Common.{◌≡◌, None, Some, set, sym, ap, subst, ◌∙◌}
 use Rattle.rma_message.specs.inside.Live.{AreNumbered, ArePlaced, key_at}
-use Rattle.rma_message.proofs.KeyListLemmas.{numbered_completed, OnOk_then}
+use Rattle.std.proofs.lemmas.Result.{on_ok_weaker}
+use Rattle.rma_message.proofs.KeyListLemmas.{numbered_completed}
 use Rattle.rma_message.proofs.comm_receives.CommReceives.complete.Goals as goal
 
 pub returns : goal.returns
 returns c =
     let own = c.args.self.now in
-    OnOk_then c.place.result (λ placed keys are lt none.
+    on_ok_weaker c.place.result (λ placed keys are lt none.
     let open_now : key_at own.keys.items c.args.index ≡ None = ap (λ l. key_at l c.args.index) are.keys_are ∙ none in
     let was = subst (λ l. AreNumbered l own.numbers own.counts.entries) (sym c.put.ensures) (numbered_completed own.keys.items own.numbers own.counts.entries are.placed.are_numbered c.args.index (Some c.args.key) open_now) in
     record {

@@ -9,7 +9,7 @@ use Rattle.rma_message.specs.Key.{same_key}
 use Rattle.rma_message.specs.RankMessages.{RankMessages, sent_end, with_what}
 use Rattle.rma_message.specs.Source.{messages_at}
 use Rattle.rma_message.specs.inside.Live.{IsOfRank, kept_of, kept_sends}
-use Rattle.rma_message.proofs.KeyListLemmas.{OnOk_then}
+use Rattle.std.proofs.lemmas.Result.{on_ok_weaker}
 use Rattle.rma_message.proofs.LiveLemmas.{no_message, no_send, receives_before, represents_same, represents_received, represents_sent, OnOk_both}
 use Rattle.rma_message.proofs.NumberLemmas.{calls_rank}
 use Rattle.rma_message.proofs.live.LiveMessages.take.Goals as goal
@@ -52,7 +52,7 @@ returns-in_ok-copy-in-Send c =
     let tag = c.in-Send.tag in
     let comm = c.in-Send.comm in
     let e : End = sent_end c.args.rank number call.line to tag comm in
-    OnOk_then c.send.result (λ step calls len are.
+    on_ok_weaker c.send.result (λ step calls len are.
     let m = messages_at calls rank in
     let sent : with_what m number call.line call.request (Sync (Message message)) ≡ record m { sends = m.sends ++ sent_end m.rank number call.line to tag comm ∷ [] } =
     ⊎_elim (λ is. ap (λ x. with_what m number call.line call.request (Sync (Message x))) is) (λ is. ap (λ x. with_what m number call.line call.request (Sync (Message x))) is) c.in-Send.is in
