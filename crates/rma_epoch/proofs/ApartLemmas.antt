@@ -25,6 +25,7 @@ use Rattle.rma_epoch.specs.Table.{sound_from}
 use Rattle.rma_epoch.specs.inside.Next.{kept_if_used, next_phase, with_use}
 use Rattle.rma_epoch.proofs.EventLemmas.{held_by, phase_push, some_held}
 use Rattle.rma_epoch.proofs.LiveLemmas.{or_left, or_right, past_push}
+use Rattle.rma_epoch.proofs.OptionLemmas.{is_nothing}
 
 -- ---- one kind
 
@@ -60,11 +61,6 @@ find_none p (y ∷ ys) i x there none = by i there (p y) refl none (λ k at rest
     by i there true passed wrong later = absurd (none-some y (sym wrong))
     by zero there false failed rest later = let same : y ≡ x = cc in ap p (sym same) ∙ failed
     by (suc i) there false failed rest later = later i there rest
-
--- nothing where nothing is
-pub is_nothing : {X : Type 0} (o : Option X) → is_some o ≡ false → o ≡ None
-is_nothing None none = refl
-is_nothing (Some x) none = absurd (true≢false none)
 
 -- a phase that is not used ends
 unused_ends : (phase : Option FencePhase) → option_map_or (λ (p : FencePhase). p.used) phase false ≡ false → option_and_then kept_if_used phase ≡ None

@@ -7,3 +7,5 @@ pub mod RangeLemmas
 pub mod SoundLemmas
 pub mod TableLemmas
 pub mod OneLemmas
+pub mod OptionLemmas
+pub mod PlaceLemmas

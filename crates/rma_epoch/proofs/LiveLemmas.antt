@@ -22,8 +22,8 @@ use Rattle.rma_epoch.specs.Open.{open_after, open_on}
 use Rattle.rma_epoch.specs.Fault.{fault_from, is_unclosed, leaves_open}
 use Rattle.rma_epoch.specs.inside.Held.{open_of}
 use Rattle.rma_epoch.specs.Table.{taken_with}
-use Rattle.rma_epoch.specs.inside.Live.{kept}
-use Rattle.rma_epoch.specs.inside.Step.{past_with}
+use Rattle.rma_epoch.specs.inside.Next.{past_with}
+use Rattle.rma_epoch.specs.inside.Windows.{kept}
 use Rattle.rma_epoch.proofs.EventLemmas.{all_false}
 
 -- ---- one more call
@@ -158,9 +158,13 @@ unclosed_is calls es are found =
 
 -- ---- what a call that may fail says
 
-pub IfOk_both : {T E B : Type 0} {P Q : T → Type 0} (r : Result T E) → ((x : T) → P x → B → Q x) → IfOk r P → OnOk r B → IfOk r Q
-IfOk_both (Ok x) f p b = f x p b
-IfOk_both (Err e) f p b = tt
+pub IfOk_both : {T E : Type 0} {P Q R : T → Type 0} (r : Result T E) → ((x : T) → P x → Q x → R x) → IfOk r P → IfOk r Q → IfOk r R
+IfOk_both (Ok x) f p q = f x p q
+IfOk_both (Err e) f p q = tt
+
+pub OnOk_always : {T E B : Type 0} (r : Result T E) → B → OnOk r B
+OnOk_always (Ok x) b = b
+OnOk_always (Err e) b = tt
 
 -- ---- the first fault
 

@@ -1,22 +1,18 @@
 -- The epochs of one more call.
 use Rattle.std.proofs.Common.{◌≡◌, ℕ, suc, ◌+◌, Bool, true, false, cond, ◌∷◌, ◌++◌, List, [], length, map, Option, Some, None, refl, sym, ap, ◌∙◌, arith, append_assoc}
 use Rattle.std.proofs.Math.Path.{fun_ext}
-use Rattle.std.specs.Prelude.{option_map, is_some}
+use Rattle.std.specs.Prelude.{option_map}
 use Rattle.std.specs.List.{cons_option}
-use Rattle.std.specs.Option.{option_and_then, option_map_or, option_or}
-use Rattle.std.proofs.lemmas.Bool.{true≢false}
+use Rattle.std.specs.Option.{option_or}
 use Rattle.std.proofs.lemmas.List.{append-nil}
 use Rattle.rma_call.specs.Call.{Call}
 use Rattle.rma_window.specs.Windows.{Window}
 use Rattle.rma_epoch.specs.declared.live.LiveEpochs.{LiveEpochs}
 use Rattle.rma_epoch.specs.declared.opening.Opening.{Opening}
 use Rattle.rma_epoch.specs.declared.table.LockEpoch.{LockEpoch}
-use Rattle.rma_epoch.specs.Calls.{window_on}
-use Rattle.rma_epoch.specs.Open.{Open, open_on}
-use Rattle.rma_epoch.specs.Table.{opening_in, opening_at, openings_from, closed_by, closed_at, is_opener, close_from, close_of, epoch_with, Epochs, lock_opened, lock_with, locks_opened, locks_of, table_of}
+use Rattle.rma_epoch.specs.Table.{opening_at, openings_from, closed_at, is_opener, close_from, close_of, epoch_with, Epochs, lock_opened, lock_with, locks_opened, locks_of, table_of}
 use Rattle.rma_epoch.specs.inside.Placements.{close_in}
 use Rattle.rma_epoch.specs.inside.Live.{HasLocks, Represents}
-use Rattle.rma_epoch.specs.inside.Step.{no_step, step_at, step_in}
 
 openings_more : (before calls : List Call) (call : Call) → openings_from before (calls ++ call ∷ []) ≡ openings_from before calls ++ opening_at (before ++ calls) call ∷ []
 openings_more before [] call = ap (λ b. opening_at b call ∷ []) (sym (append-nil before))
@@ -45,30 +41,6 @@ close_more opener before (x ∷ xs) call =
 -- what one more call closes
 pub close_push : (opener : ℕ) (calls : List Call) (call : Call) → close_of (calls ++ call ∷ []) opener ≡ cond (is_opener opener (closed_at calls call)) (Some (length calls)) (close_of calls opener)
 close_push opener calls call = close_more opener [] calls call
-
--- ---- what a call does
-
--- the epoch in which it stands
-pub opening_is : (windows : List Window) (opened : List ℕ → Open) (calls : List Call) (call : Call) → ((window : List ℕ) → opened window ≡ open_on calls window)
-    → (step_at windows opened call).opening ≡ opening_at calls call
-opening_is windows opened calls call same = by (window_on call.what)
-  where
-    by : (on : Option (List ℕ)) → (option_map_or (λ (w : List ℕ). step_in windows (opened w) call) on no_step).opening ≡ option_and_then (λ w. opening_in (open_on calls w) call.what) on
-    by None = refl
-    by (Some w) = ap (λ own. opening_in own call.what) (same w)
-
--- what opened what it closes
-pub closed_is : (windows : List Window) (opened : List ℕ → Open) (calls : List Call) (call : Call) → ((window : List ℕ) → opened window ≡ open_on calls window)
-    → (step_at windows opened call).closes ≡ closed_at calls call
-closed_is windows opened calls call same = by (window_on call.what)
-  where
-    by : (on : Option (List ℕ)) → (option_map_or (λ (w : List ℕ). step_in windows (opened w) call) on no_step).closes ≡ option_and_then (λ w. closed_by (open_on calls w) call.what) on
-    by None = refl
-    by (Some w) = ap (λ own. closed_by own call.what) (same w)
-
-pub not_some : {X : Type 0} (o : Option X) → is_some o ≡ false → o ≡ None
-not_some None none = refl
-not_some (Some x) none = absurd (true≢false none)
 
 -- ---- the lock epochs
 
@@ -101,10 +73,10 @@ abbrev made : (ℕ → Option ℕ) → List (Option Opening) → ℕ → List Lo
 made close openings sound locks = record { sound = sound; epochs = map (option_map (epoch_with close)) openings; locks = locks }
 
 -- a table of what is kept is that of the calls
-pub table_is : (windows : List Window) (calls : List Call) (live : LiveEpochs) (locks : List LockEpoch) → Represents calls live → HasLocks windows calls live → locks ≡ map (lock_with (close_in live.placements)) live.locks.items
-    → made (close_in live.placements) live.placements.openings.items live.taken locks ≡ table_of windows calls
-table_is windows calls live locks are has closed =
-    ap (made (close_in live.placements) live.placements.openings.items live.taken) (closed ∙ ap (map (lock_with (close_in live.placements))) has.locks_are)
-    ∙ ap (λ close. made close live.placements.openings.items live.taken (map (lock_with close) (locks_opened windows 0 calls))) (fun_ext are.closes_are)
-    ∙ ap (λ openings. made (close_of calls) openings live.taken (locks_of windows calls)) are.openings_are
-    ∙ ap (λ sound. made (close_of calls) (openings_from [] calls) sound (locks_of windows calls)) are.taken_are
+pub table_is : (windows : List Window) (calls : List Call) (live : LiveEpochs) (sound : ℕ) (locks : List LockEpoch) → sound ≡ length calls → Represents calls live → HasLocks windows calls live → locks ≡ map (lock_with (close_in live.placements)) live.locks.items
+    → made (close_in live.placements) live.placements.openings.items sound locks ≡ table_of windows calls
+table_is windows calls live sound locks counted are has closed =
+    ap (made (close_in live.placements) live.placements.openings.items sound) (closed ∙ ap (map (lock_with (close_in live.placements))) has.locks_are)
+    ∙ ap (λ close. made close live.placements.openings.items sound (map (lock_with close) (locks_opened windows 0 calls))) (fun_ext are.closes_are)
+    ∙ ap (λ openings. made (close_of calls) openings sound (locks_of windows calls)) are.openings_are
+    ∙ ap (λ count. made (close_of calls) (openings_from [] calls) count (locks_of windows calls)) counted

@@ -1,5 +1,5 @@
 pub mod Next
 pub mod Held
 pub mod Live
-pub mod Step
+pub mod Windows
 pub mod Placements

@@ -16,11 +16,11 @@ pub mod laws;
 mod live;
 mod locks;
 mod open_epochs;
+mod open_windows;
 mod opening;
 mod placements;
 mod range;
 mod reason;
-mod step;
 mod table;
 mod whole;
 

@@ -1,28 +1,18 @@
 //! The epochs of a rank, as its calls come.
-ghost use Rattle.std.specs.Prelude.{◌≡◌, [], ℕ, List, Some, true, false, length, nat_eq, slice_get, IfOk, OnOk};
-ghost use Rattle.std.specs.Map.{lookup};
+ghost use Rattle.std.specs.Prelude.{◌≡◌, [], List, length, slice_get, IfOk};
 ghost use Rattle.std.specs.List.{list_any};
-ghost use Rattle.std.specs.Cmp.Lexicographic.{pointwise};
 ghost use Rattle.rma_call.specs.Call.{Call, call_of};
-ghost use Rattle.rma_call.specs.declared.what.What.{What};
 ghost use Rattle.rma_window.specs.Windows.{Window};
-ghost use Rattle.rma_epoch.specs.Open.{open_after, open_on};
 ghost use Rattle.rma_epoch.specs.Reason.{reason_at};
 ghost use Rattle.rma_epoch.specs.Table.{close_of, epoch_of, locks_of, table_of, taken_with};
-ghost use Rattle.rma_epoch.specs.Fault.{is_unclosed, leaves_open};
-ghost use Rattle.rma_epoch.specs.declared.open_epochs.OpenEpochs.{OpenEpochs};
-ghost use Rattle.rma_epoch.specs.inside.Held.{open_of};
-ghost use Rattle.rma_epoch.specs.inside.Live.{HasLocks, kept, Represents};
-ghost use Rattle.rma_epoch.specs.inside.Step.{past_with, step_at, step_in};
+ghost use Rattle.rma_epoch.specs.Fault.{leaves_open};
+ghost use Rattle.rma_epoch.specs.inside.Live.{HasLocks, Represents};
 
-use crate::call::window_on;
 use crate::locks::add_lock;
-use crate::open_epochs::OpenEpochs;
+use crate::open_windows::OpenWindows;
 use crate::placements::Placements;
-use crate::step::Step;
 use crate::table::{Epoch, EpochTable, LockEpoch};
-use indexmap::IndexMap;
-use rma_base::{EpochReason, Memory, Name};
+use rma_base::{EpochReason, Memory};
 use rma_call::CallRef;
 use rma_window::Windows;
 use std::alloc::Global;
@@ -32,10 +22,8 @@ use std::alloc::Global;
 pub struct LiveEpochs {
     /// Where tables take their memory.
     alloc: Global,
-    /// What is open on each window that a call is on.
-    windows: IndexMap<Name, OpenEpochs>,
-    /// How many calls are taken.
-    taken: u32,
+    /// What the calls taken leave open on each window.
+    windows: OpenWindows,
     /// The epochs in which they stand.
     placements: Placements,
     /// The lock epochs that they open, in the order of their opening, without the calls that close them.
@@ -50,8 +38,7 @@ impl LiveEpochs {
     {
         LiveEpochs {
             alloc,
-            windows: IndexMap::new(alloc),
-            taken: 0,
+            windows: OpenWindows::new(alloc),
             placements: Placements::new(alloc),
             locks: Vec::new(alloc),
         }
@@ -72,16 +59,15 @@ impl LiveEpochs {
         ensures taken { IfOk result (λ reason. (calls : List Call) → Represents calls self.old → Represents (taken_with reason (call_of call.entry) calls) self.new) }
         ensures locks { IfOk result (λ reason. (calls : List Call) → Represents calls self.old → HasLocks windows.now calls self.old → HasLocks windows.now (taken_with reason (call_of call.entry) calls) self.new) }
     {
-        let Some(next) = self.taken.checked_add(1) else {
-            return Err(Memory);
-        };
-        let step = step(self.alloc, &mut self.windows, windows, self.taken, call)?;
-        if step.reason.is_some() {
-            return Ok(step.reason);
+        let place = self.windows.place(call.what)?;
+        let number = self.windows.taken();
+        let placement = self.windows.placement(place, call);
+        let reason = self.windows.take(windows, place, call)?;
+        if reason.is_some() {
+            return Ok(reason);
         }
-        add_lock(&mut self.locks, windows, self.taken, call.what)?;
-        self.placements.add(self.taken, step)?;
-        self.taken = next;
+        add_lock(&mut self.locks, windows, number, call.what)?;
+        self.placements.add(number, placement)?;
         Ok(None)
     }
 
@@ -89,7 +75,7 @@ impl LiveEpochs {
     pub fn taken(&self) -> u32
         ensures { (calls : List Call) → Represents calls self.now → result ≡ length calls }
     {
-        self.taken
+        self.windows.taken()
     }
 
     /// The epoch in which the call of this number stands, where it is taken and is an access to a target.
@@ -121,62 +107,13 @@ impl LiveEpochs {
         ensures { IfOk result (λ table. (windows : List Window) (calls : List Call) → Represents calls self → HasLocks windows calls self → table ≡ table_of windows calls) }
     {
         let locks = self.placements.locks(self.alloc, &self.locks)?;
-        Ok(EpochTable::new(self.taken, self.placements, locks))
+        Ok(EpochTable::new(self.windows.taken(), self.placements, locks))
     }
 
     /// Whether an epoch has to be closed yet on a window that is not freed.
     pub fn is_unclosed(&self) -> bool
         ensures { (calls : List Call) → Represents calls self.now → result ≡ list_any (leaves_open calls) calls }
     {
-        any_unclosed(&self.windows)
+        self.windows.is_unclosed()
     }
-}
-
-/// Whether that is so of some window that is kept.
-fn any_unclosed(table: &IndexMap<Name, OpenEpochs>) -> bool
-    ensures any { result ≡ list_any (λ e. is_unclosed (open_of e.1)) table.now.entries }
-    ensures found { (i : ℕ) (e : List ℕ × OpenEpochs) → slice_get table.now.entries i ≡ Some e → lookup (pointwise nat_eq e.0) table.now.entries ≡ Some e.1 }
-{
-    table.iter().any(|(_, own)| own.is_unclosed())
-}
-
-/// Takes the call of this number, which is the next one, unless it has a reason, and answers what it does.
-fn step(
-    alloc: Global,
-    table: &mut IndexMap<Name, OpenEpochs>,
-    windows: &Windows,
-    number: u32,
-    call: CallRef<'_>,
-) -> Result<Step, Memory>
-    ensures step { IfOk result (λ step. step ≡ step_at windows.now (kept table.old.entries) (call_of call.entry)) }
-    ensures taken { IfOk result (λ step. (calls : List Call) → number ≡ length calls → ((window : List ℕ) → kept table.old.entries window ≡ open_on calls window)
-        → (window : List ℕ) → kept table.new.entries window ≡ open_on (taken_with step.reason (call_of call.entry) calls) window) }
-{
-    match window_on(call.what) {
-        Some(window) => step_on(alloc, table, windows, window, number, call),
-        None => Ok(Step::none()),
-    }
-}
-
-/// The same for a call on the window.
-fn step_on(
-    alloc: Global,
-    table: &mut IndexMap<Name, OpenEpochs>,
-    windows: &Windows,
-    window: &Name,
-    number: u32,
-    call: CallRef<'_>,
-) -> Result<Step, Memory>
-    ensures step { IfOk result (λ step. step ≡ step_in windows.now (kept table.old.entries window.now) (call_of call.entry)) }
-    ensures own { IfOk result (λ step. (past : List (ℕ × What)) (name : List ℕ) → pointwise nat_eq window.now name ≡ true → kept table.old.entries name ≡ open_after past
-        → kept table.new.entries name ≡ open_after (past_with step.reason (number, (call_of call.entry).what) past)) }
-    ensures others { OnOk result ((name : List ℕ) → pointwise nat_eq window.now name ≡ false → kept table.new.entries name ≡ kept table.old.entries name) }
-{
-    if let Some(own) = table.get_mut(window) {
-        return own.step(windows, number, call);
-    }
-    let mut own = OpenEpochs::new(alloc);
-    let step = own.step(windows, number, call)?;
-    table.insert(window.copy()?, own)?;
-    Ok(step)
 }

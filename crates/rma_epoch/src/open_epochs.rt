@@ -1,15 +1,16 @@
 //! What is open on one window.
-ghost use Rattle.std.specs.Prelude.{◌≡◌, ◌||◌, ◌∷◌, [], ℕ, List, OnOk, is_some};
+ghost use Rattle.std.specs.Prelude.{◌≡◌, ◌||◌, ◌∷◌, [], ℕ, List, IfOk, OnOk, is_some};
 ghost use Rattle.std.specs.Option.{option_or};
-ghost use Rattle.rma_call.specs.Call.{what_of};
+ghost use Rattle.rma_call.specs.Call.{call_of, what_of};
 ghost use Rattle.rma_call.specs.declared.what.What.{What};
 ghost use Rattle.rma_call.specs.declared.what.What.TheVariants.{Sync};
 ghost use Rattle.rma_call.specs.declared.what.SyncCall.TheVariants.{Epoch, Window};
 ghost use Rattle.rma_epoch.specs.Open.{frees, is_exclusive, is_left, is_used, open_after};
 ghost use Rattle.rma_epoch.specs.Fault.{is_unclosed};
-ghost use Rattle.rma_epoch.specs.Reason.{start_reaches};
+ghost use Rattle.rma_epoch.specs.Reason.{reason_in, start_reaches};
 ghost use Rattle.rma_epoch.specs.Table.{by_phase, by_start, closed_by, opening_in, reaching};
 ghost use Rattle.rma_epoch.specs.inside.Held.{open_of};
+ghost use Rattle.rma_epoch.specs.inside.Next.{past_with};
 
 use crate::opening::{
     FencePhase, HeldLock, OpenStart, Opening, is_used, opened_phase, opening_of_phase,
@@ -17,8 +18,9 @@ use crate::opening::{
 };
 use crate::table::EpochKind;
 use indexmap::IndexMap;
-use rma_base::{Memory, Rank};
-use rma_call::{EpochCall, LockKind, WhatRef, WindowCall};
+use rma_base::{EpochReason, Memory, Rank};
+use rma_call::{CallRef, EpochCall, LockKind, WhatRef, WindowCall};
+use rma_window::Windows;
 use std::alloc::Global;
 
 /// What a rank has open on one window.
@@ -53,8 +55,32 @@ impl OpenEpochs {
         }
     }
 
+    /// Takes the call of this number, which is the next one on the window, unless it stands in no epoch that allows it: then it
+    /// answers why, and nothing changes.
+    ///
+    /// # Errors
+    ///
+    /// `Memory`, and then nothing is said of what is open.
+    pub fn take_allowed(
+        &mut self,
+        windows: &Windows,
+        number: u32,
+        call: CallRef<'_>,
+    ) -> Result<Option<EpochReason>, Memory>
+        ensures reason { IfOk result (λ reason. reason ≡ reason_in windows.now (open_of self.old) (call_of call.entry).what call.entry.request) }
+        ensures taken { IfOk result (λ reason. (past : List (ℕ × What)) → open_of self.old ≡ open_after past
+            → open_of self.new ≡ open_after (past_with reason (number, (call_of call.entry).what) past)) }
+    {
+        let reason = self.reason(windows, call);
+        if reason.is_some() {
+            return Ok(reason);
+        }
+        self.take(number, call.what)?;
+        Ok(None)
+    }
+
     /// Takes the call of this number, which is the next one on the window.
-    pub(crate) fn take(&mut self, number: u32, what: WhatRef<'_>) -> Result<(), Memory>
+    fn take(&mut self, number: u32, what: WhatRef<'_>) -> Result<(), Memory>
         ensures { OnOk result ((past : List (ℕ × What)) → open_of self.old ≡ open_after past → open_of self.new ≡ open_after ((number, what_of what.entry) ∷ past)) }
     {
         match what {

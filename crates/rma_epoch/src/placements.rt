@@ -1,22 +1,42 @@
 //! The epochs in which calls stand, as they are kept.
-ghost use Rattle.std.specs.Prelude.{◌≡◌, ◌++◌, ◌∷◌, [], ℕ, map, IfOk, OnOk, Some, None, if◌then◌else◌};
+ghost use Rattle.std.specs.Prelude.{◌≡◌, ◌++◌, ◌∷◌, [], ◌<◌, ◌==◌, ℕ, length, map, IfOk, OnOk, Some, None, if◌then◌else◌};
 ghost use Rattle.rma_epoch.specs.Table.{at_number, epoch_with, is_opener, lock_with};
-ghost use Rattle.rma_epoch.specs.inside.Placements.{close_in, epochs_in};
+ghost use Rattle.rma_epoch.specs.inside.Placements.{close_at, close_in, epochs_in};
 
 use crate::opening::Opening;
-use crate::step::Step;
 use crate::table::{Epoch, LockEpoch};
-use indexmap::IndexMap;
 use rma_base::Memory;
 use std::alloc::Global;
+
+/// In which epoch a call stands, and what it closes.
+#[derive(Clone, Copy, Debug)]
+pub(crate) struct Placement {
+    /// The epoch in which it stands, where it is an access to a target.
+    pub opening: Option<Opening>,
+    /// The number of the call that opened what it closes.
+    pub closes: Option<u32>,
+}
+
+impl Placement {
+    /// A call that is on no window.
+    pub(crate) fn none() -> Placement
+        ensures { result ≡ record { opening = None; closes = None } }
+    {
+        Placement {
+            opening: None,
+            closes: None,
+        }
+    }
+}
 
 /// The epochs in which calls stand.
 #[derive(Debug, Drop)]
 pub struct Placements {
     /// For each call the epoch in which it stands, where it is an access to a target.
     openings: Vec<Option<Opening>>,
-    /// The number of the call that closes an epoch, by the number of the one that opened it.
-    closes: IndexMap<u32, u32>,
+    /// The number of the call that closes an epoch, at the number of the one that opened it. None that is closed lies behind
+    /// the end.
+    closes: Vec<Option<u32>>,
 }
 
 impl Placements {
@@ -27,20 +47,20 @@ impl Placements {
     {
         Placements {
             openings: Vec::new(alloc),
-            closes: IndexMap::new(alloc),
+            closes: Vec::new(alloc),
         }
     }
 
     /// Adds the call of this number, which is the next one.
-    pub(crate) fn add(&mut self, number: u32, step: Step) -> Result<(), Memory>
-        ensures openings { OnOk result (self.new.openings.items ≡ self.old.openings.items ++ step.opening ∷ []) }
-        ensures closes { OnOk result ((opener : ℕ) → close_in self.new opener ≡ (if is_opener opener step.closes then Some number else close_in self.old opener)) }
+    pub(crate) fn add(&mut self, number: u32, placement: Placement) -> Result<(), Memory>
+        ensures openings { OnOk result (self.new.openings.items ≡ self.old.openings.items ++ placement.opening ∷ []) }
+        ensures closes { OnOk result ((opener : ℕ) → close_in self.new opener ≡ (if is_opener opener placement.closes then Some number else close_in self.old opener)) }
     {
-        self.openings.push(step.opening)?;
-        if let Some(opener) = step.closes {
-            self.closes.insert(opener, number)?;
+        self.openings.push(placement.opening)?;
+        match placement.closes {
+            Some(opener) => close(&mut self.closes, opener, number),
+            None => Ok(()),
         }
-        Ok(())
     }
 
     /// The epoch in which the call of this number stands, where it is an access to a target.
@@ -93,6 +113,29 @@ impl Placements {
     pub(crate) fn close_of(&self, opener: u32) -> Option<u32>
         ensures { result ≡ close_in self.now opener }
     {
-        self.closes.get(&opener).copied()
+        match self.closes.get(opener as usize) {
+            Some(close) => *close,
+            None => None,
+        }
     }
+}
+
+/// Keeps the number of the call that closes what the call of the number of the opener opened.
+fn close(closes: &mut Vec<Option<u32>>, opener: u32, number: u32) -> Result<(), Memory>
+    ensures { OnOk result ((other : ℕ) → close_at closes.new.items other ≡ (if opener == other then Some number else close_at closes.old.items other)) }
+{
+    reach(closes, opener)?;
+    closes[opener as usize] = Some(number);
+    Ok(())
+}
+
+/// Makes the column so long that it has a place for the number.
+fn reach(closes: &mut Vec<Option<u32>>, opener: u32) -> Result<(), Memory>
+    ensures long { OnOk result (opener < length closes.new.items) }
+    ensures same { OnOk result ((other : ℕ) → close_at closes.new.items other ≡ close_at closes.old.items other) }
+{
+    for _ in closes.len()..opener as usize + 1 {
+        closes.push(None)?;
+    }
+    Ok(())
 }

@@ -1,15 +1,18 @@
 //! The epochs of a whole log, and its first epoch fault.
-ghost use Rattle.std.specs.Prelude.{◌≡◌, [], IfOk, OnOk, ℕ, true, Some, None, slice_get};
+ghost use Rattle.std.specs.Prelude.{◌≡◌, [], IfOk, OnOk, ℕ, length, true, Some, None, slice_get, if◌then◌else◌};
+ghost use Rattle.rma_base.specs.declared.epoch_reason.EpochReason.TheVariants.{EpochLeftOpen};
 ghost use Rattle.rma_call.specs.Call.{Call};
 ghost use Rattle.rma_epoch.specs.Calls.{window_on};
-ghost use Rattle.rma_epoch.specs.Fault.{fault_of};
+ghost use Rattle.rma_epoch.specs.Fault.{fault_from, fault_of};
 ghost use Rattle.rma_epoch.specs.Table.{sound_calls, table_of};
 ghost use Rattle.rma_epoch.specs.inside.Live.{HasLocks, Represents};
+ghost use Rattle.rma_epoch.specs.inside.Windows.{ArePlaces, IsOpenAfter, names_in};
 
 use crate::fault::EpochFault;
 use crate::live::LiveEpochs;
+use crate::open_windows::OpenWindows;
 use crate::table::EpochOutcome;
-use rma_base::{EpochReason, Memory};
+use rma_base::{EpochReason, LineNo, Memory};
 use rma_call::{CallList, Group, RankCalls};
 use rma_window::Windows;
 use std::alloc::Global;
@@ -46,11 +49,51 @@ pub fn epoch_fault(
 ) -> Result<Option<EpochFault>, Memory>
     ensures { IfOk result (λ fault. fault ≡ fault_of windows.now own.now) }
 {
-    if are_on_no_window(own.calls()) {
+    let calls = own.calls();
+    if are_on_no_window(calls) {
         return Ok(None);
     }
-    let mut live = LiveEpochs::new(alloc);
-    take_sound(&mut live, own, windows)
+    let mut opened = OpenWindows::new(alloc);
+    let places = opened.places(calls)?;
+    first_fault(&mut opened, windows, calls, places.as_slice(), own.end())
+}
+
+/// The first fault among the calls of a rank, none of which is taken yet, and the end of its log. These are the places of their
+/// windows, by the numbers of what calls do.
+fn first_fault(
+    opened: &mut OpenWindows,
+    windows: &Windows,
+    calls: &CallList,
+    places: &[Option<usize>],
+    end: LineNo,
+) -> Result<Option<EpochFault>, Memory>
+    requires nothing { IsOpenAfter [] opened.old }
+    requires each { length places.now ≡ length calls.now.whats }
+    requires places { ArePlaces (names_in opened.old) calls.now.whats places.now }
+    ensures { IfOk result (λ fault. fault ≡ fault_from windows.now [] calls.now.calls end) }
+{
+    for i in 0..calls.len() {
+        let call = calls.get(i);
+        let place = places[calls.what_number(i) as usize];
+        if let Some(reason) = opened.take(windows, place, call)? {
+            let line = call.line;
+            return Ok(Some(EpochFault { line, reason }));
+        }
+    }
+    Ok(fault_at_end(opened.is_unclosed(), end))
+}
+
+/// The fault of the line that ends a log, where an epoch is left open.
+fn fault_at_end(is_unclosed: bool, end: LineNo) -> Option<EpochFault>
+    ensures { result ≡ (if is_unclosed then Some (record { line = end; reason = EpochLeftOpen }) else None) }
+{
+    if !is_unclosed {
+        return None;
+    }
+    Some(EpochFault {
+        line: end,
+        reason: EpochReason::EpochLeftOpen,
+    })
 }
 
 /// Whether no call is on a window, as far as the groups of the calls tell.
@@ -83,11 +126,5 @@ fn take_sound(
             return Ok(Some(EpochFault { line, reason }));
         }
     }
-    if !live.is_unclosed() {
-        return Ok(None);
-    }
-    Ok(Some(EpochFault {
-        line: own.end(),
-        reason: EpochReason::EpochLeftOpen,
-    }))
+    Ok(fault_at_end(live.is_unclosed(), own.end()))
 }

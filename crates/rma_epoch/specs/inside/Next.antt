@@ -1,6 +1,7 @@
 -- What is open after one more call.
-use Rattle.std.specs.Prelude.{◌≡◌, ℕ, true, false, ◌||◌, Option, Some, None, option_map, unwrap_or, if◌then◌else◌}
+use Rattle.std.specs.Prelude.{◌≡◌, ℕ, List, ◌∷◌, true, false, ◌||◌, Option, Some, None, is_none, option_map, unwrap_or, if◌then◌else◌}
 use Rattle.std.specs.Option.{option_and_then}
+use Rattle.rma_base.specs.declared.epoch_reason.EpochReason.{EpochReason}
 use Rattle.rma_call.specs.declared.what.What.{What}
 use Rattle.rma_call.specs.declared.what.What.TheVariants.{Sync, Rma}
 use Rattle.rma_call.specs.declared.what.SyncCall.TheVariants.{Epoch}
@@ -33,3 +34,7 @@ pub record IsNext (number : ℕ) (what : What) (old new : Open) : Type 0 where
   pub lock_on : (target : ℕ) → new.lock_on target ≡ unwrap_or (of_lock target number what) (old.lock_on target)
   pub phase : new.phase ≡ next_phase number what old.phase
   pub freed : new.freed ≡ (frees what || old.freed)
+
+-- the calls on a window with one more, unless that has a reason
+abbrev pub past_with : Option EpochReason → ℕ × What → List (ℕ × What) → List (ℕ × What)
+past_with reason call past = if is_none reason then call ∷ past else past

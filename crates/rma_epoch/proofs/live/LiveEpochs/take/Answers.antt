@@ -1,35 +1,35 @@
-use Rattle.std.proofs.Common.{◌≡◌, ◌+◌, ◌∷◌, ◌++◌, [], ℕ, List, Some, None, cond, length, subst, sym, ap, ◌∙◌, length-append}
+use Rattle.std.proofs.Common.{◌≡◌, ◌∷◌, ◌++◌, [], Some, None, cond, length, subst, sym, ap, ◌∙◌}
 use Rattle.std.specs.List.{cons_option}
 use Rattle.rma_call.specs.Call.{call_of}
-use Rattle.rma_epoch.specs.Open.{Open, open_on}
-use Rattle.rma_epoch.specs.Table.{closed_at, is_opener, lock_opened, locks_opened, openings_from, opening_at, taken_with}
-use Rattle.rma_epoch.specs.declared.step.Step.{Step}
-use Rattle.rma_epoch.specs.inside.Live.{kept}
+use Rattle.rma_epoch.specs.Table.{closed_at, is_opener, lock_opened, locks_opened, openings_from, taken_with}
+use Rattle.rma_epoch.specs.declared.placements.Placement.{Placement}
 use Rattle.rma_epoch.specs.inside.Placements.{close_in}
-use Rattle.rma_epoch.proofs.TableLemmas.{close_push, closed_is, locks_push, not_some, opening_is, openings_push}
+use Rattle.rma_epoch.specs.inside.Windows.{IsOpenAfter, placed_at}
+use Rattle.rma_epoch.proofs.OptionLemmas.{is_nothing}
+use Rattle.rma_epoch.proofs.TableLemmas.{close_push, locks_push, openings_push}
 use Rattle.rma_epoch.proofs.live.LiveEpochs.take.Goals as goal
+
+pub returns-then-is_some-clause-reason : goal.returns-then-is_some-clause-reason
+returns-then-is_some-clause-reason c = λ calls are. c.in_ok-reason.ensures.reason calls (c.in_ok-place.ensures.same calls are.open_is) c.in_ok-place.ensures.place
 
 pub returns-clause-taken : goal.returns-clause-taken
 returns-clause-taken c = λ calls are.
     let own = c.args.self.now in
     let call = call_of c.args.call in
-    let windows = c.args.windows.now in
-    let opened : List ℕ → Open = kept own.windows.entries in
-    let step = c.in_ok-step.step in
-    let none : step.reason ≡ None = not_some step.reason (sym c.is_some.ensures ∙ c.if-is_some.false) in
-    let opening : step.opening ≡ opening_at calls call = ap (λ (s : Step). s.opening) c.in_ok-step.ensures.step ∙ opening_is windows opened calls call are.windows_are in
-    let closed : step.closes ≡ closed_at calls call = ap (λ (s : Step). s.closes) c.in_ok-step.ensures.step ∙ closed_is windows opened calls call are.windows_are in
+    let reason = c.in_ok-reason.reason in
+    let none : reason ≡ None = is_nothing reason (sym c.is_some.ensures ∙ c.if-is_some.false) in
+    let before = c.in_ok-place.ensures.same calls are.open_is in
+    let number : c.taken-number.result ≡ length calls = c.taken-number.ensures calls before in
+    let placed : c.placement-placement.result ≡ placed_at calls call = c.placement-placement.ensures calls before c.in_ok-place.ensures.place in
     record {
-      windows_are = subst (λ o. (window : List ℕ) → kept c.step.new.table.entries window ≡ open_on (taken_with o call calls) window) none
-          (c.in_ok-step.ensures.taken calls are.taken_are are.windows_are);
-      taken_are = c.in-Some.ensures.1 ∙ ap (λ k. k + 1) are.taken_are ∙ sym (length-append calls (call ∷ []));
+      open_is = subst (λ o. IsOpenAfter (taken_with o call calls) c.take.new.self) none (c.in_ok-reason.ensures.taken calls before c.in_ok-place.ensures.place);
       openings_are = c.in_ok-add.ensures.openings
-          ∙ ap (λ openings. openings ++ step.opening ∷ []) are.openings_are
-          ∙ ap (λ opening. openings_from [] calls ++ opening ∷ []) opening
+          ∙ ap (λ openings. openings ++ c.placement-placement.result.opening ∷ []) are.openings_are
+          ∙ ap (λ (p : Placement). openings_from [] calls ++ p.opening ∷ []) placed
           ∙ sym (openings_push calls call);
       closes_are = λ opener. c.in_ok-add.ensures.closes opener
-          ∙ ap (λ closes. cond (is_opener opener closes) (Some own.taken) (close_in own.placements opener)) closed
-          ∙ ap (λ n. cond (is_opener opener (closed_at calls call)) (Some n) (close_in own.placements opener)) are.taken_are
+          ∙ ap (λ (p : Placement). cond (is_opener opener p.closes) (Some c.taken-number.result) (close_in own.placements opener)) placed
+          ∙ ap (λ n. cond (is_opener opener (closed_at calls call)) (Some n) (close_in own.placements opener)) number
           ∙ ap (λ close. cond (is_opener opener (closed_at calls call)) (Some (length calls)) close) (are.closes_are opener)
           ∙ sym (close_push opener calls call);
     }
@@ -38,9 +38,10 @@ pub returns-clause-locks : goal.returns-clause-locks
 returns-clause-locks c = λ calls are has.
     let call = call_of c.args.call in
     let windows = c.args.windows.now in
+    let number : c.taken-number.result ≡ length calls = c.taken-number.ensures calls (c.in_ok-place.ensures.same calls are.open_is) in
     record {
       locks_are = c.in_ok-add_lock.ensures
-          ∙ ap (λ locks. locks ++ cons_option (lock_opened windows c.args.self.now.taken call.what) []) has.locks_are
-          ∙ ap (λ n. locks_opened windows 0 calls ++ cons_option (lock_opened windows n call.what) []) are.taken_are
+          ∙ ap (λ locks. locks ++ cons_option (lock_opened windows c.taken-number.result call.what) []) has.locks_are
+          ∙ ap (λ n. locks_opened windows 0 calls ++ cons_option (lock_opened windows n call.what) []) number
           ∙ sym (locks_push windows calls call);
     }

@@ -1,0 +1,56 @@
+-- What is kept of what is open on the windows of a rank.
+use Rattle.std.specs.Prelude.{◌≡◌, ℕ, List, [], length, nat_eq, Option, Some, None, slice_get}
+use Rattle.std.specs.Map.{keys_of, lookup}
+use Rattle.std.specs.Option.{option_map_or}
+use Rattle.std.specs.Cmp.Lexicographic.{pointwise}
+use Rattle.rma_base.specs.declared.epoch_reason.EpochReason.{EpochReason}
+use Rattle.rma_call.specs.Call.{Call}
+use Rattle.rma_call.specs.declared.what.What.{What}
+use Rattle.rma_window.specs.Windows.{Window}
+use Rattle.rma_epoch.specs.declared.open_epochs.OpenEpochs.{OpenEpochs}
+use Rattle.rma_epoch.specs.declared.open_windows.OpenWindows.{OpenWindows}
+use Rattle.rma_epoch.specs.declared.placements.Placement.{Placement}
+use Rattle.rma_epoch.specs.Calls.{window_on}
+use Rattle.rma_epoch.specs.Open.{Open, open_after, open_on}
+use Rattle.rma_epoch.specs.Reason.{reason_at}
+use Rattle.rma_epoch.specs.Table.{closed_at, closed_by, opening_at, opening_in, taken_with}
+use Rattle.rma_epoch.specs.inside.Held.{open_of}
+
+-- what is kept of a window: nothing is open where nothing is kept
+abbrev pub kept : List (List ℕ × OpenEpochs) → List ℕ → Open
+kept windows window = option_map_or open_of (lookup (pointwise nat_eq window) windows) (open_after [])
+
+-- what is kept represents what these calls of a rank leave open
+pub record IsOpenAfter (calls : List Call) (own : OpenWindows) : Type 0 where
+  pub windows_are : (window : List ℕ) → kept own.windows.entries window ≡ open_on calls window
+  pub taken_are : own.taken ≡ length calls
+
+-- the windows that have a place, in the order of their places
+abbrev pub names_in : OpenWindows → List (List ℕ)
+names_in own = keys_of own.windows.entries
+
+-- a place is that of the window which calls are on that do this, and there is none where they are on no window
+abbrev pub IsPlaceOf : List (List ℕ) → What → Option ℕ → Type 0
+IsPlaceOf names what None = window_on what ≡ None
+IsPlaceOf names what (Some place) = (name : List ℕ) × (slice_get names place ≡ Some name) × (window_on what ≡ Some name)
+
+-- the places are those of what calls do, by number
+abbrev pub ArePlaces : List (List ℕ) → List What → List (Option ℕ) → Type 0
+ArePlaces names whats places = (number : ℕ) (what : What) (place : Option ℕ) → slice_get whats number ≡ Some what → slice_get places number ≡ Some place → IsPlaceOf names what place
+
+-- names stay where they are
+abbrev pub StayThere : List (List ℕ) → List (List ℕ) → Type 0
+StayThere old new = (place : ℕ) (name : List ℕ) → slice_get old place ≡ Some name → slice_get new place ≡ Some name
+
+-- a call has come after these calls: the reason is its own, and what is kept is what they leave open and it, unless it has a reason
+pub record IsTaken (windows : List Window) (calls : List Call) (call : Call) (reason : Option EpochReason) (new : List (List ℕ × OpenEpochs)) : Type 0 where
+  pub reason_is : reason ≡ reason_at windows calls call
+  pub windows_are : (window : List ℕ) → kept new window ≡ open_on (taken_with reason call calls) window
+
+-- in which epoch a call on a window stands and what it closes, where this is open there
+abbrev pub placed_in : Open → What → Placement
+placed_in own what = record { opening = opening_in own what; closes = closed_by own what }
+
+-- the same of a call after these calls
+abbrev pub placed_at : List Call → Call → Placement
+placed_at calls call = record { opening = opening_at calls call; closes = closed_at calls call }
