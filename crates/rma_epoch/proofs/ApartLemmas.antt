@@ -16,16 +16,16 @@ use Rattle.rma_call.specs.declared.what.SyncCall.TheVariants.{Frame, Message, Wi
 use Rattle.rma_call.specs.declared.epoch.EpochCall.TheVariants.{Fence, Post, Start, Complete, Expwait, Lock, Unlock, LockAll, UnlockAll, Flush, FlushAll, FlushLocal, FlushLocalAll}
 use Rattle.rma_call.specs.declared.epoch.EpochCall.TheVariants as epoch
 use Rattle.rma_window.specs.Windows as table
-use Rattle.rma_epoch.specs.declared.opening.FencePhase.{FencePhase}
-use Rattle.rma_epoch.specs.declared.opening.HeldLock.{HeldLock}
-use Rattle.rma_epoch.specs.Calls.{is_on, past_on, window_on}
-use Rattle.rma_epoch.specs.Open.{Open, is_held, left_by, lock_of, of_lock, of_lock_all, of_start, open_after, open_on}
-use Rattle.rma_epoch.specs.Reason.{all_reasons, fence_in_epoch, holds, is_accessing, reason_at, reason_in}
+use Rattle.rma_open.specs.declared.opening.FencePhase.{FencePhase}
+use Rattle.rma_open.specs.declared.opening.HeldLock.{HeldLock}
+use Rattle.rma_open.specs.Calls.{is_on, past_on, window_on}
+use Rattle.rma_open.specs.Open.{Open, is_held, left_by, lock_of, of_lock, of_lock_all, of_start, open_after, open_on}
+use Rattle.rma_open.specs.Reason.{all_reasons, fence_in_epoch, holds, is_accessing, reason_at, reason_in}
 use Rattle.rma_epoch.specs.Table.{sound_from}
-use Rattle.rma_epoch.specs.inside.Next.{kept_if_used, next_phase, with_use}
-use Rattle.rma_epoch.proofs.EventLemmas.{held_by, phase_push, some_held}
-use Rattle.rma_epoch.proofs.LiveLemmas.{or_left, or_right, past_push}
-use Rattle.rma_epoch.proofs.OptionLemmas.{is_nothing}
+use Rattle.rma_open.specs.inside.Next.{kept_if_used, next_phase, with_use}
+use Rattle.rma_open.proofs.EventLemmas.{held_by, phase_push, some_held}
+use Rattle.rma_epoch.proofs.LiveLemmas.{past_push}
+use Rattle.rma_open.proofs.TestLemmas.{is_nothing, or_left, or_right}
 
 -- ---- one kind
 

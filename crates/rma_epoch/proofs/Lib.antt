@@ -1,11 +1,7 @@
-pub mod ApartLemmas
-pub mod WindowlessLemmas
-pub mod EventLemmas
 pub mod LiveLemmas
-pub mod MemberLemmas
-pub mod RangeLemmas
-pub mod SoundLemmas
-pub mod TableLemmas
-pub mod OneLemmas
-pub mod OptionLemmas
 pub mod PlaceLemmas
+pub mod TableLemmas
+pub mod WindowlessLemmas
+pub mod SoundLemmas
+pub mod ApartLemmas
+pub mod OneLemmas

@@ -1,5 +1,5 @@
 -- What is kept of the windows of a rank.
-use Rattle.std.proofs.Common.{◌≡◌, ℕ, suc, ◌+◌, Bool, true, false, cond, ◌||◌, ◌∷◌, ◌++◌, List, [], length, Option, Some, None, nat_eq, slice_get, refl, sym, ap, ◌∙◌, arith}
+use Rattle.std.proofs.Common.{◌≡◌, ℕ, suc, ◌+◌, Bool, true, false, cond, ◌∷◌, ◌++◌, List, [], length, Option, Some, None, nat_eq, slice_get, refl, sym, ap, ◌∙◌, arith}
 use Rattle.std.proofs.lemmas.Bool.{true≢false, false≢true}
 use Rattle.std.proofs.Common.{Result, Ok, Err, take, drop}
 use Rattle.std.proofs.Math.Seq.{drop-cons}
@@ -9,22 +9,22 @@ use Rattle.std.specs.Prelude.{IfOk, OnOk, option_map}
 use Rattle.rma_base.specs.declared.epoch_reason.EpochReason.{EpochReason}
 use Rattle.rma_base.specs.declared.line.LineNo.{LineNo}
 use Rattle.rma_window.specs.Windows.{Window}
-use Rattle.rma_epoch.specs.Reason.{reason_at}
+use Rattle.rma_open.specs.Reason.{reason_at}
 use Rattle.std.specs.Map.{lookup}
 use Rattle.std.specs.List.{list_any}
 use Rattle.std.specs.Option.{option_map_or, option_or}
 use Rattle.std.specs.Cmp.Lexicographic.{pointwise, same_text, nat_list_eq_equiv}
 use Rattle.rma_call.specs.Call.{Call}
 use Rattle.rma_call.specs.declared.what.What.{What}
-use Rattle.rma_epoch.specs.declared.open_epochs.OpenEpochs.{OpenEpochs}
-use Rattle.rma_epoch.specs.Calls.{window_on, is_on, past_from, past_on}
-use Rattle.rma_epoch.specs.Open.{open_after, open_on}
-use Rattle.rma_epoch.specs.Fault.{fault_from, is_unclosed, leaves_open}
-use Rattle.rma_epoch.specs.inside.Held.{open_of}
+use Rattle.rma_open.specs.declared.open_epochs.OpenEpochs.{OpenEpochs}
+use Rattle.rma_open.specs.Calls.{window_on, is_on, past_from, past_on}
+use Rattle.rma_open.specs.Open.{open_after, open_on, is_unclosed}
+use Rattle.rma_epoch.specs.Fault.{fault_from, leaves_open}
+use Rattle.rma_open.specs.inside.Held.{open_of}
 use Rattle.rma_epoch.specs.Table.{taken_with}
-use Rattle.rma_epoch.specs.inside.Next.{past_with}
+use Rattle.rma_open.specs.inside.Next.{past_with}
 use Rattle.rma_epoch.specs.inside.Windows.{kept}
-use Rattle.rma_epoch.proofs.EventLemmas.{all_false}
+use Rattle.rma_open.proofs.TestLemmas.{all_false, none_at, or_left, or_right, same_test}
 
 -- ---- one more call
 
@@ -84,26 +84,6 @@ kept_with calls call own on old new (Some reason) taken others are window = by (
     by false differ = others window differ ∙ are window
 
 -- ---- the end
-
--- two tests are one where each is false where the other is
-pub same_test : (a b : Bool) → (b ≡ false → a ≡ false) → (a ≡ false → b ≡ false) → a ≡ b
-same_test true true f g = refl
-same_test false false f g = refl
-same_test true false f g = f refl
-same_test false true f g = sym (g refl)
-
-pub or_left : (a b : Bool) → (a || b) ≡ false → a ≡ false
-or_left false b h = refl
-or_left true b h = h
-
-pub or_right : (a b : Bool) → (a || b) ≡ false → b ≡ false
-or_right false b h = h
-or_right true b h = absurd (true≢false h)
-
--- a test that fails at each place fails
-pub none_at : {X : Type 0} (p : X → Bool) (xs : List X) → ((i : ℕ) (x : X) → slice_get xs i ≡ Some x → p x ≡ false) → list_any p xs ≡ false
-none_at p [] none = refl
-none_at p (x ∷ xs) none = rw (none 0 x refl) (none_at p xs (λ i y there. none (suc i) y there))
 
 -- calls that pass a test where they are on a window; where none passes, none is on it
 never_on : (p : Call → Bool) (window : List ℕ) → ((call : Call) → is_on window call.what ≡ true → p call ≡ true) → (n : ℕ) (past : List (ℕ × What)) (calls : List Call) → list_any p calls ≡ false

@@ -14,15 +14,16 @@ use Rattle.rma_call.specs.declared.rma.RmaCall.{RmaCall}
 use Rattle.rma_call.specs.declared.what.What.{What}
 use Rattle.rma_call.specs.declared.what.What.TheVariants.{Sync, Rma, Local}
 use Rattle.rma_window.specs.Windows.{Window}
-use Rattle.rma_epoch.specs.declared.opening.FencePhase.{FencePhase}
-use Rattle.rma_epoch.specs.declared.opening.HeldLock.{HeldLock}
-use Rattle.rma_epoch.specs.declared.opening.OpenStart.{OpenStart}
-use Rattle.rma_epoch.specs.declared.opening.Opening.{Opening}
-use Rattle.rma_epoch.specs.declared.table.EpochKind.TheVariants as kind
-use Rattle.rma_epoch.specs.Calls.{window_on}
-use Rattle.rma_epoch.specs.Open.{Open, open_on}
-use Rattle.rma_epoch.specs.Reason.{all_reasons, holds, reaches, reason_in}
-use Rattle.rma_epoch.specs.Table.{close_of, epoch_of, epoch_with, has_target, opening_at, opening_in, openings_from, by_lock, by_lock_all, by_phase, by_start, reaching, sound_calls, OneReaches, AccessesHaveEpochs}
+use Rattle.rma_open.specs.declared.opening.FencePhase.{FencePhase}
+use Rattle.rma_open.specs.declared.opening.HeldLock.{HeldLock}
+use Rattle.rma_open.specs.declared.opening.OpenStart.{OpenStart}
+use Rattle.rma_open.specs.declared.opening.Opening.{Opening}
+use Rattle.rma_open.specs.declared.opening.EpochKind.TheVariants as kind
+use Rattle.rma_open.specs.Calls.{window_on}
+use Rattle.rma_open.specs.Open.{Open, open_on}
+use Rattle.rma_open.specs.Reason.{all_reasons, holds, reaches, reason_in}
+use Rattle.rma_open.specs.Reaching.{opening_in, by_lock, by_lock_all, by_phase, by_start, reaching}
+use Rattle.rma_epoch.specs.Table.{close_of, epoch_of, epoch_with, has_target, opening_at, openings_from, sound_calls, OneReaches, AccessesHaveEpochs}
 use Rattle.rma_epoch.proofs.ApartLemmas.{Apart, find_none, is_apart}
 
 -- ---- one reaches

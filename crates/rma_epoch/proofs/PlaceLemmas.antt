@@ -16,17 +16,18 @@ use Rattle.rma_base.specs.declared.epoch_reason.EpochReason.{EpochReason}
 use Rattle.rma_call.specs.Call.{Call}
 use Rattle.rma_call.specs.declared.what.What.{What}
 use Rattle.rma_window.specs.Windows.{Window}
-use Rattle.rma_epoch.specs.declared.open_epochs.OpenEpochs.{OpenEpochs}
+use Rattle.rma_open.specs.declared.open_epochs.OpenEpochs.{OpenEpochs}
 use Rattle.rma_epoch.specs.declared.placements.Placement.{Placement}
-use Rattle.rma_epoch.specs.Calls.{window_on}
-use Rattle.rma_epoch.specs.Open.{open_after, open_on}
-use Rattle.rma_epoch.specs.Reason.{reason_in}
-use Rattle.rma_epoch.specs.Table.{closed_by, opening_in, taken_with}
-use Rattle.rma_epoch.specs.inside.Held.{open_of}
-use Rattle.rma_epoch.specs.inside.Next.{past_with}
+use Rattle.rma_open.specs.Calls.{window_on}
+use Rattle.rma_open.specs.Open.{open_after, open_on}
+use Rattle.rma_open.specs.Reason.{reason_in}
+use Rattle.rma_open.specs.Reaching.{closed_by, opening_in}
+use Rattle.rma_epoch.specs.Table.{taken_with}
+use Rattle.rma_open.specs.inside.Held.{open_of}
+use Rattle.rma_open.specs.inside.Next.{past_with}
 use Rattle.rma_epoch.specs.inside.Windows.{ArePlaces, IsPlaceOf, IsTaken, kept, placed_at, placed_in, StayThere}
 use Rattle.rma_epoch.proofs.LiveLemmas.{kept_with, same_after_none}
-use Rattle.rma_epoch.proofs.OptionLemmas.{is_nothing}
+use Rattle.rma_open.proofs.TestLemmas.{is_nothing}
 
 -- ---- lists that grow
 

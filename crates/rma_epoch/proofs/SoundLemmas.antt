@@ -10,7 +10,7 @@ use Rattle.rma_base.specs.declared.line.LineNo.{LineNo}
 use Rattle.rma_call.specs.Call.{Call, RankCalls}
 use Rattle.rma_epoch.specs.declared.fault.EpochFault.{EpochFault}
 use Rattle.rma_window.specs.Windows.{Window}
-use Rattle.rma_epoch.specs.Reason.{reason_at}
+use Rattle.rma_open.specs.Reason.{reason_at}
 use Rattle.rma_epoch.specs.Fault.{fault_from}
 use Rattle.rma_epoch.specs.Table.{FaultComesNext, sound_calls, sound_from, SoundComeFirst}
 use Rattle.rma_epoch.proofs.LiveLemmas.{taken_there}

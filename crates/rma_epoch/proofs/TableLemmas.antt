@@ -8,7 +8,7 @@ use Rattle.std.proofs.lemmas.List.{append-nil}
 use Rattle.rma_call.specs.Call.{Call}
 use Rattle.rma_window.specs.Windows.{Window}
 use Rattle.rma_epoch.specs.declared.live.LiveEpochs.{LiveEpochs}
-use Rattle.rma_epoch.specs.declared.opening.Opening.{Opening}
+use Rattle.rma_open.specs.declared.opening.Opening.{Opening}
 use Rattle.rma_epoch.specs.declared.table.LockEpoch.{LockEpoch}
 use Rattle.rma_epoch.specs.Table.{opening_at, openings_from, closed_at, is_opener, close_from, close_of, epoch_with, Epochs, lock_opened, lock_with, locks_opened, locks_of, table_of}
 use Rattle.rma_epoch.specs.inside.Placements.{close_in}

@@ -11,9 +11,9 @@ use Rattle.rma_call.specs.declared.what.What.{What}
 use Rattle.rma_call.specs.declared.what.What.TheVariants.{Sync, Rma, Local}
 use Rattle.rma_call.specs.declared.what.SyncCall.TheVariants as sync
 use Rattle.rma_window.specs.Windows.{Window}
-use Rattle.rma_epoch.specs.Calls.{window_on}
-use Rattle.rma_epoch.specs.Fault.{fault_from, fault_of, is_unclosed, leaves_open}
-use Rattle.rma_epoch.specs.Open.{open_on}
+use Rattle.rma_open.specs.Calls.{window_on}
+use Rattle.rma_open.specs.Open.{is_unclosed, open_on}
+use Rattle.rma_epoch.specs.Fault.{fault_from, fault_of, leaves_open}
 
 -- a call of another group is on no window
 pub on_none : (what : What) → (group_of what ≡ group.Epoch → ⊥) → (group_of what ≡ group.Rma → ⊥) → (group_of what ≡ group.Window → ⊥) → window_on what ≡ None

@@ -1,5 +1,5 @@
 -- The first call of a rank that stands in no epoch that allows it (MPI 4.0, "One-Sided Communications").
-use Rattle.std.specs.Prelude.{List, [], ◌∷◌, ◌++◌, Bool, false, ◌&&◌, not, Option, Some, None, option_map, if◌then◌else◌}
+use Rattle.std.specs.Prelude.{List, [], ◌∷◌, ◌++◌, Bool, false, Option, Some, None, option_map, if◌then◌else◌}
 use Rattle.std.specs.List.{list_any}
 use Rattle.std.specs.Option.{option_map_or, option_or}
 use Rattle.rma_base.specs.declared.line.LineNo.{LineNo}
@@ -7,15 +7,11 @@ use Rattle.rma_base.specs.declared.epoch_reason.EpochReason.TheVariants.{EpochLe
 use Rattle.rma_call.specs.Call.{Call, RankCalls}
 use Rattle.rma_window.specs.Windows.{Window}
 use Rattle.rma_epoch.specs.declared.fault.EpochFault.{EpochFault}
-use Rattle.rma_epoch.specs.Calls.{window_on}
-use Rattle.rma_epoch.specs.Open.{Open, open_on, is_left}
-use Rattle.rma_epoch.specs.Reason.{reason_at}
+use Rattle.rma_open.specs.Calls.{window_on}
+use Rattle.rma_open.specs.Open.{is_unclosed, open_on}
+use Rattle.rma_open.specs.Reason.{reason_at}
 
--- whether an epoch has to be closed yet on a window that is not freed
-abbrev pub is_unclosed : Open → Bool
-is_unclosed own = not own.freed && is_left own
-
--- whether that is so of the window of a call, after these calls of the rank
+-- whether an epoch has to be closed yet on the window of a call, which is not freed, after these calls of the rank
 abbrev pub leaves_open : List Call → Call → Bool
 leaves_open calls call = option_map_or (λ window. is_unclosed (open_on calls window)) (window_on call.what) false
 

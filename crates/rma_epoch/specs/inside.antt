@@ -1,5 +1,3 @@
-pub mod Next
-pub mod Held
-pub mod Live
 pub mod Windows
 pub mod Placements
+pub mod Live

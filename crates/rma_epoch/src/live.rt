@@ -3,7 +3,7 @@ ghost use Rattle.std.specs.Prelude.{◌≡◌, [], List, length, slice_get, IfOk
 ghost use Rattle.std.specs.List.{list_any};
 ghost use Rattle.rma_call.specs.Call.{Call, call_of};
 ghost use Rattle.rma_window.specs.Windows.{Window};
-ghost use Rattle.rma_epoch.specs.Reason.{reason_at};
+ghost use Rattle.rma_open.specs.Reason.{reason_at};
 ghost use Rattle.rma_epoch.specs.Table.{close_of, epoch_of, locks_of, table_of, taken_with};
 ghost use Rattle.rma_epoch.specs.Fault.{leaves_open};
 ghost use Rattle.rma_epoch.specs.inside.Live.{HasLocks, Represents};

@@ -1,24 +1,22 @@
 //! What a rank has open on its windows.
-ghost use Rattle.std.specs.Prelude.{◌≡◌, [], ℕ, List, Some, length, slice_get, IfOk, OnOk};
+ghost use Rattle.std.specs.Prelude.{◌≡◌, [], ℕ, List, Some, true, length, nat_eq, slice_get, IfOk, OnOk};
 ghost use Rattle.std.specs.Map.{keys_of, lookup};
 ghost use Rattle.std.specs.List.{list_any};
-ghost use Rattle.std.specs.Prelude.{true, nat_eq};
 ghost use Rattle.std.specs.Cmp.Lexicographic.{pointwise};
 ghost use Rattle.rma_call.specs.Call.{Call, call_of, what_of};
-ghost use Rattle.rma_epoch.specs.Open.{open_on};
-ghost use Rattle.rma_epoch.specs.Reason.{reason_at};
+ghost use Rattle.rma_open.specs.Open.{open_on, is_unclosed};
+ghost use Rattle.rma_open.specs.Reason.{reason_at};
 ghost use Rattle.rma_epoch.specs.Table.{taken_with};
-ghost use Rattle.rma_epoch.specs.Fault.{is_unclosed, leaves_open};
-ghost use Rattle.rma_epoch.specs.declared.open_epochs.OpenEpochs.{OpenEpochs};
-ghost use Rattle.rma_epoch.specs.inside.Held.{open_of};
+ghost use Rattle.rma_epoch.specs.Fault.{leaves_open};
+ghost use Rattle.rma_open.specs.declared.open_epochs.OpenEpochs.{OpenEpochs};
+ghost use Rattle.rma_open.specs.inside.Held.{open_of};
 ghost use Rattle.rma_epoch.specs.inside.Windows.{ArePlaces, IsOpenAfter, IsPlaceOf, IsTaken, kept, names_in, placed_at, placed_in, StayThere};
 
-use crate::call::window_on;
-use crate::open_epochs::OpenEpochs;
 use crate::placements::Placement;
 use indexmap::IndexMap;
 use rma_base::{EpochReason, Memory, Name};
 use rma_call::{CallList, CallRef, WhatRef};
+use rma_open::{OpenEpochs, window_on};
 use rma_window::Windows;
 use std::alloc::Global;
 

@@ -3,9 +3,9 @@ ghost use Rattle.std.specs.Prelude.{◌≡◌, ◌++◌, ◌∷◌, [], ◌<◌,
 ghost use Rattle.rma_epoch.specs.Table.{at_number, epoch_with, is_opener, lock_with};
 ghost use Rattle.rma_epoch.specs.inside.Placements.{close_at, close_in, epochs_in};
 
-use crate::opening::Opening;
 use crate::table::{Epoch, LockEpoch};
 use rma_base::Memory;
+use rma_open::Opening;
 use std::alloc::Global;
 
 /// In which epoch a call stands, and what it closes.

@@ -6,24 +6,9 @@ ghost use Rattle.rma_epoch.specs.inside.Placements.{epochs_in};
 use crate::fault::EpochFault;
 use crate::placements::Placements;
 use rma_base::Rank;
+use rma_open::EpochKind;
 use rma_window::WindowId;
 use std::marker::Model;
-
-/// The kind of an epoch that reaches targets.
-#[derive(Clone, Copy, Debug, PartialEq, Eq)]
-pub enum EpochKind {
-    /// The phase of a fence.
-    Fence,
-    /// The access epoch of a start.
-    Start,
-    /// The lock of one target.
-    Lock {
-        /// Whether it keeps all other locks away.
-        exclusive: bool,
-    },
-    /// The shared lock of all targets.
-    LockAll,
-}
 
 /// The epoch in which an access stands.
 #[derive(Clone, Copy, Debug, PartialEq, Eq)]

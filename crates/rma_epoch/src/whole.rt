@@ -2,7 +2,7 @@
 ghost use Rattle.std.specs.Prelude.{◌≡◌, [], IfOk, OnOk, ℕ, length, true, Some, None, slice_get, if◌then◌else◌};
 ghost use Rattle.rma_base.specs.declared.epoch_reason.EpochReason.TheVariants.{EpochLeftOpen};
 ghost use Rattle.rma_call.specs.Call.{Call};
-ghost use Rattle.rma_epoch.specs.Calls.{window_on};
+ghost use Rattle.rma_open.specs.Calls.{window_on};
 ghost use Rattle.rma_epoch.specs.Fault.{fault_from, fault_of};
 ghost use Rattle.rma_epoch.specs.Table.{sound_calls, table_of};
 ghost use Rattle.rma_epoch.specs.inside.Live.{HasLocks, Represents};

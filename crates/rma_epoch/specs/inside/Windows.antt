@@ -7,14 +7,15 @@ use Rattle.rma_base.specs.declared.epoch_reason.EpochReason.{EpochReason}
 use Rattle.rma_call.specs.Call.{Call}
 use Rattle.rma_call.specs.declared.what.What.{What}
 use Rattle.rma_window.specs.Windows.{Window}
-use Rattle.rma_epoch.specs.declared.open_epochs.OpenEpochs.{OpenEpochs}
+use Rattle.rma_open.specs.declared.open_epochs.OpenEpochs.{OpenEpochs}
 use Rattle.rma_epoch.specs.declared.open_windows.OpenWindows.{OpenWindows}
 use Rattle.rma_epoch.specs.declared.placements.Placement.{Placement}
-use Rattle.rma_epoch.specs.Calls.{window_on}
-use Rattle.rma_epoch.specs.Open.{Open, open_after, open_on}
-use Rattle.rma_epoch.specs.Reason.{reason_at}
-use Rattle.rma_epoch.specs.Table.{closed_at, closed_by, opening_at, opening_in, taken_with}
-use Rattle.rma_epoch.specs.inside.Held.{open_of}
+use Rattle.rma_open.specs.Calls.{window_on}
+use Rattle.rma_open.specs.Open.{Open, open_after, open_on}
+use Rattle.rma_open.specs.Reason.{reason_at}
+use Rattle.rma_open.specs.Reaching.{closed_by, opening_in}
+use Rattle.rma_epoch.specs.Table.{closed_at, opening_at, taken_with}
+use Rattle.rma_open.specs.inside.Held.{open_of}
 
 -- what is kept of a window: nothing is open where nothing is kept
 abbrev pub kept : List (List ℕ × OpenEpochs) → List ℕ → Open

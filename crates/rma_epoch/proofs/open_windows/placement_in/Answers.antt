@@ -2,7 +2,7 @@ use Rattle.std.proofs.Common.{ℕ, List, sym, ap, ◌∙◌}
 use Rattle.std.specs.Prelude.{option_map}
 use Rattle.std.proofs.lemmas.Option.{slice_get-map}
 use Rattle.rma_call.specs.Call.{what_of}
-use Rattle.rma_epoch.specs.declared.open_epochs.OpenEpochs.{OpenEpochs}
+use Rattle.rma_open.specs.declared.open_epochs.OpenEpochs.{OpenEpochs}
 use Rattle.rma_epoch.specs.inside.Windows.{placed_in}
 use Rattle.rma_epoch.proofs.PlaceLemmas.{kept_got, no_value}
 use Rattle.rma_epoch.proofs.open_windows.placement_in.Goals as goal

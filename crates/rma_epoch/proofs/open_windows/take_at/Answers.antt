@@ -1,8 +1,8 @@
 use Rattle.std.proofs.Common.{ap, sym, ◌∙◌}
 use Rattle.indexmap.proofs.CallerLemmas.{keys-with_value_at}
 use Rattle.rma_call.specs.Call.{call_of}
-use Rattle.rma_epoch.specs.Open.{open_after}
-use Rattle.rma_epoch.specs.inside.Next.{past_with}
+use Rattle.rma_open.specs.Open.{open_after}
+use Rattle.rma_open.specs.inside.Next.{past_with}
 use Rattle.rma_epoch.proofs.LiveLemmas.{IfOk_both, OnOk_always}
 use Rattle.rma_epoch.proofs.PlaceLemmas.{no_value, taken_there}
 use Rattle.rma_epoch.proofs.open_windows.take_at.Goals as goal

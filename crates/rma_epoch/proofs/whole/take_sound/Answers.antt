@@ -4,7 +4,7 @@ use Rattle.std.specs.Option.{option_or}
 use Rattle.rma_base.specs.declared.epoch_reason.EpochReason.{EpochReason}
 use Rattle.rma_call.specs.Call.{call_of}
 use Rattle.rma_epoch.specs.Fault.{fault_from}
-use Rattle.rma_epoch.specs.Reason.{reason_at}
+use Rattle.rma_open.specs.Reason.{reason_at}
 use Rattle.rma_epoch.specs.Table.{taken_with}
 use Rattle.rma_epoch.specs.inside.Live.{HasLocks, Represents}
 use Rattle.rma_epoch.proofs.LiveLemmas.{fault_step, taken_there}

@@ -5,7 +5,7 @@ use Rattle.rma_epoch.specs.Table.{closed_at, is_opener, lock_opened, locks_opene
 use Rattle.rma_epoch.specs.declared.placements.Placement.{Placement}
 use Rattle.rma_epoch.specs.inside.Placements.{close_in}
 use Rattle.rma_epoch.specs.inside.Windows.{IsOpenAfter, placed_at}
-use Rattle.rma_epoch.proofs.OptionLemmas.{is_nothing}
+use Rattle.rma_open.proofs.TestLemmas.{is_nothing}
 use Rattle.rma_epoch.proofs.TableLemmas.{close_push, locks_push, openings_push}
 use Rattle.rma_epoch.proofs.live.LiveEpochs.take.Goals as goal
 

@@ -1,9 +1,9 @@
 use Rattle.std.proofs.Common.{◌≡◌, ◌+◌, ◌∷◌, [], ℕ, List, None, length, subst, sym, ap, ◌∙◌, length-append}
 use Rattle.rma_call.specs.Call.{call_of}
-use Rattle.rma_epoch.specs.Open.{open_on}
+use Rattle.rma_open.specs.Open.{open_on}
 use Rattle.rma_epoch.specs.Table.{taken_with}
 use Rattle.rma_epoch.specs.inside.Windows.{kept}
-use Rattle.rma_epoch.proofs.OptionLemmas.{is_nothing}
+use Rattle.rma_open.proofs.TestLemmas.{is_nothing}
 use Rattle.rma_epoch.proofs.PlaceLemmas.{taken_none}
 use Rattle.rma_epoch.proofs.open_windows.OpenWindows.take.Goals as goal
 

@@ -1,0 +1,4 @@
+pub mod TestLemmas
+pub mod EventLemmas
+pub mod MemberLemmas
+pub mod RangeLemmas
