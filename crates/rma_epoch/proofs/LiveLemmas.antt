@@ -138,6 +138,10 @@ unclosed_is calls es are found =
 
 -- ---- what a call that may fail says
 
+pub IfOk_map : {T E : Type 0} {P Q : T → Type 0} (r : Result T E) → ((x : T) → P x → Q x) → IfOk r P → IfOk r Q
+IfOk_map (Ok x) f p = f x p
+IfOk_map (Err e) f p = tt
+
 pub IfOk_both : {T E : Type 0} {P Q R : T → Type 0} (r : Result T E) → ((x : T) → P x → Q x → R x) → IfOk r P → IfOk r Q → IfOk r R
 IfOk_both (Ok x) f p q = f x p q
 IfOk_both (Err e) f p q = tt
@@ -153,7 +157,7 @@ pub taken_there : (calls : List Call) (i : ℕ) (call : Call) → slice_get call
 taken_there calls i call there = take_more calls i call (slice_get_within calls i call there) ∙ ap (λ y. take i calls ++ y ∷ []) (get_or_from_slice_get calls i call call there)
 
 -- the faults from a call on
-pub fault_step : (windows : List Window) (calls : List Call) (i : ℕ) (call : Call) (end : LineNo) → slice_get calls i ≡ Some call →
+fault_step : (windows : List Window) (calls : List Call) (i : ℕ) (call : Call) (end : LineNo) → slice_get calls i ≡ Some call →
     fault_from windows (take i calls) (drop i calls) end
     ≡ option_or (option_map (λ reason. record { line = call.line; reason = reason }) (reason_at windows (take i calls) call)) (fault_from windows (take (i + 1) calls) (drop (i + 1) calls) end)
 fault_step windows calls i call end there =
@@ -163,3 +167,10 @@ fault_step windows calls i call end there =
     ap (λ rest. fault_from windows (take i calls) rest end) more
     ∙ ap (λ k. option_or (option_map (λ reason. record { line = call.line; reason = reason }) (reason_at windows (take i calls) call)) (fault_from windows (take i calls ++ call ∷ []) (drop k calls) end)) next
     ∙ ap (λ before. option_or (option_map (λ reason. record { line = call.line; reason = reason }) (reason_at windows (take i calls) call)) (fault_from windows before (drop (i + 1) calls) end)) (sym (taken_there calls i call there))
+
+-- the same where that call has this reason, or none
+pub fault_on : (windows : List Window) (calls : List Call) (i : ℕ) (call : Call) (end : LineNo) (reason : Option EpochReason) → slice_get calls i ≡ Some call → reason_at windows (take i calls) call ≡ reason →
+    fault_from windows (take i calls) (drop i calls) end ≡ option_or (option_map (λ reason. record { line = call.line; reason = reason }) reason) (fault_from windows (take (i + 1) calls) (drop (i + 1) calls) end)
+fault_on windows calls i call end reason there is =
+    fault_step windows calls i call end there
+    ∙ ap (λ o. option_or (option_map (λ (r : EpochReason). record { line = call.line; reason = r }) o) (fault_from windows (take (i + 1) calls) (drop (i + 1) calls) end)) is

@@ -1,5 +1,5 @@
 -- The places of windows.
-use Rattle.std.proofs.Common.{◌≡◌, ℕ, zero, suc, cond, Bool, true, false, ◌∷◌, ◌++◌, List, [], length, Option, Some, None, nat_eq, position, get_or, slice_get, refl, sym, ap, subst, ◌∙◌, arith}
+use Rattle.std.proofs.Common.{◌≡◌, ℕ, zero, suc, ◌<◌, cond, Bool, true, false, ◌∷◌, ◌++◌, List, [], length, Option, Some, None, nat_eq, position, get_or, slice_get, refl, sym, ap, subst, ◌∙◌, arith}
 use Rattle.std.specs.Prelude.{is_some, option_map}
 use Rattle.std.proofs.lemmas.Bool.{false≢true}
 use Rattle.std.specs.Map.{keys_of, lookup, values_of}
@@ -69,6 +69,12 @@ places_more old new whats places what place stay there is are number other found
     in_push (IsPlaceOf new other found) places place found number in_places
     (λ before. stays_place old new other found stay (are number other found at before))
     (λ last same. let one : what ≡ other = (let here = ap (slice_get whats) last in cc) in subst (IsPlaceOf new other) same (subst (λ w. IsPlaceOf new w place) one is))
+
+-- the place of the window of a call, by the number of what it does
+pub place_here : (names : List (List ℕ)) (whats : List What) (places : List (Option ℕ)) (calls : List Call) (i number : ℕ) (call : Call) → ArePlaces names whats places → number < length places →
+    slice_get calls i ≡ Some call → slice_get whats number ≡ option_map (λ c. c.what) (slice_get calls i) → IsPlaceOf names call.what (get_or places number None)
+place_here names whats places calls i number call are within there what =
+    are number call.what (get_or places number None) (what ∙ ap (option_map (λ (c : Call). c.what)) there) (slice_get-get_or places number None within)
 
 -- a place past the end has no name
 pub no_value : {V : Type 0} {P : Type 0} (es : List (List ℕ × V)) (i : ℕ) (name : List ℕ) → slice_get (keys_of es) i ≡ Some name → None ≡ slice_get (values_of es) i → P

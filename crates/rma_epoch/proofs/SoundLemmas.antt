@@ -12,7 +12,7 @@ use Rattle.rma_epoch.specs.declared.fault.EpochFault.{EpochFault}
 use Rattle.rma_window.specs.Windows.{Window}
 use Rattle.rma_open.specs.Reason.{reason_at}
 use Rattle.rma_epoch.specs.Fault.{fault_from}
-use Rattle.rma_epoch.specs.Table.{FaultComesNext, sound_calls, sound_from, SoundComeFirst}
+use Rattle.rma_epoch.specs.Table.{FaultComesNext, sound_from, SoundComeFirst}
 use Rattle.rma_epoch.proofs.LiveLemmas.{taken_there}
 
 -- the sound calls from a call on
@@ -28,25 +28,25 @@ sound_step windows calls i call there =
     ∙ ap (λ before. cond sound (call ∷ sound_from windows before (drop (i + 1) calls)) []) (sym (taken_there calls i call there))
 
 -- a call that has no reason is sound too
-pub sound_more : (windows : List Window) (own : RankCalls) (i : ℕ) (call : Call) → slice_get own.calls i ≡ Some call → reason_at windows (take i own.calls) call ≡ None
-    → sound_calls windows own ≡ take i own.calls ++ sound_from windows (take i own.calls) (drop i own.calls)
-    → sound_calls windows own ≡ take (i + 1) own.calls ++ sound_from windows (take (i + 1) own.calls) (drop (i + 1) own.calls)
-sound_more windows own i call there none so =
-    let rest = sound_from windows (take (i + 1) own.calls) (drop (i + 1) own.calls) in
+pub sound_more : (windows : List Window) (calls : List Call) (i : ℕ) (call : Call) → slice_get calls i ≡ Some call → reason_at windows (take i calls) call ≡ None
+    → sound_from windows [] calls ≡ take i calls ++ sound_from windows (take i calls) (drop i calls)
+    → sound_from windows [] calls ≡ take (i + 1) calls ++ sound_from windows (take (i + 1) calls) (drop (i + 1) calls)
+sound_more windows calls i call there none so =
+    let rest = sound_from windows (take (i + 1) calls) (drop (i + 1) calls) in
     so
-    ∙ ap (λ calls. take i own.calls ++ calls) (sound_step windows own.calls i call there ∙ ap (λ reason. cond (is_none reason) (call ∷ rest) []) none)
-    ∙ sym (append_assoc (take i own.calls) (call ∷ []) rest)
-    ∙ ap (λ before. before ++ rest) (sym (taken_there own.calls i call there))
+    ∙ ap (λ rest. take i calls ++ rest) (sound_step windows calls i call there ∙ ap (λ reason. cond (is_none reason) (call ∷ rest) []) none)
+    ∙ sym (append_assoc (take i calls) (call ∷ []) rest)
+    ∙ ap (λ before. before ++ rest) (sym (taken_there calls i call there))
 
 -- the first call that has a reason ends them
-pub sound_until : (windows : List Window) (own : RankCalls) (i : ℕ) (call : Call) (reason : EpochReason) → slice_get own.calls i ≡ Some call → reason_at windows (take i own.calls) call ≡ Some reason
-    → sound_calls windows own ≡ take i own.calls ++ sound_from windows (take i own.calls) (drop i own.calls)
-    → sound_calls windows own ≡ take i own.calls
-sound_until windows own i call reason there some so =
-    let rest = sound_from windows (take (i + 1) own.calls) (drop (i + 1) own.calls) in
+pub sound_until : (windows : List Window) (calls : List Call) (i : ℕ) (call : Call) (reason : EpochReason) → slice_get calls i ≡ Some call → reason_at windows (take i calls) call ≡ Some reason
+    → sound_from windows [] calls ≡ take i calls ++ sound_from windows (take i calls) (drop i calls)
+    → sound_from windows [] calls ≡ take i calls
+sound_until windows calls i call reason there some so =
+    let rest = sound_from windows (take (i + 1) calls) (drop (i + 1) calls) in
     so
-    ∙ ap (λ calls. take i own.calls ++ calls) (sound_step windows own.calls i call there ∙ ap (λ reason. cond (is_none reason) (call ∷ rest) []) some)
-    ∙ append-nil (take i own.calls)
+    ∙ ap (λ rest. take i calls ++ rest) (sound_step windows calls i call there ∙ ap (λ reason. cond (is_none reason) (call ∷ rest) []) some)
+    ∙ append-nil (take i calls)
 
 -- ---- what comes first
 

@@ -1,5 +1,5 @@
 //! The epochs of a rank, as its calls come.
-ghost use Rattle.std.specs.Prelude.{◌≡◌, [], List, length, slice_get, IfOk};
+ghost use Rattle.std.specs.Prelude.{◌≡◌, [], List, length, slice_get, IfOk, OnOk};
 ghost use Rattle.std.specs.List.{list_any};
 ghost use Rattle.rma_call.specs.Call.{Call, call_of};
 ghost use Rattle.rma_window.specs.Windows.{Window};
@@ -7,6 +7,7 @@ ghost use Rattle.rma_open.specs.Reason.{reason_at};
 ghost use Rattle.rma_epoch.specs.Table.{close_of, epoch_of, locks_of, table_of, taken_with};
 ghost use Rattle.rma_epoch.specs.Fault.{leaves_open};
 ghost use Rattle.rma_epoch.specs.inside.Live.{HasLocks, Represents};
+ghost use Rattle.rma_epoch.specs.inside.Windows.{IsOpenAfter, IsPlaceOf, names_in};
 
 use crate::locks::add_lock;
 use crate::open_windows::OpenWindows;
@@ -36,9 +37,19 @@ impl LiveEpochs {
         ensures nothing { Represents [] result }
         ensures no_locks { (windows : List Window) → HasLocks windows [] result }
     {
+        LiveEpochs::on(alloc, OpenWindows::new(alloc))
+    }
+
+    /// No calls, where windows may have places but nothing is open on any.
+    pub(crate) fn on(alloc: Global, windows: OpenWindows) -> LiveEpochs
+        requires { IsOpenAfter [] windows }
+        ensures nothing { Represents [] result }
+        ensures no_locks { (windows : List Window) → HasLocks windows [] result }
+        ensures names { names_in result.windows ≡ names_in windows }
+    {
         LiveEpochs {
             alloc,
-            windows: OpenWindows::new(alloc),
+            windows,
             placements: Placements::new(alloc),
             locks: Vec::new(alloc),
         }
@@ -60,6 +71,21 @@ impl LiveEpochs {
         ensures locks { IfOk result (λ reason. (calls : List Call) → Represents calls self.old → HasLocks windows.now calls self.old → HasLocks windows.now (taken_with reason (call_of call.entry) calls) self.new) }
     {
         let place = self.windows.place(call.what)?;
+        self.take_at(windows, place, call)
+    }
+
+    /// The same where the window of the call has this place.
+    pub(crate) fn take_at(
+        &mut self,
+        windows: &Windows,
+        place: Option<usize>,
+        call: CallRef<'_>,
+    ) -> Result<Option<EpochReason>, Memory>
+        ensures reason { IfOk result (λ reason. (calls : List Call) → Represents calls self.old → IsPlaceOf (names_in self.old.windows) (call_of call.entry).what place → reason ≡ reason_at windows.now calls (call_of call.entry)) }
+        ensures taken { IfOk result (λ reason. (calls : List Call) → Represents calls self.old → IsPlaceOf (names_in self.old.windows) (call_of call.entry).what place → Represents (taken_with reason (call_of call.entry) calls) self.new) }
+        ensures locks { IfOk result (λ reason. (calls : List Call) → Represents calls self.old → HasLocks windows.now calls self.old → HasLocks windows.now (taken_with reason (call_of call.entry) calls) self.new) }
+        ensures names { OnOk result (names_in self.new.windows ≡ names_in self.old.windows) }
+    {
         let number = self.windows.taken();
         let placement = self.windows.placement(place, call);
         let reason = self.windows.take(windows, place, call)?;

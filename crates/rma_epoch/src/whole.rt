@@ -4,7 +4,7 @@ ghost use Rattle.rma_base.specs.declared.epoch_reason.EpochReason.TheVariants.{E
 ghost use Rattle.rma_call.specs.Call.{Call};
 ghost use Rattle.rma_open.specs.Calls.{window_on};
 ghost use Rattle.rma_epoch.specs.Fault.{fault_from, fault_of};
-ghost use Rattle.rma_epoch.specs.Table.{sound_calls, table_of};
+ghost use Rattle.rma_epoch.specs.Table.{sound_calls, sound_from, table_of};
 ghost use Rattle.rma_epoch.specs.inside.Live.{HasLocks, Represents};
 ghost use Rattle.rma_epoch.specs.inside.Windows.{ArePlaces, IsOpenAfter, names_in};
 
@@ -31,8 +31,11 @@ pub fn place_calls(
     ensures table { IfOk result (λ outcome. outcome.table ≡ table_of windows.now (sound_calls windows.now own.now)) }
     ensures fault { IfOk result (λ outcome. outcome.fault ≡ fault_of windows.now own.now) }
 {
-    let mut live = LiveEpochs::new(alloc);
-    let fault = take_sound(&mut live, own, windows)?;
+    let calls = own.calls();
+    let mut opened = OpenWindows::new(alloc);
+    let places = opened.places(calls)?;
+    let mut live = LiveEpochs::on(alloc, opened);
+    let fault = take_sound(&mut live, windows, calls, places.as_slice(), own.end())?;
     let table = live.into_table()?;
     Ok(EpochOutcome { table, fault })
 }
@@ -106,25 +109,30 @@ fn are_on_no_window(calls: &CallList) -> bool
     !calls.has(Group::Window)
 }
 
-/// Takes the sound calls of a rank, none of which is taken yet, and answers its first fault.
+/// Takes the sound calls of a rank, none of which is taken yet, and answers the first fault among its calls and the end of its
+/// log. These are the places of their windows, by the numbers of what calls do.
 fn take_sound(
     live: &mut LiveEpochs,
-    own: &RankCalls,
     windows: &Windows,
+    calls: &CallList,
+    places: &[Option<usize>],
+    end: LineNo,
 ) -> Result<Option<EpochFault>, Memory>
     requires nothing { Represents [] live.old }
     requires no_locks { HasLocks windows.now [] live.old }
-    ensures fault { IfOk result (λ fault. fault ≡ fault_of windows.now own.now) }
-    ensures taken { OnOk result (Represents (sound_calls windows.now own.now) live.new) }
-    ensures locks { OnOk result (HasLocks windows.now (sound_calls windows.now own.now) live.new) }
+    requires each { length places.now ≡ length calls.now.whats }
+    requires places { ArePlaces (names_in live.old.windows) calls.now.whats places.now }
+    ensures fault { IfOk result (λ fault. fault ≡ fault_from windows.now [] calls.now.calls end) }
+    ensures taken { OnOk result (Represents (sound_from windows.now [] calls.now.calls) live.new) }
+    ensures locks { OnOk result (HasLocks windows.now (sound_from windows.now [] calls.now.calls) live.new) }
 {
-    let calls = own.calls();
     for i in 0..calls.len() {
         let call = calls.get(i);
-        if let Some(reason) = live.take(windows, call)? {
+        let place = places[calls.what_number(i) as usize];
+        if let Some(reason) = live.take_at(windows, place, call)? {
             let line = call.line;
             return Ok(Some(EpochFault { line, reason }));
         }
     }
-    Ok(fault_at_end(live.is_unclosed(), own.end()))
+    Ok(fault_at_end(live.is_unclosed(), end))
 }

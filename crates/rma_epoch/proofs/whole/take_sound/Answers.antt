@@ -1,64 +1,72 @@
-use Rattle.std.proofs.Common.{◌≡◌, ◌+◌, Some, None, slice_get, take, drop, sym, ap, subst, ◌∙◌}
-use Rattle.std.specs.Prelude.{option_map}
-use Rattle.std.specs.Option.{option_or}
-use Rattle.rma_base.specs.declared.epoch_reason.EpochReason.{EpochReason}
+use Rattle.std.proofs.Common.{◌≡◌, Some, None, get_or, take, sym, subst, ◌∙◌, arith}
 use Rattle.rma_call.specs.Call.{call_of}
-use Rattle.rma_epoch.specs.Fault.{fault_from}
 use Rattle.rma_open.specs.Reason.{reason_at}
 use Rattle.rma_epoch.specs.Table.{taken_with}
 use Rattle.rma_epoch.specs.inside.Live.{HasLocks, Represents}
-use Rattle.rma_epoch.proofs.LiveLemmas.{fault_step, taken_there}
+use Rattle.rma_epoch.specs.inside.Windows.{IsPlaceOf}
+use Rattle.rma_epoch.proofs.LiveLemmas.{fault_on, taken_there}
+use Rattle.rma_epoch.proofs.PlaceLemmas.{place_here}
 use Rattle.rma_epoch.proofs.SoundLemmas.{sound_more, sound_until}
 use Rattle.rma_epoch.proofs.whole.take_sound.Goals as goal
 
 pub returns-in-Some-clause-fault : goal.returns-in-Some-clause-fault
 returns-in-Some-clause-fault c =
-    let own = c.args.own.now in
+    let calls = c.args.calls.now in
     let windows = c.args.windows.now in
+    let places = c.args.places.now in
     let i = c.loop-i.i in
     let call = call_of c.get-call.result in
-    let there : slice_get own.calls i ≡ Some call = ap (λ calls. slice_get calls i) (sym c.calls-calls.ensures) ∙ c.get-call.ensures in
-    sym (c.loop-i.invariant.fault
-    ∙ fault_step windows own.calls i call own.end there
-    ∙ ap (λ o. option_or (option_map (λ (reason : EpochReason). record { line = call.line; reason = reason }) o) (fault_from windows (take (i + 1) own.calls) (drop (i + 1) own.calls) own.end))
-    (sym (sym c.in-Some.is ∙ c.in_ok-reason.ensures.reason (take i own.calls) c.loop-i.invariant.taken)))
+    let number = c.what_number.result in
+    let at = subst (λ names. IsPlaceOf names call.what (get_or places number None)) (sym c.loop-i.invariant.names)
+    (place_here _ calls.whats places calls.calls i number call c.requires.places (omega (arith, c.what_number.ensures.within, c.requires.each)) c.get-call.ensures c.what_number.ensures.what) in
+    let reason : reason_at windows (take i calls.calls) call ≡ Some c.in-Some.reason = sym (c.in_ok-reason.ensures.reason (take i calls.calls) c.loop-i.invariant.taken at) ∙ c.in-Some.is in
+    sym (c.loop-i.invariant.fault ∙ fault_on windows calls.calls i call c.args.end (Some c.in-Some.reason) c.get-call.ensures reason)
 
 pub returns-in-Some-clause-taken : goal.returns-in-Some-clause-taken
 returns-in-Some-clause-taken c =
-    let own = c.args.own.now in
+    let calls = c.args.calls.now in
+    let windows = c.args.windows.now in
+    let places = c.args.places.now in
     let i = c.loop-i.i in
     let call = call_of c.get-call.result in
-    let there : slice_get own.calls i ≡ Some call = ap (λ calls. slice_get calls i) (sym c.calls-calls.ensures) ∙ c.get-call.ensures in
-    let reason : reason_at c.args.windows.now (take i own.calls) call ≡ Some c.in-Some.reason = sym (sym c.in-Some.is ∙ c.in_ok-reason.ensures.reason (take i own.calls) c.loop-i.invariant.taken) in
-    subst (λ calls. Represents calls c.take.new.self) (sym (sound_until c.args.windows.now own i call c.in-Some.reason there reason c.loop-i.invariant.sound))
-    (subst (λ o. Represents (taken_with o call (take i own.calls)) c.take.new.self) c.in-Some.is (c.in_ok-reason.ensures.taken (take i own.calls) c.loop-i.invariant.taken))
+    let number = c.what_number.result in
+    let at = subst (λ names. IsPlaceOf names call.what (get_or places number None)) (sym c.loop-i.invariant.names)
+    (place_here _ calls.whats places calls.calls i number call c.requires.places (omega (arith, c.what_number.ensures.within, c.requires.each)) c.get-call.ensures c.what_number.ensures.what) in
+    let reason : reason_at windows (take i calls.calls) call ≡ Some c.in-Some.reason = sym (c.in_ok-reason.ensures.reason (take i calls.calls) c.loop-i.invariant.taken at) ∙ c.in-Some.is in
+    subst (λ before. Represents before c.take_at.new.self) (sym (sound_until windows calls.calls i call c.in-Some.reason c.get-call.ensures reason c.loop-i.invariant.sound))
+    (subst (λ o. Represents (taken_with o call (take i calls.calls)) c.take_at.new.self) c.in-Some.is (c.in_ok-reason.ensures.taken (take i calls.calls) c.loop-i.invariant.taken at))
 
 pub returns-in-Some-clause-locks : goal.returns-in-Some-clause-locks
 returns-in-Some-clause-locks c =
-    let own = c.args.own.now in
+    let calls = c.args.calls.now in
     let windows = c.args.windows.now in
+    let places = c.args.places.now in
     let i = c.loop-i.i in
     let call = call_of c.get-call.result in
-    let there : slice_get own.calls i ≡ Some call = ap (λ calls. slice_get calls i) (sym c.calls-calls.ensures) ∙ c.get-call.ensures in
-    let reason : reason_at windows (take i own.calls) call ≡ Some c.in-Some.reason = sym (sym c.in-Some.is ∙ c.in_ok-reason.ensures.reason (take i own.calls) c.loop-i.invariant.taken) in
-    subst (λ calls. HasLocks windows calls c.take.new.self) (sym (sound_until windows own i call c.in-Some.reason there reason c.loop-i.invariant.sound))
-    (subst (λ o. HasLocks windows (taken_with o call (take i own.calls)) c.take.new.self) c.in-Some.is (c.in_ok-reason.ensures.locks (take i own.calls) c.loop-i.invariant.taken c.loop-i.invariant.locks))
+    let number = c.what_number.result in
+    let at = subst (λ names. IsPlaceOf names call.what (get_or places number None)) (sym c.loop-i.invariant.names)
+    (place_here _ calls.whats places calls.calls i number call c.requires.places (omega (arith, c.what_number.ensures.within, c.requires.each)) c.get-call.ensures c.what_number.ensures.what) in
+    let reason : reason_at windows (take i calls.calls) call ≡ Some c.in-Some.reason = sym (c.in_ok-reason.ensures.reason (take i calls.calls) c.loop-i.invariant.taken at) ∙ c.in-Some.is in
+    subst (λ before. HasLocks windows before c.take_at.new.self) (sym (sound_until windows calls.calls i call c.in-Some.reason c.get-call.ensures reason c.loop-i.invariant.sound))
+    (subst (λ o. HasLocks windows (taken_with o call (take i calls.calls)) c.take_at.new.self) c.in-Some.is (c.in_ok-reason.ensures.locks (take i calls.calls) c.loop-i.invariant.taken c.loop-i.invariant.locks))
 
 pub loop-i-preserved : goal.loop-i-preserved
 loop-i-preserved c =
-    let own = c.args.own.now in
+    let calls = c.args.calls.now in
     let windows = c.args.windows.now in
+    let places = c.args.places.now in
     let i = c.loop-i.i in
     let call = call_of c.get-call.result in
-    let there : slice_get own.calls i ≡ Some call = ap (λ calls. slice_get calls i) (sym c.calls-calls.ensures) ∙ c.get-call.ensures in
-    let none : reason_at windows (take i own.calls) call ≡ None = sym (c.in_ok-reason.ensures.reason (take i own.calls) c.loop-i.invariant.taken) ∙ c.in_default.is in
+    let number = c.what_number.result in
+    let at = subst (λ names. IsPlaceOf names call.what (get_or places number None)) (sym c.loop-i.invariant.names)
+    (place_here _ calls.whats places calls.calls i number call c.requires.places (omega (arith, c.what_number.ensures.within, c.requires.each)) c.get-call.ensures c.what_number.ensures.what) in
+    let none : reason_at windows (take i calls.calls) call ≡ None = sym (c.in_ok-reason.ensures.reason (take i calls.calls) c.loop-i.invariant.taken at) ∙ c.in_default.is in
     record {
-      taken = subst (λ calls. Represents calls c.take.new.self) (sym (taken_there own.calls i call there))
-          (subst (λ o. Represents (taken_with o call (take i own.calls)) c.take.new.self) c.in_default.is (c.in_ok-reason.ensures.taken (take i own.calls) c.loop-i.invariant.taken));
-      locks = subst (λ calls. HasLocks windows calls c.take.new.self) (sym (taken_there own.calls i call there))
-          (subst (λ o. HasLocks windows (taken_with o call (take i own.calls)) c.take.new.self) c.in_default.is (c.in_ok-reason.ensures.locks (take i own.calls) c.loop-i.invariant.taken c.loop-i.invariant.locks));
-      fault = c.loop-i.invariant.fault
-          ∙ fault_step windows own.calls i call own.end there
-          ∙ ap (λ o. option_or (option_map (λ (reason : EpochReason). record { line = call.line; reason = reason }) o) (fault_from windows (take (i + 1) own.calls) (drop (i + 1) own.calls) own.end)) none;
-      sound = sound_more windows own i call there none c.loop-i.invariant.sound;
+      taken = subst (λ before. Represents before c.take_at.new.self) (sym (taken_there calls.calls i call c.get-call.ensures))
+          (subst (λ o. Represents (taken_with o call (take i calls.calls)) c.take_at.new.self) c.in_default.is (c.in_ok-reason.ensures.taken (take i calls.calls) c.loop-i.invariant.taken at));
+      locks = subst (λ before. HasLocks windows before c.take_at.new.self) (sym (taken_there calls.calls i call c.get-call.ensures))
+          (subst (λ o. HasLocks windows (taken_with o call (take i calls.calls)) c.take_at.new.self) c.in_default.is (c.in_ok-reason.ensures.locks (take i calls.calls) c.loop-i.invariant.taken c.loop-i.invariant.locks));
+      names = c.in_ok-reason.ensures.names ∙ c.loop-i.invariant.names;
+      fault = c.loop-i.invariant.fault ∙ fault_on windows calls.calls i call c.args.end None c.get-call.ensures none;
+      sound = sound_more windows calls.calls i call c.get-call.ensures none c.loop-i.invariant.sound;
     }
