@@ -1,5 +1,5 @@
 //! The rounds of one kind.
-ghost use Rattle.std.specs.Prelude.{◌≡◌, ◌<◌, ◌≤◌, ◌++◌, Contains, Some, slice_get, ◌∷◌, [], ℕ, List, true, false, length, nat_eq, OnOk, if◌then◌else◌};
+ghost use Rattle.std.specs.Prelude.{◌≡◌, ◌<◌, ◌≤◌, ◌++◌, Contains, Some, slice_get, ◌∷◌, [], ℕ, List, true, false, length, nat_eq, OnOk, option_copied, if◌then◌else◌};
 ghost use Rattle.std.specs.List.{flat_map, IsDistinct};
 ghost use Rattle.std.specs.Cmp.Lexicographic.{pointwise};
 ghost use Rattle.rma_base.specs.Limits.{fed_limit};
@@ -8,7 +8,7 @@ ghost use Rattle.rma_run.specs.Run.{IsRun, calls_of, with_calls};
 ghost use Rattle.rma_round.specs.declared.kind.Kind.{Kind};
 ghost use Rattle.rma_round.specs.Round.{numbers, place_in, match_of, matched_at};
 ghost use Rattle.rma_round.specs.Kind.{named};
-ghost use Rattle.rma_round.specs.inside.Rounds.{kept, numbers_in, names_in, AreOnName, AreOfKind};
+ghost use Rattle.rma_round.specs.inside.Rounds.{kept, numbers_in, names_in, AreOnName, AreFoundOnName, AreOfKind};
 ghost use Rattle.rma_round.specs.inside.Met.{name_meets};
 
 use crate::kind::{Kind, named};
@@ -71,6 +71,13 @@ impl KindRounds {
             Some((_, rounds)) => rounds,
             None => unreachable!(),
         }
+    }
+
+    /// The rounds on a name, if any calls of the kind are on it.
+    pub fn find(&self, name: &Name) -> Option<&NameRounds>
+        ensures { (kind : Kind) (calls : ℕ → List Call) → AreOfKind kind calls self.now → AreFoundOnName kind name.now calls (option_copied result) }
+    {
+        self.names.get(name)
     }
 
     /// Takes the next call of a rank, which has this number, if it is of the kind.

@@ -11,7 +11,8 @@
 //! and one by its rank.
 //!
 //! The rounds of a kind are read name by name: [`KindRounds`] has the names, [`NameRounds`] the ranks that make calls on one name,
-//! and [`RankRounds`] the calls of one of those ranks. So all rounds are gone through with no look-up.
+//! and [`RankRounds`] the calls of one of those ranks. So all rounds are gone through with no look-up. A name that is known is
+//! found by one.
 #![tactic(auto)]
 
 mod edge;

@@ -35,6 +35,10 @@ numbers_in (Some rounds) rank = calls_in rounds rank
 abbrev pub AreOnName : Kind → List ℕ → (ℕ → List Call) → NameRounds → Type 0
 AreOnName kind name calls rounds = (rank : ℕ) → calls_in rounds rank ≡ numbers kind name (calls rank)
 
+-- what is found of a name represents the calls of a kind on it, of which there are none where nothing is found
+abbrev pub AreFoundOnName : Kind → List ℕ → (ℕ → List Call) → Option NameRounds → Type 0
+AreFoundOnName kind name calls found = (rank : ℕ) → numbers_in found rank ≡ numbers kind name (calls rank)
+
 -- the names of a kind
 abbrev pub names_in : KindRounds → List (List ℕ)
 names_in rounds = keys_of rounds.names.entries
