@@ -8,7 +8,7 @@ use Rattle.rma_call.specs.Call.{RankCalls}
 use Rattle.rma_round.specs.declared.kind.Kind.{Kind}
 use Rattle.rma_sync.specs.declared.call_count.CallCounts.{CallCounts}
 use Rattle.rma_sync.specs.Collective.{made_on}
-use Rattle.rma_sync.specs.Member.{members}
+use Rattle.rma_member.specs.Member.{members}
 use Rattle.rma_sync.specs.declared.round.NameRounds.{NameRounds}
 use Rattle.rma_sync.specs.inside.CallCount.{AreCallCounts}
 use Rattle.rma_sync.specs.inside.Round.{no_rounds, rounds_of}

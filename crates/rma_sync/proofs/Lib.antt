@@ -1,7 +1,6 @@
 pub mod WalkLemmas
 pub mod AgreementLemmas
 pub mod RegularLemmas
-pub mod FirstIndexLemmas
 pub mod CallCountLemmas
 pub mod SoFarLemmas
 pub mod BalanceLemmas

@@ -17,7 +17,7 @@ use Rattle.rma_round.specs.declared.kind.Kind.TheVariants as kind
 use Rattle.rma_round.specs.Kind.{named, is_on, count_of}
 use Rattle.rma_sync.specs.Collective.{made, walked, walked_all}
 use Rattle.rma_sync.specs.inside.Scan.{IsBalanced, AreBalanced}
-use Rattle.rma_sync.specs.Member.{members}
+use Rattle.rma_member.specs.Member.{members}
 use Rattle.rma_sync.specs.inside.ByRank.{Numbers, AreCountsByRank, count_in_rank, is_reached}
 use Rattle.rma_call.specs.declared.match_fault.MatchFault.{MatchFault}
 use Rattle.rma_sync.specs.Missing.{lacks, missing_reason, fault_if, missing_of, missing_at, missing_calls, missing_data}

@@ -24,7 +24,7 @@ use Rattle.rma_round.proofs.NumberLemmas.{call_at}
 use Rattle.rma_sync.specs.declared.argument.Arguments.{Arguments}
 use Rattle.rma_sync.specs.Argument.{arguments_of}
 use Rattle.rma_sync.specs.Collective.{made, place_of}
-use Rattle.rma_sync.specs.Member.{members}
+use Rattle.rma_member.specs.Member.{members}
 use Rattle.rma_sync.specs.inside.Agreement.{AgreeOn, AllAgree, IsInRound, IsRegular, RowAgrees, arguments_at}
 use Rattle.rma_sync.specs.inside.Scan.{IsBalanced}
 

@@ -5,8 +5,8 @@ use Rattle.rma_round.specs.declared.kind.Kind.{Kind}
 use Rattle.rma_round.specs.declared.kind.Kind.TheVariants as kind
 use Rattle.rma_sync.specs.declared.round.Rounds.{Rounds}
 use Rattle.rma_sync.specs.declared.scan.Scan.{Scan}
-use Rattle.rma_sync.specs.Declaration.{declarations}
-use Rattle.rma_sync.specs.Attribute.{declared, created}
+use Rattle.rma_member.specs.Declaration.{declarations}
+use Rattle.rma_member.specs.Attribute.{declared, created}
 use Rattle.rma_sync.specs.Collective.{made, made_on, so_far, round_calls, round_call_at}
 use Rattle.rma_sync.specs.inside.Round.{HaveJoined, rounds_of, AreRounds}
 use Rattle.rma_sync.specs.inside.Scan.{HasScanned}

@@ -15,7 +15,7 @@ use Rattle.rma_round.specs.declared.kind.Kind.{Kind}
 use Rattle.rma_sync.specs.declared.call_count.CallCounts.{CallCounts}
 use Rattle.rma_round.specs.Kind.{named, is_on, count_of}
 use Rattle.rma_sync.specs.Collective.{made, made_on, so_far, walked, walked_all, round_call_at, round_calls}
-use Rattle.rma_sync.specs.Declaration.{declaration_of, declarations_of, declarations}
+use Rattle.rma_member.specs.Declaration.{declaration_of, declarations_of, declarations}
 use Rattle.rma_sync.specs.inside.CallCount.{counted, AreCallCounts}
 use Rattle.rma_sync.specs.inside.NameCount.{AreCounts, IsCounted}
 use Rattle.rma_sync.proofs.WalkLemmas.{taken_there, walked_push}

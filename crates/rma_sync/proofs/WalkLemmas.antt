@@ -17,13 +17,6 @@ pub taken_there : {X : Type 0} (xs : List X) (i : ℕ) (x : X) → slice_get xs 
 taken_there xs i x there = taken xs i x (slice_get_within xs i x there) (sym (get_or_from_slice_get xs i x x there))
 
 module _ {X Y : Type 0} where
-  -- what a map that may skip makes of one more element
-  pub filter_map_more : (h : X → Option Y) (xs : List X) (i : ℕ) (x : X) (before : List Y) → i < length xs → x ≡ get_or xs i x →
-      (before ++ filter_map h (take i xs)) ++ cons_option (h x) [] ≡ before ++ filter_map h (take (i + 1) xs)
-  filter_map_more h xs i x before lt is =
-      append_assoc before (filter_map h (take i xs)) (cons_option (h x) [])
-      ∙ ap (λ l. before ++ l) (sym (filter_map-append h (take i xs) (x ∷ [])) ∙ ap (filter_map h) (sym (taken xs i x lt is)))
-
   -- what a map to lists makes of one more element
   pub flat_map_taken : (f : X → List Y) (xs : List X) (i : ℕ) (x : X) → i < length xs → x ≡ get_or xs i x →
       flat_map f (take i xs) ++ f x ≡ flat_map f (take (i + 1) xs)

@@ -1,9 +1,9 @@
-pub mod Declaration
-pub mod Attribute
+pub use Rattle.rma_member.specs.Declaration
+pub use Rattle.rma_member.specs.Attribute
+pub use Rattle.rma_member.specs.Member
+pub use Rattle.rma_member.specs.Difference
 pub mod Argument
 pub mod Collective
-pub mod Member
-pub mod Difference
 pub mod Round
 pub mod Missing
 pub mod Matching

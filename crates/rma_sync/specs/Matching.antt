@@ -10,9 +10,9 @@ use Rattle.rma_message.specs.Messages.{messages_of}
 use Rattle.rma_message.specs.Matching.{unmatched}
 use Rattle.rma_exposure.specs.declared.side.Side.TheVariants as side
 use Rattle.rma_exposure.specs.Fault as exposure
-use Rattle.rma_sync.specs.Declaration.{declarations}
-use Rattle.rma_sync.specs.Attribute.{declared, same_ranks, created, same_attributes}
-use Rattle.rma_sync.specs.Difference.{differences}
+use Rattle.rma_member.specs.Declaration.{declarations}
+use Rattle.rma_member.specs.Attribute.{declared, same_ranks, created, same_attributes}
+use Rattle.rma_member.specs.Difference.{differences}
 use Rattle.rma_round.specs.declared.kind.Kind.TheVariants as kind
 use Rattle.rma_sync.specs.Collective.{round_calls}
 use Rattle.rma_sync.specs.Round.{round_differences}

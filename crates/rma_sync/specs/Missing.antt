@@ -11,7 +11,7 @@ use Rattle.rma_round.specs.declared.kind.Kind.{Kind}
 use Rattle.rma_round.specs.declared.kind.Kind.TheVariants.{Collective, Free, Fence, Moving}
 use Rattle.rma_round.specs.Kind.{named, count_of}
 use Rattle.rma_sync.specs.Collective.{walked_all, made}
-use Rattle.rma_sync.specs.Member.{members}
+use Rattle.rma_member.specs.Member.{members}
 
 -- whether some member makes no call of this number on the name, from 0
 abbrev pub lacks : Kind → List RankCalls → List ℕ → ℕ → Bool

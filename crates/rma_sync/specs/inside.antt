@@ -1,8 +1,6 @@
-pub mod FirstIndex
 pub mod Agreement
 pub mod NameCount
 pub mod CallCount
-pub mod Member
 pub mod Round
 pub mod Scan
 pub mod ByRank

@@ -7,15 +7,15 @@ ghost use Rattle.rma_round.specs.Kind.{moved_on, named};
 ghost use Rattle.rma_round.specs.inside.Rounds.{AreOfKind, AreOnName, Represents, calls_in};
 ghost use Rattle.rma_sync.specs.Argument.{arguments_of};
 ghost use Rattle.rma_sync.specs.inside.Agreement.{AgreeOn, AllAgree, IsRegular, RowAgrees};
-ghost use Rattle.rma_sync.specs.Member.{members};
-ghost use Rattle.rma_sync.specs.inside.Member.{AreMembers};
+ghost use Rattle.rma_member.specs.Member.{members};
+ghost use Rattle.rma_member.specs.inside.Member.{AreMembers};
 ghost use Rattle.rma_sync.specs.inside.Scan.{IsBalanced};
 ghost use Rattle.rma_call.specs.declared.what.What.{What};
 ghost use Rattle.rma_round.specs.declared.kind.Kind.TheVariants as kind;
 
-use crate::member::Members;
 use rma_base::{Memory, Rank};
 use rma_call::{CallList, EpochCall, FrameCall, RankCalls, WhatRef, WindowCall};
+use rma_member::Members;
 use rma_round::{Kind, KindRounds, NameRounds, RankRounds, Rounds};
 use std::alloc::Global;
 

@@ -4,14 +4,14 @@ ghost use Rattle.rma_call.specs.Call.{Call, RankCalls, call_of, what_of};
 ghost use Rattle.rma_round.specs.declared.kind.Kind.TheVariants as kind;
 ghost use Rattle.rma_sync.specs.Collective.{place_of, so_far};
 ghost use Rattle.rma_sync.specs.Missing.{missing_calls, missing_data};
-ghost use Rattle.rma_sync.specs.inside.Member.{AreMembers};
+ghost use Rattle.rma_member.specs.inside.Member.{AreMembers};
 ghost use Rattle.rma_sync.specs.inside.Round.{AreRounds};
 ghost use Rattle.rma_sync.specs.inside.Scan.{AreAllRounds};
 
-use crate::member::Members;
 use crate::round::Rounds;
 use rma_base::{Memory, Rank};
 use rma_call::{CallRef, WhatRef};
+use rma_member::Members;
 use rma_round::{Kind, moved_on};
 use std::alloc::Global;
 

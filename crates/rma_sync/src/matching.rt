@@ -4,19 +4,18 @@ ghost use Rattle.rma_run.specs.Run.{IsRun};
 ghost use Rattle.rma_match.specs.Matches.{AreMatches};
 ghost use Rattle.rma_round.specs.declared.kind.Kind.TheVariants as kind;
 ghost use Rattle.rma_sync.specs.inside.Agreement.{IsRegular};
-ghost use Rattle.rma_sync.specs.inside.Member.{AreMembers};
+ghost use Rattle.rma_member.specs.inside.Member.{AreMembers};
 ghost use Rattle.rma_sync.specs.Missing.{missing_calls, missing_data};
 ghost use Rattle.rma_sync.specs.Matching.{match_faults};
 ghost use Rattle.rma_sync.specs.inside.Matching.{first_faults, last_faults};
 
 use crate::agreement::are_regular;
-use crate::difference::differences;
-use crate::member::Members;
 use crate::missing::{MissingFaults, missing_calls};
 use crate::scan::Scan;
 use rma_base::{MatchReason, Memory, Sequence};
 use rma_call::{MatchFault, RankCalls};
 use rma_match::Matches;
+use rma_member::{Members, differences};
 use std::alloc::Global;
 
 /// The faults of matching of a run with these matches, by reason in the order of the report, then by rank, then by line.

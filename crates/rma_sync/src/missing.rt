@@ -6,18 +6,17 @@ ghost use Rattle.rma_round.specs.declared.kind.Kind.{Kind};
 ghost use Rattle.rma_round.specs.declared.kind.Kind.TheVariants as kind;
 ghost use Rattle.rma_sync.specs.Collective.{walked};
 ghost use Rattle.rma_sync.specs.inside.NameCount.{AreCounts, AreAllCounts};
-ghost use Rattle.rma_sync.specs.inside.Member.{AreMembers};
+ghost use Rattle.rma_member.specs.inside.Member.{AreMembers};
 ghost use Rattle.rma_sync.specs.inside.ByRank.{is_reached};
 ghost use Rattle.rma_sync.specs.Missing.{missing_reason, fault_if, missing_of, missing_at, missing_calls, missing_data};
 ghost use Rattle.rma_sync.specs.inside.Missing.{IsMissingOfKind, AreMissingCalls, Tells};
 
-use crate::difference::push_some;
-use crate::member::Members;
 use crate::name_count::AllCounts;
 use crate::{by_rank, name_count};
 use indexmap::IndexMap;
 use rma_base::{MatchReason, Memory, Name, Rank, Sequence};
 use rma_call::{CallRef, MatchFault, RankCalls};
+use rma_member::{Members, push_some};
 use rma_round::{Kind, named};
 use std::alloc::Global;
 

@@ -6,7 +6,7 @@ ghost use Rattle.std.specs.Cmp.Lexicographic.{pointwise};
 ghost use Rattle.rma_call.specs.Call.{Call, RankCalls, call_of};
 ghost use Rattle.rma_round.specs.declared.kind.Kind.{Kind};
 ghost use Rattle.rma_sync.specs.Collective.{place_of, so_far};
-ghost use Rattle.rma_sync.specs.inside.Member.{AreMembers};
+ghost use Rattle.rma_member.specs.inside.Member.{AreMembers};
 ghost use Rattle.rma_sync.specs.inside.Scan.{AreBalanced};
 ghost use Rattle.rma_sync.specs.inside.CallCount.{number_in};
 ghost use Rattle.rma_sync.specs.Round.{difference_reason, differs};
@@ -14,11 +14,10 @@ ghost use Rattle.rma_sync.specs.inside.Round.{own_of, no_rounds, joined, rounds_
 
 use crate::argument::Arguments;
 use crate::call_count::CallCounts;
-use crate::difference::push_some;
-use crate::member::Members;
 use indexmap::IndexMap;
 use rma_base::{LineNo, MatchReason, Memory, Name, Rank, Sequence};
 use rma_call::{CallRef, MatchFault};
+use rma_member::{Members, push_some};
 use rma_round::{Kind, named};
 use std::alloc::Global;
 

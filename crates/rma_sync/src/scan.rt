@@ -5,10 +5,9 @@ ghost use Rattle.rma_sync.specs.Collective.{so_far};
 ghost use Rattle.rma_sync.specs.inside.Scan.{HasScanned};
 
 use crate::all_rounds::AllRounds;
-use crate::attribute::WindowAttributes;
-use crate::declaration::{Declaration, push_declaration};
 use rma_base::{Memory, Rank, RankSet, Sequence};
 use rma_call::{CallRef, RankCalls};
+use rma_member::{Declaration, WindowAttributes, push_declaration};
 use std::alloc::Global;
 
 /// What the calls of a run declare, and their rounds.

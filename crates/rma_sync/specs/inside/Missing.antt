@@ -7,7 +7,7 @@ use Rattle.rma_round.specs.declared.kind.Kind.{Kind}
 use Rattle.rma_round.specs.declared.kind.Kind.TheVariants.{Collective, Free, Fence, Moving}
 use Rattle.rma_sync.specs.declared.missing.MissingOfKind.{MissingOfKind}
 use Rattle.rma_sync.specs.declared.missing.MissingCalls.{MissingCalls}
-use Rattle.rma_sync.specs.inside.Member.{AreMembers}
+use Rattle.rma_member.specs.inside.Member.{AreMembers}
 use Rattle.rma_sync.specs.inside.ByRank.{is_reached, AreCountsByRank}
 use Rattle.rma_sync.specs.Missing.{lacks}
 

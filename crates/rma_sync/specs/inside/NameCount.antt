@@ -5,7 +5,7 @@ use Rattle.rma_round.specs.declared.kind.Kind.{Kind}
 use Rattle.rma_round.specs.declared.kind.Kind.TheVariants.{Collective, Free, Fence, Moving}
 use Rattle.rma_sync.specs.declared.name_count.AllCounts.{AllCounts}
 use Rattle.rma_round.specs.Kind.{is_on, count_of}
-use Rattle.rma_sync.specs.inside.FirstIndex.{index_of}
+use Rattle.rma_member.specs.inside.FirstIndex.{index_of}
 
 -- the number under a name, which is 0 where there is none
 abbrev pub count_in : List (List ℕ × ℕ) → List ℕ → ℕ

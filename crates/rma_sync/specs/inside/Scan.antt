@@ -6,10 +6,10 @@ use Rattle.rma_round.specs.declared.kind.Kind.{Kind}
 use Rattle.rma_round.specs.declared.kind.Kind.TheVariants as kind
 use Rattle.rma_sync.specs.declared.all_rounds.AllRounds.{AllRounds}
 use Rattle.rma_sync.specs.declared.scan.Scan.{Scan}
-use Rattle.rma_sync.specs.Declaration.{declarations}
-use Rattle.rma_sync.specs.Attribute.{declared, created}
+use Rattle.rma_member.specs.Declaration.{declarations}
+use Rattle.rma_member.specs.Attribute.{declared, created}
 use Rattle.rma_sync.specs.Collective.{made}
-use Rattle.rma_sync.specs.Member.{members}
+use Rattle.rma_member.specs.Member.{members}
 use Rattle.rma_sync.specs.inside.Round.{AreRounds}
 
 -- what is kept represents the calls of each kind of the ranks

@@ -3,7 +3,7 @@ use Rattle.std.proofs.lemmas.Bool.Decides.{nat_tests}
 use Rattle.std.proofs.lemmas.Option.{same_Some}
 use Rattle.rma_run.specs.Run.{calls_of}
 use Rattle.rma_round.specs.inside.Rounds.{names_in}
-use Rattle.rma_sync.specs.Member.{members}
+use Rattle.rma_member.specs.Member.{members}
 use Rattle.rma_sync.specs.inside.Agreement.{AgreeOn}
 use Rattle.rma_sync.specs.inside.Scan.{IsBalanced}
 use Rattle.rma_sync.proofs.RegularLemmas.{all_regular}

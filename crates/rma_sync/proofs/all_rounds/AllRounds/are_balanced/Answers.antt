@@ -2,7 +2,7 @@ use Rattle.std.proofs.Common.{◌≡◌, ℕ, List, true}
 use Rattle.rma_call.specs.Call.{RankCalls}
 use Rattle.rma_round.specs.declared.kind.Kind.{Kind}
 use Rattle.rma_round.specs.declared.kind.Kind.TheVariants as kind
-use Rattle.rma_sync.specs.inside.Member.{AreMembers}
+use Rattle.rma_member.specs.inside.Member.{AreMembers}
 use Rattle.rma_sync.specs.inside.Scan.{AreAllRounds, IsBalanced}
 use Rattle.rma_sync.proofs.MissingLemmas.{by_kind, missing_calls_none, missing_data_none}
 use Rattle.rma_sync.proofs.all_rounds.AllRounds.are_balanced.Goals.{then-are_balanced, else-are_balanced, then-are_balanced-2, else-are_balanced-2}

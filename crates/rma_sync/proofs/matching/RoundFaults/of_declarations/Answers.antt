@@ -1,8 +1,8 @@
 use Rattle.std.proofs.Common.{append-nil, refl, sym, ap, ◌∙◌}
 use Rattle.rma_base.specs.declared.match_reason.MatchReason.TheVariants.{WindowDiffers, CommDiffers}
 use Rattle.rma_round.specs.declared.kind.Kind.TheVariants as kind
-use Rattle.rma_sync.specs.Attribute.{same_ranks, same_attributes}
-use Rattle.rma_sync.specs.Difference.{differences}
+use Rattle.rma_member.specs.Attribute.{same_ranks, same_attributes}
+use Rattle.rma_member.specs.Difference.{differences}
 use Rattle.rma_sync.proofs.AgreementLemmas.{none_differ}
 use Rattle.rma_sync.proofs.MissingLemmas.{by_kind, missing_calls_none, missing_data_none}
 use Rattle.rma_sync.proofs.WalkLemmas.{appended}

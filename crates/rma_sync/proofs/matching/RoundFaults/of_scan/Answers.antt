@@ -1,7 +1,7 @@
 use Rattle.std.proofs.Common.{length, ap, ◌∙◌}
 use Rattle.rma_base.specs.declared.match_reason.MatchReason.TheVariants.{WindowDiffers, CommDiffers}
-use Rattle.rma_sync.specs.Attribute.{same_ranks, same_attributes}
-use Rattle.rma_sync.specs.Difference.{differences}
+use Rattle.rma_member.specs.Attribute.{same_ranks, same_attributes}
+use Rattle.rma_member.specs.Difference.{differences}
 use Rattle.rma_sync.proofs.WalkLemmas.{appended}
 use Rattle.rma_sync.proofs.matching.RoundFaults.of_scan.Goals as goal
 

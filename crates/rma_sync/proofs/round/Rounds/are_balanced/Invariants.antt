@@ -1,6 +1,6 @@
 use Rattle.std.proofs.Common.{List}
 use Rattle.rma_call.specs.Call.{RankCalls}
-use Rattle.rma_sync.specs.inside.Member.{AreMembers}
+use Rattle.rma_member.specs.inside.Member.{AreMembers}
 use Rattle.rma_sync.proofs.BalanceLemmas.{AllBalanced}
 use Rattle.rma_sync.proofs.round.Rounds.are_balanced.Given as goal
 

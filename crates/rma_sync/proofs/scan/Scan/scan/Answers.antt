@@ -3,8 +3,8 @@ use Rattle.std.specs.List.{cons_option}
 use Rattle.rma_base.specs.declared.rank.Rank.{Rank}
 use Rattle.rma_call.specs.Call.{call_of}
 use Rattle.rma_sync.specs.Collective.{so_far}
-use Rattle.rma_sync.specs.Declaration.{declaration_of, declarations}
-use Rattle.rma_sync.specs.Attribute.{declared, created}
+use Rattle.rma_member.specs.Declaration.{declaration_of, declarations}
+use Rattle.rma_member.specs.Attribute.{declared, created}
 use Rattle.rma_sync.proofs.SoFarLemmas.{declarations_more}
 use Rattle.rma_sync.proofs.scan.Scan.scan.Goals as goal
 

@@ -1,0 +1,2 @@
+pub mod FirstIndex
+pub mod Member
