@@ -1,5 +1,7 @@
 pub mod WalkLemmas
 pub mod AgreementLemmas
+pub mod RowLemmas
+pub mod PlaceLemmas
 pub mod RegularLemmas
 pub mod CallCountLemmas
 pub mod SoFarLemmas

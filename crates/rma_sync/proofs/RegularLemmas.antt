@@ -1,50 +1,63 @@
 -- Rounds on whose names nothing is at fault.
-use Rattle.std.proofs.Common.{◌≡◌, ℕ, zero, suc, ◌+◌, ◌<◌, ◌≤◌, Bool, true, false, cond, ◌&&◌, List, [], ◌∷◌, length, map, Option, Some, None, nat_eq, nat_le, take, slice_get, refl, sym, ap, subst, ◌∙◌, arith}
+use Rattle.std.proofs.Common.{◌≡◌, ℕ, zero, suc, ◌+◌, ◌<◌, ◌≤◌, Bool, true, false, cond, ◌&&◌, List, [], ◌∷◌, length, Option, Some, None, nat_le, slice_get, refl, sym, ap, subst, ◌∙◌, arith}
 use Rattle.std.specs.Prelude.{All, Contains}
-use Rattle.std.specs.List.{list_all, list_any}
+use Rattle.std.specs.List.{list_all}
 use Rattle.std.specs.Option.{option_map_or}
-use Rattle.std.specs.Cmp.Lexicographic.{pointwise, nat_list_eq_equiv, same_text}
 use Rattle.std.proofs.lemmas.Bool.Decides.{nat_tests}
 use Rattle.std.proofs.lemmas.List.Elements.{All-contains}
 use Rattle.std.proofs.lemmas.List.Sums.{sum_by-cons}
-use Rattle.std.proofs.lemmas.Map.Views.{list_any-from_Contains, Contains-from_any}
-use Rattle.std.proofs.lemmas.Option.{slice_get_read, same_Some}
 use Rattle.rma_call.specs.Call.{Call, RankCalls}
 use Rattle.rma_call.specs.declared.what.What.{What}
+use Rattle.rma_call.specs.declared.what.What.TheVariants as what
+use Rattle.rma_call.specs.declared.what.SyncCall.TheVariants as sync
+use Rattle.rma_call.specs.declared.frame.FrameCall.TheVariants as frame
+use Rattle.rma_call.specs.declared.window.WindowCall.TheVariants as window
+use Rattle.rma_call.specs.declared.epoch.EpochCall.TheVariants as epoch
+use Rattle.rma_call.specs.declared.moving.MovingCall.TheVariants as moving
 use Rattle.rma_run.specs.Run.{calls_of}
-use Rattle.rma_run.proofs.ContainLemmas.{has_first, has_later, has_none, first_or_later}
 use Rattle.rma_round.specs.declared.kind.Kind.{Kind}
-use Rattle.rma_round.specs.declared.kind.Kind.TheVariants as kind_is
 use Rattle.rma_round.specs.declared.name_rounds.NameRounds.{NameRounds}
 use Rattle.rma_round.specs.declared.name_rounds.RankRounds.{RankRounds}
-use Rattle.rma_round.specs.Kind.{count_of, is_on, moved_on, named}
+use Rattle.rma_round.specs.Kind.{count_of, is_on, named}
 use Rattle.rma_round.specs.Round.{numbers, numbers_from}
 use Rattle.rma_round.specs.inside.Rounds.{AreOnName, AreRows, calls_in}
 use Rattle.rma_round.proofs.NumberLemmas.{call_at}
 use Rattle.rma_sync.specs.declared.argument.Arguments.{Arguments}
+use Rattle.rma_sync.specs.declared.argument.Arguments.TheVariants.{Barrier, Creation, Fence, Moving, Nothing}
 use Rattle.rma_sync.specs.Argument.{arguments_of}
-use Rattle.rma_sync.specs.Collective.{made, place_of}
+use Rattle.rma_sync.specs.Collective.{made}
 use Rattle.rma_member.specs.Member.{members}
 use Rattle.rma_sync.specs.inside.Agreement.{AgreeOn, AllAgree, IsInRound, IsRegular, RowAgrees, arguments_at}
+use Rattle.rma_sync.specs.inside.Place.{SharePlaces}
 use Rattle.rma_sync.specs.inside.Scan.{IsBalanced}
+use Rattle.rma_sync.proofs.RowLemmas.{IsUnused, calls_of_row, every_name, row_of, some_there, some_within}
 
 -- ---- lists
-
-in_map : {X Y : Type 0} (f : X → Y) (xs : List X) (y : Y) → Contains (map f xs) y → (x : X) × Contains xs x × (f x ≡ y)
-in_map f [] y has = has_none y has
-in_map f (x ∷ xs) y has =
-    first_or_later (f x) y (map f xs)
-    (λ is. (x, has_first x xs, is))
-    (λ later. let one = in_map f xs y later in (one.0, has_later x one.0 xs one.1, one.2))
-    has
-
-some_within : {X : Type 0} (xs : List X) (x : X) → Contains xs x → 0 < length xs
-some_within [] x has = has_none x has
-some_within (y ∷ ys) x has = omega arith
 
 same_all : {X : Type 0} (f g : X → Bool) (xs : List X) → ((x : X) → f x ≡ g x) → list_all f xs ≡ list_all g xs
 same_all f g [] same = refl
 same_all f g (x ∷ xs) same = ap (λ b. b && list_all f xs) (same x) ∙ ap (λ b. g x && b) (same_all f g xs same)
+
+-- ---- what a call has to agree on, but for its place
+
+-- the same at another place
+abbrev at : ℕ → Arguments → Arguments
+at place Barrier = Barrier
+at place (Creation window) = Creation window
+at place (Fence noprecede nosucceed) = Fence noprecede nosucceed
+at place (Moving transfer) = Moving (record { movement = transfer.movement; bytes = transfer.bytes; place = place })
+at place Nothing = Nothing
+
+at_is : (place : ℕ) (does : What) → arguments_of place does ≡ at place (arguments_of 0 does)
+at_is place (what.Sync (sync.Frame (frame.Barrier comm))) = refl
+at_is place (what.Sync (sync.Window (window.Create name comm base size unit model ops dynamic))) = refl
+at_is place (what.Sync (sync.Epoch (epoch.Fence name assertions))) = refl
+at_is place (what.Sync (sync.Moving (moving.Bcast root bytes comm))) = refl
+at_is place does = refl
+
+-- calls that agree but for their places agree at one place
+same_at : (place : ℕ) (first own : What) → arguments_of 0 first ≡ arguments_of 0 own → arguments_of place first ≡ arguments_of place own
+same_at place first own same = at_is place first ∙ ap (at place) same ∙ sym (at_is place own)
 
 -- ---- calls of a kind on a name
 
@@ -67,8 +80,7 @@ module _ (kind : Kind) (name : List ℕ) where
 
 -- ---- names that no call is on
 
-module _ (kind : Kind) (ranks : List RankCalls) (name : List ℕ)
-    (none : (rank number : ℕ) (call : Call) → slice_get (calls_of ranks rank) number ≡ Some call → named kind call.what ≡ Some name → ⊥) where
+module _ (kind : Kind) (ranks : List RankCalls) (name : List ℕ) (none : IsUnused kind (calls_of ranks) name) where
   no_numbers : (rank : ℕ) → numbers kind name (calls_of ranks rank) ≡ []
   no_numbers rank = by (numbers kind name (calls_of ranks rank)) refl
     where
@@ -96,14 +108,9 @@ module _ (kind : Kind) (ranks : List RankCalls) (name : List ℕ)
 
 -- ---- a name whose rounds are kept
 
-module _ (kind : Kind) (ranks : List RankCalls) (name : List ℕ) (moves_none : (what : What) (n : List ℕ) → named kind what ≡ Some n → moved_on what ≡ None)
-    (rounds : NameRounds) (rows : List RankRounds) (on_name : AreOnName kind name (calls_of ranks) rounds) (are_rows : AreRows rounds rows) where
+module _ (kind : Kind) (ranks : List RankCalls) (name : List ℕ) (rounds : NameRounds) (rows : List RankRounds) (on_name : AreOnName kind name (calls_of ranks) rounds) (are_rows : AreRows rounds rows) where
   made_kept : (m : ℕ) → made kind ranks m name ≡ length (calls_in rounds m)
   made_kept m = made_counted kind name ranks m ∙ ap length (sym (on_name m))
-
-  -- a rank that makes a call has a row
-  row_of : (rank : ℕ) → 0 < length (calls_in rounds rank) → (row : RankRounds) × Contains rows row × (row.rank.0 ≡ rank)
-  row_of rank some = in_map (λ row. row.rank.0) rows rank (are_rows.each rank some)
 
   pub kept_balanced : (own : List ℕ) → own ≡ members kind ranks name → (most : ℕ) → All (λ row. length row.numbers.now ≤ most) rows →
       list_all (λ m. nat_le most (length (calls_in rounds m))) own ≡ true → IsBalanced kind ranks name
@@ -118,51 +125,33 @@ module _ (kind : Kind) (ranks : List RankCalls) (name : List ℕ) (moves_none : 
       below : (m len : ℕ) → length (calls_in rounds m) ≡ len → length (calls_in rounds m) ≤ most
       below m zero is = omega (arith, is)
       below m (suc len) is =
-          let row = row_of m (omega (arith, is)) in
+          let row = row_of rounds rows are_rows m (omega (arith, is)) in
           let same : length row.0.numbers.now ≡ length (calls_in rounds m) =
-          ap length (All-contains (λ (r : RankRounds). r.numbers.now ≡ calls_in rounds r.rank.0) rows row.0 are_rows.numbers_are row.1) ∙ ap (λ n. length (calls_in rounds n)) row.2 in
+          ap length (calls_of_row rounds rows are_rows row.0 row.1) ∙ ap (λ n. length (calls_in rounds n)) row.2 in
           let le : length row.0.numbers.now ≤ most = All-contains (λ (r : RankRounds). length r.numbers.now ≤ most) rows row.0 few row.1 in
           omega (arith, same, le)
 
-  -- a call of a round has a row, and the arguments of the first rank's call
-  told : (agree : AllAgree ranks rows) (number : ℕ) (arguments : Arguments) → IsInRound kind ranks name number arguments → arguments ≡ arguments_at ranks agree.0 number
-  told agree number arguments one =
-      let calls = calls_of ranks one.rank in
-      let row = row_of one.rank (some_there one.rank number one.index one.is_numbered) in
-      let at = All-contains (λ (r : RankRounds). r.numbers.now ≡ calls_in rounds r.rank.0) rows row.0 are_rows.numbers_are row.1 in
+  -- a call of a round agrees with the first rank's call, but for its place
+  agrees : (all : AllAgree ranks rows) (number : ℕ) (arguments : Arguments) (one : IsInRound kind ranks name number arguments) → arguments_of 0 one.call.what ≡ arguments_at ranks all.0 number
+  agrees all number arguments one =
+      let kept : slice_get (calls_in rounds one.rank) number ≡ Some one.index = ap (λ l. slice_get l number) (on_name one.rank) ∙ one.is_numbered in
+      let row = row_of rounds rows are_rows one.rank (some_there (calls_in rounds one.rank) number one.index kept) in
       let own : slice_get row.0.numbers.now number ≡ Some one.index =
-      ap (λ l. slice_get l number) (at ∙ ap (calls_in rounds) row.2 ∙ on_name one.rank) ∙ one.is_numbered in
+      ap (λ l. slice_get l number) (calls_of_row rounds rows are_rows row.0 row.1 ∙ ap (calls_in rounds) row.2) ∙ kept in
       let there : slice_get (calls_of ranks row.0.rank.0) one.index ≡ Some one.call = ap (λ r. slice_get (calls_of ranks r) one.index) row.2 ∙ one.there in
-      sym one.are
-      ∙ ap (λ n. arguments_of n one.call.what) (first_place one)
-      ∙ All-contains (λ (r : RankRounds). RowAgrees ranks agree.0 r) rows row.0 agree.1 row.1 number one.index one.call own there
-    where
-      some_there : (rank number index : ℕ) → slice_get (numbers kind name (calls_of ranks rank)) number ≡ Some index → 0 < length (calls_in rounds rank)
-      some_there rank number index at = by (calls_in rounds rank) (ap (λ l. slice_get l number) (on_name rank) ∙ at)
-        where
-          by : (l : List ℕ) → slice_get l number ≡ Some index → 0 < length l
-          by [] is = absurd (let no : ⊥ = cc in no)
-          by (n ∷ ns) is = omega arith
+      All-contains (λ (r : RankRounds). RowAgrees ranks all.0 r) rows row.0 all.1 row.1 number one.index one.call own there
 
-      first_place : (one : IsInRound kind ranks name number arguments) → place_of (take one.index (calls_of ranks one.rank)) one.call.what ≡ 0
-      first_place one =
-          let found = call_at kind name (calls_of ranks one.rank) number one.index one.is_numbered in
-          let same : found.0 ≡ one.call = same_Some found.0 one.call (sym found.1 ∙ one.there) in
-          let is_named : named kind one.call.what ≡ Some name = ap (λ (c : Call). named kind c.what) (sym same) ∙ found.2 in
-          ap (λ o. option_map_or (λ comm. count_of kind_is.Collective comm (take one.index (calls_of ranks one.rank))) o 0) (moves_none one.call.what name is_named)
-
-  pub kept_agree : (0 < length rows → AllAgree ranks rows) → AgreeOn kind ranks name
-  kept_agree agree = λ number first own one other.
-      let row = row_of one.rank (some_of number one) in
+  pub kept_agree : (0 < length rows → AllAgree ranks rows) → SharePlaces kind (calls_of ranks) name → AgreeOn kind ranks name
+  kept_agree agree share = λ number first own one other.
+      let kept : slice_get (calls_in rounds one.rank) number ≡ Some one.index = ap (λ l. slice_get l number) (on_name one.rank) ∙ one.is_numbered in
+      let row = row_of rounds rows are_rows one.rank (some_there (calls_in rounds one.rank) number one.index kept) in
       let all = agree (some_within rows row.0 row.1) in
-      told all number first one ∙ sym (told all number own other)
+      at_place number first one
+      ∙ same_at (share.0 number) one.call.what other.call.what (agrees all number first one ∙ sym (agrees all number own other))
+      ∙ sym (at_place number own other)
     where
-      some_of : (number : ℕ) {arguments : Arguments} (one : IsInRound kind ranks name number arguments) → 0 < length (calls_in rounds one.rank)
-      some_of number one = by (calls_in rounds one.rank) (ap (λ l. slice_get l number) (on_name one.rank) ∙ one.is_numbered)
-        where
-          by : (l : List ℕ) → slice_get l number ≡ Some one.index → 0 < length l
-          by [] is = absurd (let no : ⊥ = cc in no)
-          by (n ∷ ns) is = omega arith
+      at_place : (number : ℕ) (arguments : Arguments) (one : IsInRound kind ranks name number arguments) → arguments ≡ arguments_of (share.0 number) one.call.what
+      at_place number arguments one = sym one.are ∙ ap (λ n. arguments_of n one.call.what) (share.1 one.rank number one.index one.call one.is_numbered one.there)
 
 -- ---- all names
 
@@ -170,13 +159,6 @@ module _ (kind : Kind) (ranks : List RankCalls) (name : List ℕ) (moves_none : 
 pub all_regular : (kind : Kind) (ranks : List RankCalls) (names : List (List ℕ)) →
     ((rank number : ℕ) (call : Call) (name : List ℕ) → slice_get (calls_of ranks rank) number ≡ Some call → named kind call.what ≡ Some name → Contains names name) →
     ((j : ℕ) (name : List ℕ) → j < length names → slice_get names j ≡ Some name → IsBalanced kind ranks name × AgreeOn kind ranks name) → IsRegular kind ranks
-all_regular kind ranks names each on = record { balanced = λ name. (both name (list_any (pointwise nat_eq name) names) refl).0; agree = λ name. (both name (list_any (pointwise nat_eq name) names) refl).1 }
-  where
-    both : (name : List ℕ) (b : Bool) → list_any (pointwise nat_eq name) names ≡ b → IsBalanced kind ranks name × AgreeOn kind ranks name
-    both name true found =
-        let has = Contains-from_any (λ x y same. same_text x y (sym same)) name names found in
-        on has.0 name has.1 (slice_get_read names (length names) has.0 name refl has.1 (sym has.2))
-    both name false lost =
-        let none : (rank number : ℕ) (call : Call) → slice_get (calls_of ranks rank) number ≡ Some call → named kind call.what ≡ Some name → ⊥ =
-        λ rank number call there is. (let wrong : true ≡ false = sym (list_any-from_Contains nat_list_eq_equiv name names (each rank number call name there is)) ∙ lost in let no : ⊥ = cc in no) in
-        (none_balanced kind ranks name none, none_agree kind ranks name none)
+all_regular kind ranks names each on =
+    let both = every_name kind (calls_of ranks) names (λ name. IsBalanced kind ranks name × AgreeOn kind ranks name) each on (λ name none. (none_balanced kind ranks name none, none_agree kind ranks name none)) in
+    record { balanced = λ name. (both name).0; agree = λ name. (both name).1 }

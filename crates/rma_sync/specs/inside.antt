@@ -1,3 +1,4 @@
+pub mod Place
 pub mod Agreement
 pub mod NameCount
 pub mod CallCount

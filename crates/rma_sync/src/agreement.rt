@@ -1,26 +1,28 @@
 //! Runs in whose rounds nothing is at fault.
-ghost use Rattle.std.specs.Prelude.{◌≡◌, ◌≤◌, ◌<◌, ℕ, List, Some, None, true, slice_get, length, nat_le, All, IfOk};
+ghost use Rattle.std.specs.Prelude.{◌≡◌, ◌≤◌, ◌<◌, ℕ, List, Some, true, slice_get, length, nat_le, All, IfOk};
 ghost use Rattle.std.specs.List.{list_all};
 ghost use Rattle.rma_call.specs.Call.{Call, what_of};
 ghost use Rattle.rma_run.specs.Run.{IsRun, calls_of};
-ghost use Rattle.rma_round.specs.Kind.{moved_on, named};
 ghost use Rattle.rma_round.specs.inside.Rounds.{AreOfKind, AreOnName, Represents, calls_in};
-ghost use Rattle.rma_sync.specs.Argument.{arguments_of};
+ghost use Rattle.rma_sync.specs.Argument.{arguments_of, transfer_of};
 ghost use Rattle.rma_sync.specs.inside.Agreement.{AgreeOn, AllAgree, IsRegular, RowAgrees};
 ghost use Rattle.rma_member.specs.Member.{members};
 ghost use Rattle.rma_member.specs.inside.Member.{AreMembers};
+ghost use Rattle.rma_sync.specs.inside.Place.{SharePlaces};
 ghost use Rattle.rma_sync.specs.inside.Scan.{IsBalanced};
-ghost use Rattle.rma_call.specs.declared.what.What.{What};
+ghost use Rattle.rma_round.specs.declared.kind.Kind.{Kind};
 ghost use Rattle.rma_round.specs.declared.kind.Kind.TheVariants as kind;
 
+use crate::argument::transfer_of;
+use crate::place::share_places;
 use rma_base::{Memory, Rank};
-use rma_call::{CallList, EpochCall, FrameCall, RankCalls, WhatRef, WindowCall};
+use rma_call::{CallList, EpochCall, FrameCall, MovingCall, RankCalls, WhatRef, WindowCall};
 use rma_member::Members;
 use rma_round::{Kind, KindRounds, NameRounds, RankRounds, Rounds};
 use std::alloc::Global;
 
 /// Whether each member makes each call of a round, and all agree. The tables of the rounds tell it, so a run without such faults is
-/// not walked once more. Where any calls move data, it is not asked.
+/// not walked once more.
 pub(crate) fn are_regular(
     alloc: Global,
     ranks: &[RankCalls],
@@ -35,7 +37,7 @@ pub(crate) fn are_regular(
     ensures fences { IfOk result (λ regular. regular ≡ true → IsRegular kind.Fence ranks.now) }
     ensures movings { IfOk result (λ regular. regular ≡ true → IsRegular kind.Moving ranks.now) }
 {
-    if rounds.of_kind(Kind::Moving).len() > 0 {
+    if !share_places(alloc, rounds)? {
         return Ok(false);
     }
     let collectives = is_regular(
@@ -59,10 +61,17 @@ pub(crate) fn are_regular(
         rounds.of_kind(Kind::Fence),
         members,
     )?;
-    Ok(collectives && frees && fences)
+    let movings = is_regular(
+        alloc,
+        Kind::Moving,
+        ranks,
+        rounds.of_kind(Kind::Moving),
+        members,
+    )?;
+    Ok(collectives && frees && fences && movings)
 }
 
-/// Whether that is so of a kind of calls that move no data.
+/// Whether that is so of a kind of calls, where those of each round have the same place.
 fn is_regular(
     alloc: Global,
     kind: Kind,
@@ -73,12 +82,12 @@ fn is_regular(
     requires run { IsRun ranks.now }
     requires rounds { AreOfKind kind (calls_of ranks.now) rounds.now }
     requires members { AreMembers ranks.now members.now }
-    requires moves_none { (what : What) (name : List ℕ) → named kind what ≡ Some name → moved_on what ≡ None }
+    requires places { (name : List ℕ) → SharePlaces kind (calls_of ranks.now) name }
     ensures { IfOk result (λ regular. regular ≡ true → IsRegular kind ranks.now) }
 {
     for i in 0..rounds.len() {
         let own = members.of(kind, rounds.name(i));
-        if !is_regular_on(alloc, kind, ranks, rounds.rounds(i), own)? {
+        if !is_regular_on(alloc, ranks, rounds.rounds(i), own)? {
             return Ok(false);
         }
     }
@@ -88,14 +97,12 @@ fn is_regular(
 /// Whether that is so of the calls on one name, which has these members.
 fn is_regular_on(
     alloc: Global,
-    kind: Kind,
     ranks: &[RankCalls],
     rounds: &NameRounds,
     own: &[u32],
 ) -> Result<bool, Memory>
-    requires { (what : What) (name : List ℕ) → named kind what ≡ Some name → moved_on what ≡ None }
-    ensures { IfOk result (λ regular. regular ≡ true → (name : List ℕ) → AreOnName kind name (calls_of ranks.now) rounds.now → own.now ≡ members kind ranks.now name
-        → IsBalanced kind ranks.now name × AgreeOn kind ranks.now name) }
+    ensures { IfOk result (λ regular. regular ≡ true → (kind : Kind) (name : List ℕ) → AreOnName kind name (calls_of ranks.now) rounds.now → own.now ≡ members kind ranks.now name
+        → SharePlaces kind (calls_of ranks.now) name → IsBalanced kind ranks.now name × AgreeOn kind ranks.now name) }
 {
     let rows = rounds.ranks(alloc)?;
     Ok(is_balanced(rounds, rows.as_slice(), own) && all_agree(ranks, rows.as_slice()))
@@ -127,7 +134,7 @@ fn have_calls(rounds: &NameRounds, members: &[u32], number: usize) -> bool
     members.iter().all(|m| number <= rounds.of(Rank(*m)).len())
 }
 
-/// Whether the calls of all ranks agree with those of the first, round by round.
+/// Whether the calls of all ranks agree with those of the first, round by round, but for their places.
 fn all_agree(ranks: &[RankCalls], rows: &[RankRounds<'_>]) -> bool
     ensures { result ≡ true → 0 < length rows.now → AllAgree ranks.now rows.now }
 {
@@ -137,7 +144,7 @@ fn all_agree(ranks: &[RankCalls], rows: &[RankRounds<'_>]) -> bool
     }
 }
 
-/// Whether the calls of all ranks agree with those of one, round by round.
+/// Whether the calls of all ranks agree with those of one, round by round, but for their places.
 fn agree_with(ranks: &[RankCalls], first: RankRounds<'_>, rows: &[RankRounds<'_>]) -> bool
     ensures { result ≡ true → All (RowAgrees ranks.now first.entry) rows.now }
 {
@@ -150,7 +157,7 @@ fn agree_with(ranks: &[RankCalls], first: RankRounds<'_>, rows: &[RankRounds<'_>
     true
 }
 
-/// Whether the calls of one rank agree with those of another, round by round, where they move no data.
+/// Whether the calls of one rank agree with those of another, round by round, but for their places.
 fn row_agrees(ranks: &[RankCalls], first: RankRounds<'_>, row: RankRounds<'_>) -> bool
     ensures { result ≡ true → RowAgrees ranks.now first.entry row.entry }
 {
@@ -176,7 +183,7 @@ fn row_agrees(ranks: &[RankCalls], first: RankRounds<'_>, row: RankRounds<'_>) -
     true
 }
 
-/// Whether two calls agree, where they move no data.
+/// Whether two calls agree, but for their places.
 fn agree_at(first_calls: &CallList, first: u32, calls: &CallList, own: u32) -> bool
     ensures there { result ≡ true → first < length first_calls.now.calls }
     ensures agree { result ≡ true → (one other : Call) → slice_get first_calls.now.calls first ≡ Some one → slice_get calls.now.calls own ≡ Some other → arguments_of 0 one.what ≡ arguments_of 0 other.what }
@@ -188,7 +195,7 @@ fn agree_at(first_calls: &CallList, first: u32, calls: &CallList, own: u32) -> b
     agree(first_calls.get(first).what, calls.get(own).what)
 }
 
-/// Whether two calls of one kind agree, where they move no data.
+/// Whether two calls of one kind agree, but for their places.
 fn agree(first: WhatRef<'_>, own: WhatRef<'_>) -> bool
     ensures { result ≡ true → arguments_of 0 (what_of first.entry) ≡ arguments_of 0 (what_of own.entry) }
 {
@@ -216,6 +223,14 @@ fn agree(first: WhatRef<'_>, own: WhatRef<'_>) -> bool
                 },
             ),
         ) => first.noprecede == own.noprecede && first.nosucceed == own.nosucceed,
+        (WhatRef::Moving(first), WhatRef::Moving(own)) => move_alike(first, own),
         _ => false,
     }
+}
+
+/// Whether two calls move data alike, but for their places.
+fn move_alike(first: &MovingCall, own: &MovingCall) -> bool
+    ensures { result ≡ true → transfer_of 0 first.now ≡ transfer_of 0 own.now }
+{
+    transfer_of(own, 0).agrees_with(&transfer_of(first, 0))
 }

@@ -97,7 +97,7 @@ impl Arguments {
 
 impl Transfer {
     /// Whether it agrees with that of the first call of the round.
-    fn agrees_with(&self, first: &Transfer) -> bool
+    pub(crate) fn agrees_with(&self, first: &Transfer) -> bool
         ensures { result ≡ same_transfer first.now self.now }
     {
         self.movement.agrees_with(&first.movement)
@@ -125,7 +125,7 @@ impl Movement {
 }
 
 /// What a call moves, before which so many barriers and creations of windows stand.
-fn transfer_of(call: &MovingCall, place: usize) -> Transfer
+pub(crate) fn transfer_of(call: &MovingCall, place: usize) -> Transfer
     ensures { result ≡ transfer_of place call.now }
 {
     let (movement, bytes) = match call {

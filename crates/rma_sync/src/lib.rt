@@ -20,6 +20,7 @@ mod call_count;
 mod matching;
 mod missing;
 mod name_count;
+mod place;
 mod round;
 mod scan;
 

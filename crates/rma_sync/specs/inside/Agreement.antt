@@ -30,16 +30,16 @@ pub record IsRegular (kind : Kind) (ranks : List RankCalls) : Type 0 where
   pub balanced : AreBalanced kind ranks
   pub agree : (name : List ℕ) → AgreeOn kind ranks name
 
--- what the call of a rank in the round of a number has to agree on, where it moves no data
+-- what the call of a rank in the round of a number has to agree on, but for its place
 abbrev pub arguments_at : List RankCalls → RankRounds → ℕ → Arguments
 arguments_at ranks row number =
     option_map_or (λ call. arguments_of 0 call.what) (option_and_then (slice_get (calls_of ranks row.rank.0)) (slice_get row.numbers.now number)) Nothing
 
--- the calls of a rank agree with those of another, round by round
+-- the calls of a rank agree with those of another, round by round, but for their places
 abbrev pub RowAgrees : List RankCalls → RankRounds → RankRounds → Type 0
 RowAgrees ranks first row =
     (number index : ℕ) (call : Call) → slice_get row.numbers.now number ≡ Some index → slice_get (calls_of ranks row.rank.0) index ≡ Some call → arguments_of 0 call.what ≡ arguments_at ranks first number
 
--- the calls of all ranks agree with those of one, round by round
+-- the calls of all ranks agree with those of one, round by round, but for their places
 abbrev pub AllAgree : List RankCalls → List RankRounds → Type 0
 AllAgree ranks rows = (first : RankRounds) × All (RowAgrees ranks first) rows

@@ -1,5 +1,4 @@
-use Rattle.std.proofs.Common.{◌≡◌, ℕ, ◌+◌, ◌<◌, Bool, true, false, nat_lt, Some, slice_get, refl, sym, ap, ◌∙◌, arith}
-use Rattle.std.proofs.lemmas.Bool.Decides.{nat_tests}
+use Rattle.std.proofs.Common.{◌≡◌, Some, slice_get, sym, ap, ◌∙◌, arith}
 use Rattle.std.proofs.lemmas.Option.{same_Some}
 use Rattle.rma_run.specs.Run.{calls_of}
 use Rattle.rma_round.specs.inside.Rounds.{names_in}
@@ -7,15 +6,8 @@ use Rattle.rma_member.specs.Member.{members}
 use Rattle.rma_sync.specs.inside.Agreement.{AgreeOn}
 use Rattle.rma_sync.specs.inside.Scan.{IsBalanced}
 use Rattle.rma_sync.proofs.RegularLemmas.{all_regular}
+use Rattle.rma_sync.proofs.RowLemmas.{before_or_here}
 use Rattle.rma_sync.proofs.agreement.is_regular.Goals as goal
-
--- the names before, or this one
-before_or_here : (P : Type 0) (j i : ℕ) → j < i + 1 → (j < i → P) → (j ≡ i → P) → P
-before_or_here P j i below before here = by (nat_lt j i) refl
-  where
-    by : (b : Bool) → nat_lt j i ≡ b → P
-    by true is = before (grind (arith, nat_tests))
-    by false is = here (grind (arith, nat_tests))
 
 pub loop-i-preserved : goal.loop-i-preserved
 loop-i-preserved c = λ j name below at.
@@ -27,7 +19,7 @@ loop-i-preserved c = λ j name below at.
     (λ same.
     let there : slice_get names c.loop-i.i ≡ Some name = ap (slice_get names) (sym same) ∙ at in
     let is : c.name.result.now ≡ name = same_Some c.name.result.now name (sym c.name.ensures ∙ there) in
-    c.in_ok-is_regular_on.ensures c.if-not-branch.false name (c.rounds.ensures kind (calls_of ranks) c.requires.rounds name there) (c.of-own.ensures ranks c.requires.members ∙ ap (members kind ranks) is))
+    c.in_ok-is_regular_on.ensures c.if-not-branch.false kind name (c.rounds.ensures kind (calls_of ranks) c.requires.rounds name there) (c.of-own.ensures ranks c.requires.members ∙ ap (members kind ranks) is) (c.requires.places name))
 
 pub returns : goal.returns
 returns c = λ regular.

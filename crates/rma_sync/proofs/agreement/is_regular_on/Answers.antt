@@ -8,8 +8,7 @@ use Rattle.rma_sync.proofs.agreement.is_regular_on.Goals as goal
 use Rattle.rma_sync.proofs.agreement.is_regular_on.Goals.{then-is_balanced, else-is_balanced}
 
 pub returns : goal.returns
-returns c = λ regular name on_name has_to.
-    let kind = c.args.kind in
+returns c = λ regular kind name on_name has_to share.
     let ranks = c.args.ranks.now in
     let rounds = c.args.rounds.now in
     let rows = c.in_ok-rows.rows in
@@ -19,9 +18,9 @@ returns c = λ regular name on_name has_to.
           let balanced = c.is_balanced.ensures w.if-is_balanced.true in
           let few = subst (λ rs. All (λ (row : RankRounds). length row.numbers.now ≤ balanced.0) rs) c.as_slice.ensures balanced.1 in
           let is = w.as_slice-then-is_balanced.ensures in (
-            kept_balanced kind ranks name c.requires rounds rows on_name are_rows c.args.own.now has_to balanced.0 few balanced.2,
-            kept_agree kind ranks name c.requires rounds rows on_name are_rows
-                (λ some. subst (AllAgree ranks) is (w.all_agree.ensures (sym w.result-is ∙ regular) (subst (λ rs. 0 < length rs) (sym is) some))),
+            kept_balanced kind ranks name rounds rows on_name are_rows c.args.own.now has_to balanced.0 few balanced.2,
+            kept_agree kind ranks name rounds rows on_name are_rows
+                (λ some. subst (AllAgree ranks) is (w.all_agree.ensures (sym w.result-is ∙ regular) (subst (λ rs. 0 < length rs) (sym is) some))) share,
           )
       | else-is_balanced w ↦ absurd (false≢true (sym w.if-is_balanced.false ∙ sym w.result-is ∙ regular))
     ]
