@@ -54,10 +54,7 @@ fn difference<T: Attributes>(
 /// # Errors
 ///
 /// `Memory` where memory ran out.
-pub fn push_some(
-    faults: &mut Sequence<MatchFault>,
-    fault: Option<MatchFault>,
-) -> Result<(), Memory>
+pub fn push_some(faults: &mut Sequence<MatchFault>, fault: Option<MatchFault>) -> Result<(), Memory>
     ensures { OnOk result (faults.new ≡ faults.old ++ cons_option fault []) }
 {
     match fault {
