@@ -3,9 +3,8 @@ use Rattle.std.proofs.Common.{◌≡◌, ℕ, ◌+◌, ◌<◌, List, [], ◌∷
 use Rattle.rma_base.specs.declared.rank.Rank.{Rank}
 use Rattle.rma_call.specs.Call.{Call}
 use Rattle.rma_sync.specs.Collective.{walked}
-use Rattle.std.specs.List.{filter_map, flat_map, cons_option}
+use Rattle.std.specs.List.{flat_map, cons_option}
 use Rattle.std.proofs.lemmas.List.{take_more, append_assoc, append-nil, flat_map_more}
-use Rattle.std.proofs.lemmas.List.Elements.{filter_map-append}
 use Rattle.std.proofs.lemmas.Option.{slice_get_within, get_or_from_slice_get}
 
 -- the prefix with the element after it

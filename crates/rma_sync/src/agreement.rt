@@ -1,11 +1,11 @@
 //! Runs in whose rounds nothing is at fault.
-ghost use Rattle.std.specs.Prelude.{◌≡◌, ◌≤◌, ◌<◌, ℕ, List, Some, true, slice_get, length, nat_le, All, IfOk};
+ghost use Rattle.std.specs.Prelude.{◌≡◌, ◌≤◌, ◌<◌, ℕ, List, Some, true, slice_get, length, nat_le, All, IsSome, IfSome, IfOk};
 ghost use Rattle.std.specs.List.{list_all};
 ghost use Rattle.rma_call.specs.Call.{Call, what_of};
 ghost use Rattle.rma_run.specs.Run.{IsRun, calls_of};
 ghost use Rattle.rma_round.specs.inside.Rounds.{AreOfKind, AreOnName, Represents, calls_in};
 ghost use Rattle.rma_sync.specs.Argument.{arguments_of, transfer_of};
-ghost use Rattle.rma_sync.specs.inside.Agreement.{AgreeOn, AllAgree, IsRegular, RowAgrees};
+ghost use Rattle.rma_sync.specs.inside.Agreement.{AgreeOn, AllAgree, IsAlike, IsRegular, ListsAgree, RowAgrees};
 ghost use Rattle.rma_member.specs.Member.{members};
 ghost use Rattle.rma_member.specs.inside.Member.{AreMembers};
 ghost use Rattle.rma_sync.specs.inside.Place.{SharePlaces};
@@ -20,6 +20,15 @@ use rma_call::{CallList, EpochCall, FrameCall, MovingCall, RankCalls, WhatRef, W
 use rma_member::Members;
 use rma_round::{Kind, KindRounds, NameRounds, RankRounds, Rounds};
 use std::alloc::Global;
+
+/// What two calls do, by its numbers.
+#[derive(Clone, Copy)]
+struct Pair {
+    /// What the call of the first rank does.
+    first: u32,
+    /// What the call of the other rank does.
+    own: u32,
+}
 
 /// Whether each member makes each call of a round, and all agree. The tables of the rounds tell it, so a run without such faults is
 /// not walked once more.
@@ -161,7 +170,7 @@ fn agree_with(ranks: &[RankCalls], first: RankRounds<'_>, rows: &[RankRounds<'_>
 fn row_agrees(ranks: &[RankCalls], first: RankRounds<'_>, row: RankRounds<'_>) -> bool
     ensures { result ≡ true → RowAgrees ranks.now first.entry row.entry }
 {
-    let (Some(first_calls), Some(calls)) = (
+    let (Some(first_rank), Some(own_rank)) = (
         ranks.get(first.rank.0 as usize),
         ranks.get(row.rank.0 as usize),
     ) else {
@@ -170,29 +179,75 @@ fn row_agrees(ranks: &[RankCalls], first: RankRounds<'_>, row: RankRounds<'_>) -
     if row.numbers.len() > first.numbers.len() {
         return false;
     }
-    for k in 0..row.numbers.len() {
-        if !agree_at(
-            first_calls.calls(),
-            first.numbers[k],
-            calls.calls(),
-            row.numbers[k],
-        ) {
+    lists_agree(
+        first_rank.calls(),
+        first.numbers,
+        own_rank.calls(),
+        row.numbers,
+    )
+}
+
+/// Whether the calls of one list that have these numbers agree with those of another, round by round, but for their places.
+fn lists_agree(first_calls: &CallList, first: &[u32], calls: &CallList, own: &[u32]) -> bool
+    requires { length own.now ≤ length first.now }
+    ensures { result ≡ true → ListsAgree first_calls.now.calls first.now calls.now.calls own.now }
+{
+    let mut known = None;
+    for k in 0..own.len() {
+        known = agree_at(first_calls, first[k], calls, own[k], known);
+        if known.is_none() {
             return false;
         }
     }
     true
 }
 
-/// Whether two calls agree, but for their places.
-fn agree_at(first_calls: &CallList, first: u32, calls: &CallList, own: u32) -> bool
-    ensures there { result ≡ true → first < length first_calls.now.calls }
-    ensures agree { result ≡ true → (one other : Call) → slice_get first_calls.now.calls first ≡ Some one → slice_get calls.now.calls own ≡ Some other → arguments_of 0 one.what ≡ arguments_of 0 other.what }
+/// What two calls do, by its numbers, if they agree but for their places.
+fn agree_at(
+    first_calls: &CallList,
+    first: u32,
+    calls: &CallList,
+    own: u32,
+    known: Option<Pair>,
+) -> Option<Pair>
+    requires { IfSome known (IsAlike first_calls.now.whats calls.now.whats) }
+    ensures there { IsSome result → first < length first_calls.now.calls }
+    ensures agree { IsSome result → (one other : Call) → slice_get first_calls.now.calls first ≡ Some one → slice_get calls.now.calls own ≡ Some other → arguments_of 0 one.what ≡ arguments_of 0 other.what }
+    ensures known { IfSome result (IsAlike first_calls.now.whats calls.now.whats) }
 {
     let (first, own) = (first as usize, own as usize);
     if first >= first_calls.len() || own >= calls.len() {
-        return false;
+        return None;
     }
-    agree(first_calls.get(first).what, calls.get(own).what)
+    let pair = Pair {
+        first: first_calls.what_number(first),
+        own: calls.what_number(own),
+    };
+    if is_alike(first_calls, calls, pair, known) {
+        Some(pair)
+    } else {
+        None
+    }
+}
+
+/// Whether calls agree that do this, but for their places. What is known to agree is not compared again.
+fn is_alike(first_calls: &CallList, calls: &CallList, pair: Pair, known: Option<Pair>) -> bool
+    requires first { pair.first < length first_calls.now.whats }
+    requires own { pair.own < length calls.now.whats }
+    requires known { IfSome known (IsAlike first_calls.now.whats calls.now.whats) }
+    ensures { result ≡ true → IsAlike first_calls.now.whats calls.now.whats pair }
+{
+    is_known(known, pair) || agree(first_calls.what(pair.first), calls.what(pair.own))
+}
+
+/// Whether a pair is the one that is known.
+fn is_known(known: Option<Pair>, pair: Pair) -> bool
+    ensures { result ≡ true → known ≡ Some pair }
+{
+    match known {
+        Some(known) => known.first == pair.first && known.own == pair.own,
+        None => false,
+    }
 }
 
 /// Whether two calls of one kind agree, but for their places.

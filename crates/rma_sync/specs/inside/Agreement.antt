@@ -2,10 +2,12 @@
 use Rattle.std.specs.Prelude.{◌≡◌, ℕ, List, Some, take, slice_get, All}
 use Rattle.std.specs.Option.{option_and_then, option_map_or}
 use Rattle.rma_call.specs.Call.{Call, RankCalls}
+use Rattle.rma_call.specs.declared.what.What.{What}
 use Rattle.rma_run.specs.Run.{calls_of}
 use Rattle.rma_round.specs.declared.kind.Kind.{Kind}
 use Rattle.rma_round.specs.Round.{numbers}
 use Rattle.rma_round.specs.declared.name_rounds.RankRounds.{RankRounds}
+use Rattle.rma_sync.specs.declared.agreement.Pair.{Pair}
 use Rattle.rma_sync.specs.declared.argument.Arguments.{Arguments}
 use Rattle.rma_sync.specs.declared.argument.Arguments.TheVariants.{Nothing}
 use Rattle.rma_sync.specs.Argument.{arguments_of}
@@ -30,15 +32,26 @@ pub record IsRegular (kind : Kind) (ranks : List RankCalls) : Type 0 where
   pub balanced : AreBalanced kind ranks
   pub agree : (name : List ℕ) → AgreeOn kind ranks name
 
+-- what the call in the round of a number has to agree on, but for its place, by the numbers of some calls
+abbrev pub arguments_in : List Call → List ℕ → ℕ → Arguments
+arguments_in calls numbers number = option_map_or (λ call. arguments_of 0 call.what) (option_and_then (slice_get calls) (slice_get numbers number)) Nothing
+
+-- the calls of these numbers agree with others, round by round, but for their places
+abbrev pub ListsAgree : List Call → List ℕ → List Call → List ℕ → Type 0
+ListsAgree first_calls first calls own =
+    (number index : ℕ) (call : Call) → slice_get own number ≡ Some index → slice_get calls index ≡ Some call → arguments_of 0 call.what ≡ arguments_in first_calls first number
+
+-- what two calls do agrees, by its numbers, but for their places
+abbrev pub IsAlike : List What → List What → Pair → Type 0
+IsAlike first_whats whats pair = (first own : What) → slice_get first_whats pair.first ≡ Some first → slice_get whats pair.own ≡ Some own → arguments_of 0 first ≡ arguments_of 0 own
+
 -- what the call of a rank in the round of a number has to agree on, but for its place
 abbrev pub arguments_at : List RankCalls → RankRounds → ℕ → Arguments
-arguments_at ranks row number =
-    option_map_or (λ call. arguments_of 0 call.what) (option_and_then (slice_get (calls_of ranks row.rank.0)) (slice_get row.numbers.now number)) Nothing
+arguments_at ranks row number = arguments_in (calls_of ranks row.rank.0) row.numbers.now number
 
 -- the calls of a rank agree with those of another, round by round, but for their places
 abbrev pub RowAgrees : List RankCalls → RankRounds → RankRounds → Type 0
-RowAgrees ranks first row =
-    (number index : ℕ) (call : Call) → slice_get row.numbers.now number ≡ Some index → slice_get (calls_of ranks row.rank.0) index ≡ Some call → arguments_of 0 call.what ≡ arguments_at ranks first number
+RowAgrees ranks first row = ListsAgree (calls_of ranks first.rank.0) first.numbers.now (calls_of ranks row.rank.0) row.numbers.now
 
 -- the calls of all ranks agree with those of one, round by round, but for their places
 abbrev pub AllAgree : List RankCalls → List RankRounds → Type 0

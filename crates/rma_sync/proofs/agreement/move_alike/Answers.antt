@@ -4,7 +4,7 @@ use Rattle.std.proofs.lemmas.Bool.{eqb-true}
 use Rattle.rma_sync.specs.declared.argument.Movement.{Movement}
 use Rattle.rma_sync.specs.declared.argument.Movement.TheVariants.{Bcast, Scatter, Gather, Reduce, Allreduce, Allgather, Alltoall}
 use Rattle.rma_sync.specs.declared.argument.Transfer.{Transfer}
-use Rattle.rma_sync.specs.Argument.{same_movement, same_transfer, transfer_of}
+use Rattle.rma_sync.specs.Argument.{same_movement, same_transfer}
 use Rattle.rma_sync.proofs.agreement.move_alike.Goals as goal
 
 one_movement : (first own : Movement) → same_movement first own ≡ true → first ≡ own

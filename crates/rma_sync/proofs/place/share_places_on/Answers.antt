@@ -1,4 +1,4 @@
-use Rattle.std.proofs.Common.{◌<◌, length, Some, sym, subst, ◌∙◌, ap}
+use Rattle.std.proofs.Common.{◌<◌, length, sym, subst, ap}
 use Rattle.std.specs.Option.{option_copied}
 use Rattle.rma_round.specs.declared.kind.Kind.TheVariants as kind
 use Rattle.rma_round.specs.inside.Rounds.{AreFoundOnName}
