@@ -37,6 +37,10 @@ pub trait Attributes: Drop {
     ghost agrees: { Self → Self → Bool };
 
     /// The name and its attributes, where the call declares one of this kind.
+    ///
+    /// # Errors
+    ///
+    /// `Memory` where memory ran out.
     fn of(what: WhatRef<'_>) -> Result<Option<(Name, Self)>, Memory>
         ensures { IfOk result (λ found. found ≡ stated (what_of what.entry)) };
 
