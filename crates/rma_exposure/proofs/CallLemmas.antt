@@ -1,5 +1,9 @@
 -- What one more call of a rank adds.
-use Rattle.std.proofs.Common.{◌≡◌, ℕ, zero, suc, ◌+◌, ◌<◌, Bool, true, false, cond, ◌∷◌, ◌++◌, List, [], length, Option, Some, None, nat_eq, refl, sym, ap, ◌∙◌, arith}
+use Rattle.std.proofs.Common.{◌≡◌, ℕ, zero, suc, ◌+◌, ◌<◌, ◌≤◌, Bool, true, false, cond, ◌∷◌, ◌++◌, List, [], length, take, slice_get, Option, Some, None, nat_eq, refl, sym, ap, ◌∙◌, arith}
+use Rattle.std.proofs.Math.Seq.{take-append_seam}
+use Rattle.std.proofs.lemmas.Bool.{eqb-true}
+use Rattle.std.proofs.lemmas.List.{take-append-le}
+use Rattle.std.proofs.lemmas.Option.{slice_get_past, slice_get_within}
 use Rattle.std.specs.Option.{option_and_then}
 use Rattle.std.specs.Cmp.Lexicographic.{pointwise, same_text, nat_list_eq_equiv}
 use Rattle.std.proofs.lemmas.Bool.Decides.{nat_tests}
@@ -7,9 +11,9 @@ use Rattle.rma_call.specs.Call.{Call}
 use Rattle.rma_run.proofs.CallLemmas.{next_same, zero_next, next_zero}
 use Rattle.rma_exposure.specs.declared.side.Side.{Side}
 use Rattle.rma_exposure.specs.Opening.{Opening, opening_at, opened, closed, opens_on, opens_with, closes_on}
-use Rattle.rma_exposure.specs.Closing.{first_closing, closing_at, closing_of}
+use Rattle.rma_exposure.specs.Closing.{first_closing, closing_at, closing_of, pending_after, pending_of, closed_at, opener_of}
 use Rattle.rma_exposure.specs.Matching.{numbers_from}
-use Rattle.rma_exposure.specs.inside.Epochs.{pending_after, is_pending}
+use Rattle.rma_exposure.specs.inside.Epochs.{is_pending}
 
 -- ---- numbers
 
@@ -199,3 +203,59 @@ opening_at_same side [] call zero not = not
 opening_at_same side [] call (suc i) not = refl
 opening_at_same side (x ∷ xs) call zero not = refl
 opening_at_same side (x ∷ xs) call (suc i) not = opening_at_same side xs call i not
+
+-- ---- the calls that closing calls close
+
+closed_at_push : (side : Side) (calls : List Call) (call : Call) (i : ℕ) → closed_at side (calls ++ call ∷ []) i ≡ cond (nat_eq (length calls) i) (closed side call.what) (closed_at side calls i)
+closed_at_push side [] call zero = refl
+closed_at_push side [] call (suc i) = rw zero_next refl
+closed_at_push side (x ∷ xs) call zero = rw next_zero refl
+closed_at_push side (x ∷ xs) call (suc i) = rw next_same (closed_at_push side xs call i)
+
+-- no call of this number is there yet
+pub opener_of_past : (side : Side) (calls : List Call) (i : ℕ) → nat_eq (length calls) i ≡ true → opener_of side calls i ≡ None
+opener_of_past side calls i same =
+    let le : length calls ≤ i = grind (arith, nat_tests) in
+    ap (λ (o : Option Call). option_and_then (λ window. pending_of side window (take i calls)) (option_and_then (λ (call : Call). closed side call.what) o)) (slice_get_past calls i le)
+
+-- one more call opens what is pending on the window that it closes
+pub opener_of_push : (side : Side) (calls : List Call) (call : Call) (i : ℕ) →
+    opener_of side (calls ++ call ∷ []) i ≡ cond (nat_eq (length calls) i) (option_and_then (λ window. pending_of side window calls) (closed side call.what)) (opener_of side calls i)
+opener_of_push side calls call i =
+    ap (option_and_then (λ window. pending_of side window (take i (calls ++ call ∷ [])))) (closed_at_push side calls call i)
+    ∙ by (nat_eq (length calls) i) refl
+  where
+    before : (o : Option Call) → slice_get calls i ≡ o →
+        option_and_then (λ window. pending_of side window (take i (calls ++ call ∷ []))) (option_and_then (λ (c : Call). closed side c.what) o)
+        ≡ option_and_then (λ window. pending_of side window (take i calls)) (option_and_then (λ (c : Call). closed side c.what) o)
+    before None at = refl
+    before (Some c) at =
+        let lt = slice_get_within calls i c at in
+        let le : i ≤ length calls = omega arith in
+        ap (λ l. option_and_then (λ window. pending_of side window l) (closed side c.what)) (take-append-le i calls (call ∷ []) le)
+
+    by : (b : Bool) → nat_eq (length calls) i ≡ b →
+        option_and_then (λ window. pending_of side window (take i (calls ++ call ∷ []))) (cond b (closed side call.what) (closed_at side calls i))
+        ≡ cond b (option_and_then (λ window. pending_of side window calls) (closed side call.what)) (opener_of side calls i)
+    by true same =
+        ap (λ l. option_and_then (λ window. pending_of side window l) (closed side call.what))
+        (ap (λ k. take k (calls ++ call ∷ [])) (sym (eqb-true (length calls) i same)) ∙ take-append_seam calls (call ∷ []))
+    by false differ = before (slice_get calls i) refl
+
+-- a call that closes nothing leaves them
+pub opener_of_same : (side : Side) (calls : List Call) (call : Call) (i : ℕ) → closed side call.what ≡ None → opener_of side (calls ++ call ∷ []) i ≡ opener_of side calls i
+opener_of_same side calls call i not =
+    opener_of_push side calls call i
+    ∙ ap (λ o. cond (nat_eq (length calls) i) (option_and_then (λ window. pending_of side window calls) o) (opener_of side calls i)) not
+    ∙ by (nat_eq (length calls) i) refl
+  where
+    by : (b : Bool) → nat_eq (length calls) i ≡ b → cond b None (opener_of side calls i) ≡ opener_of side calls i
+    by true same = sym (opener_of_past side calls i same)
+    by false differ = refl
+
+-- a call that closes an epoch on this window is after what is pending there
+pub opener_of_closed : (side : Side) (calls : List Call) (call : Call) (window : List ℕ) (i : ℕ) → closed side call.what ≡ Some window →
+    opener_of side (calls ++ call ∷ []) i ≡ cond (nat_eq (length calls) i) (pending_of side window calls) (opener_of side calls i)
+opener_of_closed side calls call window i is =
+    opener_of_push side calls call i
+    ∙ ap (λ o. cond (nat_eq (length calls) i) (option_and_then (λ w. pending_of side w calls) o) (opener_of side calls i)) is

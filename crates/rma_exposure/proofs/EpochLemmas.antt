@@ -11,8 +11,9 @@ use Rattle.rma_exposure.specs.declared.side_epochs.SideEpochs.{SideEpochs}
 use Rattle.rma_exposure.specs.declared.rank_epochs.RankEpochs.{RankEpochs}
 use Rattle.rma_exposure.specs.Opening.{Opening, posted, started, waited, completed, opening_at, opened, closed, opens_on, opens_with, closes_on}
 use Rattle.rma_exposure.specs.Matching.{numbers}
-use Rattle.rma_exposure.specs.inside.Epochs.{kept, numbers_in, pending_in, IsOpened, pending_of, is_pending, HaveNoEpochs, AreEpochs, AreOfRank, IsOfRank}
-use Rattle.rma_exposure.proofs.CallLemmas.{numbers_from_push, next_pending, pending_after_push, closing_of_push, closing_at_same, opening_at_push, opening_at_same, closes_is, closes_none}
+use Rattle.rma_exposure.specs.Closing.{pending_of}
+use Rattle.rma_exposure.specs.inside.Epochs.{kept, numbers_in, pending_in, IsOpened, is_pending, stated, HaveNoEpochs, AreEpochs, AreOfRank, IsOfRank}
+use Rattle.rma_exposure.proofs.CallLemmas.{numbers_from_push, next_pending, pending_after_push, closing_of_push, closing_at_same, opener_of_past, opener_of_same, opener_of_closed, opening_at_push, opening_at_same, closes_is, closes_none}
 
 numbers_push : (side : Side) (window : List ℕ) (other : ℕ) (calls : List Call) (call : Call) →
     numbers side window other (calls ++ call ∷ []) ≡ numbers side window other calls ++ cond (opens_with side window other call) (length calls ∷ []) []
@@ -50,14 +51,15 @@ pub AreEpochs_same : (side : Side) (calls : List Call) (call : Call) (epochs : S
 AreEpochs_same side calls call epochs opens closes are = record {
   numbers_are = λ window other. are.numbers_are window other ∙ sym (numbers_same side window other calls call opens);
   pending_are = λ window. are.pending_are window ∙ sym (pending_same side window calls call opens closes);
-  openers_are = λ number. are.openers_are number ∙ ap (option_map (λ (o : Opening). o.window)) (sym (opening_at_same side calls call number opens));
+  openers_are = λ number. are.openers_are number ∙ ap (option_map stated) (sym (opening_at_same side calls call number opens));
   closings_are = λ number. are.closings_are number ∙ sym (closing_at_same side 0 calls call number closes);
+  closed_are = λ number. are.closed_are number ∙ sym (opener_of_same side calls call number closes);
 }
 
 -- ---- calls that open and close nothing
 
 pub no_calls_have_no_epochs : (side : Side) → HaveNoEpochs side []
-no_calls_have_no_epochs side = record { numbers_are = λ window other. refl; pending_are = λ window. refl; openers_are = λ number. refl; closings_are = λ number. refl }
+no_calls_have_no_epochs side = record { numbers_are = λ window other. refl; pending_are = λ window. refl; openers_are = λ number. refl; closings_are = λ number. refl; closed_are = λ number. refl }
 
 pub HaveNoEpochs_more : (side : Side) (calls : List Call) (call : Call) → opened side call.what ≡ None → closed side call.what ≡ None → HaveNoEpochs side calls → HaveNoEpochs side (calls ++ call ∷ [])
 HaveNoEpochs_more side calls call opens closes have = record {
@@ -65,6 +67,7 @@ HaveNoEpochs_more side calls call opens closes have = record {
   pending_are = λ window. pending_same side window calls call opens closes ∙ have.pending_are window;
   openers_are = λ number. opening_at_same side calls call number opens ∙ have.openers_are number;
   closings_are = λ number. closing_at_same side 0 calls call number closes ∙ have.closings_are number;
+  closed_are = λ number. opener_of_same side calls call number closes ∙ have.closed_are number;
 }
 
 -- what represents no calls represents them too
@@ -72,24 +75,25 @@ pub AreEpochs_none : (side : Side) (calls : List Call) (epochs : SideEpochs) →
 AreEpochs_none side calls epochs have are = record {
   numbers_are = λ window other. are.numbers_are window other ∙ sym (have.numbers_are window other);
   pending_are = λ window. are.pending_are window ∙ sym (have.pending_are window);
-  openers_are = λ number. are.openers_are number ∙ ap (option_map (λ (o : Opening). o.window)) (sym (have.openers_are number));
+  openers_are = λ number. are.openers_are number ∙ ap (option_map stated) (sym (have.openers_are number));
   closings_are = λ number. are.closings_are number ∙ sym (have.closings_are number);
+  closed_are = λ number. are.closed_are number ∙ sym (have.closed_are number);
 }
 
 -- a call that opens an epoch
 module _ (side : Side) (calls : List Call) (call : Call) (opening : Opening) (old new : SideEpochs) (opens : opened side call.what ≡ Some opening) (closes : closed side call.what ≡ None)
     (own : (name : List ℕ) → pointwise nat_eq opening.window name ≡ true → IsOpened (length calls) opening.group (kept old.windows.entries name) (kept new.windows.entries name))
     (others : (name : List ℕ) → pointwise nat_eq opening.window name ≡ false → kept new.windows.entries name ≡ kept old.windows.entries name)
-    (noted : (number : ℕ) → lookup (nat_eq number) new.openers.entries ≡ cond (nat_eq (length calls) number) (Some opening.window) (lookup (nat_eq number) old.openers.entries))
+    (noted : (number : ℕ) → lookup (nat_eq number) new.openers.entries ≡ cond (nat_eq (length calls) number) (Some (stated opening)) (lookup (nat_eq number) old.openers.entries))
     (are : AreEpochs side calls old) where
-  added_openers : (number : ℕ) → lookup (nat_eq number) new.openers.entries ≡ option_map (λ (o : Opening). o.window) (opening_at side (calls ++ call ∷ []) number)
+  added_openers : (number : ℕ) → lookup (nat_eq number) new.openers.entries ≡ option_map stated (opening_at side (calls ++ call ∷ []) number)
   added_openers number =
       noted number
       ∙ by (nat_eq (length calls) number)
-      ∙ ap (option_map (λ (o : Opening). o.window)) (sym (opening_at_push side calls call number))
+      ∙ ap (option_map stated) (sym (opening_at_push side calls call number))
     where
-      by : (b : Bool) → cond b (Some opening.window) (lookup (nat_eq number) old.openers.entries) ≡ option_map (λ (o : Opening). o.window) (cond b (opened side call.what) (opening_at side calls number))
-      by true = sym (ap (option_map (λ (o : Opening). o.window)) opens)
+      by : (b : Bool) → cond b (Some (stated opening)) (lookup (nat_eq number) old.openers.entries) ≡ option_map stated (cond b (opened side call.what) (opening_at side calls number))
+      by true = sym (ap (option_map stated) opens)
       by false = are.openers_are number
 
   with_is : (window : List ℕ) (other : ℕ) → opens_with side window other call ≡ (pointwise nat_eq opening.window window && has_number other opening.group)
@@ -135,8 +139,8 @@ module _ (side : Side) (calls : List Call) (call : Call) (opening : Opening) (ol
           ∙ ap (λ b. cond b None before) (closes_none side window call closes))
           ∙ sym (pending_push side window calls call)
 
-  pub AreEpochs_added : new.closings ≡ old.closings → AreEpochs side (calls ++ call ∷ []) new
-  AreEpochs_added closings = record {
+  pub AreEpochs_added : new.closings ≡ old.closings → new.closed ≡ old.closed → AreEpochs side (calls ++ call ∷ []) new
+  AreEpochs_added closings closed = record {
     numbers_are = added_numbers;
     pending_are = added_pending;
     openers_are = added_openers;
@@ -144,7 +148,20 @@ module _ (side : Side) (calls : List Call) (call : Call) (opening : Opening) (ol
         ap (λ c. lookup (nat_eq number) c.entries) closings
         ∙ are.closings_are number
         ∙ sym (closing_at_same side 0 calls call number closes);
+    closed_are = λ number.
+        ap (λ c. lookup (nat_eq number) c.entries) closed
+        ∙ are.closed_are number
+        ∙ sym (opener_of_same side calls call number closes);
   }
+
+-- no call that is to come closes an epoch yet
+pub none_closes : (side : Side) (calls : List Call) (epochs : SideEpochs) → AreEpochs side calls epochs → (number : ℕ) →
+    lookup (nat_eq number) epochs.closed.entries ≡ cond (nat_eq (length calls) number) None (lookup (nat_eq number) epochs.closed.entries)
+none_closes side calls epochs are number = by (nat_eq (length calls) number) refl
+  where
+    by : (b : Bool) → nat_eq (length calls) number ≡ b → lookup (nat_eq number) epochs.closed.entries ≡ cond b None (lookup (nat_eq number) epochs.closed.entries)
+    by true same = are.closed_are number ∙ opener_of_past side calls number same
+    by false differ = refl
 
 -- a call that closes an epoch, if one is open
 module _ (side : Side) (calls : List Call) (call : Call) (own : List ℕ) (old new : SideEpochs) (opens : opened side call.what ≡ None) (closes : closed side call.what ≡ Some own)
@@ -152,6 +169,7 @@ module _ (side : Side) (calls : List Call) (call : Call) (own : List ℕ) (old n
     (closed_one : (name : List ℕ) → pending_in (kept new.windows.entries name) ≡ cond (pointwise nat_eq own name) None (pending_in (kept old.windows.entries name)))
     (openers_stay : new.openers ≡ old.openers)
     (noted : (number : ℕ) → lookup (nat_eq number) new.closings.entries ≡ cond (is_pending (pending_in (kept old.windows.entries own)) number) (Some (length calls)) (lookup (nat_eq number) old.closings.entries))
+    (undone : (number : ℕ) → lookup (nat_eq number) new.closed.entries ≡ cond (nat_eq (length calls) number) (pending_in (kept old.windows.entries own)) (lookup (nat_eq number) old.closed.entries))
     (are : AreEpochs side calls old) where
   pub AreEpochs_closed : AreEpochs side (calls ++ call ∷ []) new
   AreEpochs_closed = record {
@@ -167,12 +185,17 @@ module _ (side : Side) (calls : List Call) (call : Call) (own : List ℕ) (old n
         ∙ ap (cond (closes_on side window call) None) (are.pending_are window)
         ∙ sym (ap (λ b. cond b (Some (length calls)) (cond (closes_on side window call) None (pending_of side window calls))) (not_on side window call opens))
         ∙ sym (pending_push side window calls call);
-    openers_are = λ number. ap (λ o. lookup (nat_eq number) o.entries) openers_stay ∙ are.openers_are number ∙ ap (option_map (λ (o : Opening). o.window)) (sym (opening_at_same side calls call number opens));
+    openers_are = λ number. ap (λ o. lookup (nat_eq number) o.entries) openers_stay ∙ are.openers_are number ∙ ap (option_map stated) (sym (opening_at_same side calls call number opens));
     closings_are = λ number.
         noted number
         ∙ ap (λ p. cond (is_pending p number) (Some (length calls)) (lookup (nat_eq number) old.closings.entries)) (are.pending_are own)
         ∙ ap (cond (is_pending (pending_of side own calls) number) (Some (length calls))) (are.closings_are number)
         ∙ sym (closing_of_push side own call closes calls number);
+    closed_are = λ number.
+        undone number
+        ∙ ap (λ p. cond (nat_eq (length calls) number) p (lookup (nat_eq number) old.closed.entries)) (are.pending_are own)
+        ∙ ap (cond (nat_eq (length calls) number) (pending_of side own calls)) (are.closed_are number)
+        ∙ sym (opener_of_closed side calls call own number closes);
   }
 
 -- ---- both sides

@@ -1,17 +1,18 @@
 //! The posts and starts of a run, as its calls come.
-ghost use Rattle.std.specs.Prelude.{◌≡◌, ◌==◌, ◌++◌, ◌∷◌, [], ℕ, List, false, length, OnOk, option_copied, option_map};
+ghost use Rattle.std.specs.Prelude.{◌≡◌, ◌==◌, ◌++◌, ◌∷◌, [], ℕ, List, false, length, OnOk, option_map};
 ghost use Rattle.rma_call.specs.Call.{Call, call_of};
 ghost use Rattle.rma_run.specs.Run.{with_calls};
 ghost use Rattle.rma_exposure.specs.declared.side.Side.TheVariants.{Exposure, Access};
 ghost use Rattle.rma_exposure.specs.inside.Epochs.{kept_of, IsOfRank, Represents};
 ghost use Rattle.rma_exposure.specs.Opening.{opening_at};
 ghost use Rattle.rma_exposure.specs.Matching.{numbers, match_of, matched_at, partner_of};
-ghost use Rattle.rma_exposure.specs.Closing.{closing_of};
+ghost use Rattle.rma_exposure.specs.Closing.{closing_of, opener_of};
+ghost use Rattle.rma_exposure.specs.Edge.{complete_for};
 
 use crate::rank_epochs::RankEpochs;
 use crate::side::{Side, opens_or_closes, opposite};
 use indexmap::IndexMap;
-use rma_base::{Memory, Name, Rank};
+use rma_base::{Memory, Name, Rank, RankSet};
 use rma_call::CallRef;
 use std::alloc::Global;
 
@@ -73,22 +74,51 @@ impl Exposures {
         self.closing_of(Side::Access, rank, start)
     }
 
-    /// The call of the other rank that matches the call of this number of a rank, where that opens an epoch of the side.
-    fn matched(&self, side: Side, rank: Rank, number: u32, other: Rank) -> Option<u32>
-        ensures { (calls : ℕ → List Call) → Represents calls self.now → result ≡ matched_at side calls rank.0 number other.0 }
+    /// The post that opens the exposure epoch which the expwait of this number of a rank closes.
+    pub fn post_of(&self, rank: Rank, expwait: u32) -> Option<u32>
+        ensures { (calls : ℕ → List Call) → Represents calls self.now → result ≡ opener_of Exposure (calls rank.0) expwait }
     {
-        match self.window_of(side, rank, number) {
-            Some(window) => self.match_of(side, window, rank, number, other),
+        match self.ranks.get(&rank) {
+            Some(epochs) => epochs.of(Side::Exposure).opener(expwait),
             None => None,
         }
     }
 
-    /// The window of the epoch of the side that the call of this number of a rank opens.
-    fn window_of(&self, side: Side, rank: Rank, number: u32) -> Option<&Name>
-        ensures { (calls : ℕ → List Call) → Represents calls self.now → option_copied result ≡ option_map (λ opening. opening.window) (opening_at side (calls rank.0) number) }
+    /// The window and the group of the post of this number of a rank.
+    pub fn posted(&self, rank: Rank, post: u32) -> Option<(&Name, &RankSet)>
+        ensures { (calls : ℕ → List Call) → Represents calls self.now
+            → option_map (λ p. record { window = p.0.now; group = p.1.now }) result ≡ opening_at Exposure (calls rank.0) post }
+    {
+        self.opening(Side::Exposure, rank, post)
+    }
+
+    /// The complete of the origin's start that matches the post of this number of a rank on the window.
+    pub fn complete_for(&self, rank: Rank, post: u32, window: &Name, origin: Rank) -> Option<u32>
+        ensures { (calls : ℕ → List Call) → Represents calls self.now → result ≡ complete_for calls rank.0 post window.now origin.0 }
+    {
+        match self.match_of(Side::Exposure, window, rank, post, origin) {
+            Some(start) => self.complete_of(origin, start),
+            None => None,
+        }
+    }
+
+    /// The call of the other rank that matches the call of this number of a rank, where that opens an epoch of the side.
+    fn matched(&self, side: Side, rank: Rank, number: u32, other: Rank) -> Option<u32>
+        ensures { (calls : ℕ → List Call) → Represents calls self.now → result ≡ matched_at side calls rank.0 number other.0 }
+    {
+        match self.opening(side, rank, number) {
+            Some((window, _)) => self.match_of(side, window, rank, number, other),
+            None => None,
+        }
+    }
+
+    /// The window and the group of the epoch of the side that the call of this number of a rank opens.
+    fn opening(&self, side: Side, rank: Rank, number: u32) -> Option<(&Name, &RankSet)>
+        ensures { (calls : ℕ → List Call) → Represents calls self.now
+            → option_map (λ p. record { window = p.0.now; group = p.1.now }) result ≡ opening_at side (calls rank.0) number }
     {
         match self.ranks.get(&rank) {
-            Some(epochs) => epochs.of(side).window_of(number),
+            Some(epochs) => epochs.of(side).opening(number),
             None => None,
         }
     }

@@ -1,11 +1,11 @@
 //! The exposure epochs of one rank, or its access epochs.
-ghost use Rattle.std.specs.Prelude.{◌≡◌, ◌++◌, ◌∷◌, [], ℕ, List, None, Some, length, nat_eq, true, false, OnOk, option_copied, option_map, if◌then◌else◌};
+ghost use Rattle.std.specs.Prelude.{◌≡◌, ◌++◌, ◌∷◌, [], ℕ, List, None, Some, length, nat_eq, true, false, OnOk, option_map, if◌then◌else◌};
 ghost use Rattle.std.specs.Cmp.Lexicographic.{pointwise};
 ghost use Rattle.rma_call.specs.Call.{Call};
 ghost use Rattle.rma_exposure.specs.declared.side.Side.{Side};
 ghost use Rattle.rma_exposure.specs.Opening.{opened, closed, opening_at};
 ghost use Rattle.rma_exposure.specs.Matching.{numbers};
-ghost use Rattle.rma_exposure.specs.Closing.{closing_of};
+ghost use Rattle.rma_exposure.specs.Closing.{closing_of, opener_of};
 ghost use Rattle.rma_exposure.specs.inside.Epochs.{kept, numbers_in, pending_in, IsOpened, HaveNoEpochs, AreEpochs};
 
 use crate::openings::Openings;
@@ -18,10 +18,12 @@ use std::alloc::Global;
 pub(crate) struct SideEpochs {
     /// The calls that open them, by their window.
     windows: IndexMap<Name, Openings>,
-    /// The window of each, by the number of the call that opens it.
-    openers: IndexMap<u32, Name>,
+    /// The window and the group of each, by the number of the call that opens it.
+    openers: IndexMap<u32, (Name, RankSet)>,
     /// The number of the call that closes an epoch, by that of the one that opens it.
     closings: IndexMap<u32, u32>,
+    /// The number of the call that opens an epoch, by that of the one that closes it.
+    closed: IndexMap<u32, u32>,
 }
 
 impl SideEpochs {
@@ -33,6 +35,7 @@ impl SideEpochs {
             windows: IndexMap::new(alloc),
             openers: IndexMap::new(alloc),
             closings: IndexMap::new(alloc),
+            closed: IndexMap::new(alloc),
         }
     }
 
@@ -50,7 +53,8 @@ impl SideEpochs {
     {
         add(alloc, &mut self.windows, number, window, group)?;
         let window = window.copy()?;
-        self.openers.insert(number, window)?;
+        let group = group.copy()?;
+        self.openers.insert(number, (window, group))?;
         Ok(())
     }
 
@@ -64,6 +68,7 @@ impl SideEpochs {
             return Ok(());
         };
         self.closings.insert(opener, number)?;
+        self.closed.insert(number, opener)?;
         Ok(())
     }
 
@@ -77,11 +82,15 @@ impl SideEpochs {
         }
     }
 
-    /// The window of the epoch that the call of this number opens, if it opens one.
-    pub(crate) fn window_of(&self, number: u32) -> Option<&Name>
-        ensures { (side : Side) (calls : List Call) → AreEpochs side calls self.now → option_copied result ≡ option_map (λ opening. opening.window) (opening_at side calls number) }
+    /// The window and the group of the epoch that the call of this number opens, if it opens one.
+    pub(crate) fn opening(&self, number: u32) -> Option<(&Name, &RankSet)>
+        ensures { (side : Side) (calls : List Call) → AreEpochs side calls self.now
+            → option_map (λ p. record { window = p.0.now; group = p.1.now }) result ≡ opening_at side calls number }
     {
-        self.openers.get(&number)
+        match self.openers.get(&number) {
+            Some((window, group)) => Some((window, group)),
+            None => None,
+        }
     }
 
     /// The call that closes the epoch of this opening, where there is one.
@@ -89,6 +98,13 @@ impl SideEpochs {
         ensures { (side : Side) (calls : List Call) → AreEpochs side calls self.now → result ≡ closing_of side calls number }
     {
         self.closings.get(&number).copied()
+    }
+
+    /// The call that opens the epoch which the call of this number closes, where there is one.
+    pub(crate) fn opener(&self, number: u32) -> Option<u32>
+        ensures { (side : Side) (calls : List Call) → AreEpochs side calls self.now → result ≡ opener_of side calls number }
+    {
+        self.closed.get(&number).copied()
     }
 }
 

@@ -1,5 +1,5 @@
 -- What is kept of the posts and starts of a run.
-use Rattle.std.specs.Prelude.{◌≡◌, ℕ, ◌+◌, ◌==◌, List, [], ◌∷◌, ◌++◌, Bool, false, Option, Some, None, option_map, MatchOption, nat_eq, unwrap_or, if◌then◌else◌}
+use Rattle.std.specs.Prelude.{◌≡◌, ℕ, ◌==◌, List, [], ◌∷◌, ◌++◌, Bool, false, Option, Some, None, option_map, MatchOption, nat_eq, unwrap_or, if◌then◌else◌}
 use Rattle.std.specs.Option.{option_map_or}
 use Rattle.std.specs.Map.{lookup}
 use Rattle.std.specs.Cmp.Lexicographic.{pointwise}
@@ -12,8 +12,8 @@ use Rattle.rma_exposure.specs.declared.openings.Openings.{Openings}
 use Rattle.rma_exposure.specs.declared.side_epochs.SideEpochs.{SideEpochs}
 use Rattle.rma_exposure.specs.declared.rank_epochs.RankEpochs.{RankEpochs}
 use Rattle.rma_exposure.specs.declared.exposures.Exposures.{Exposures}
-use Rattle.rma_exposure.specs.Opening.{opening_at, opens_on, closes_on}
-use Rattle.rma_exposure.specs.Closing.{closing_of}
+use Rattle.rma_exposure.specs.Opening.{Opening, opening_at}
+use Rattle.rma_exposure.specs.Closing.{pending_of, closing_of, opener_of}
 use Rattle.rma_exposure.specs.Matching.{numbers}
 
 -- the numbers under a rank, none where there is no such rank
@@ -39,26 +39,21 @@ pub record IsOpened (number : ℕ) (group : List ℕ) (old new : Option Openings
   pub numbers : (other : ℕ) → numbers_in new other ≡ numbers_in old other ++ (if has_number other group then number ∷ [] else [])
   pub pending : pending_in new ≡ Some number
 
--- the opening that is open after some calls, where this one was before them; the first of the calls has this number
-abbrev pub pending_after : Side → List ℕ → ℕ → Option ℕ → List Call → Option ℕ
-pending_after side window number found [] = found
-pending_after side window number found (call ∷ calls) =
-    pending_after side window (number + 1) (if opens_on side window call then Some number else (if closes_on side window call then None else found)) calls
-
--- the last of a rank's calls that opens an epoch of the side on the window, where none after it closes it
-abbrev pub pending_of : Side → List ℕ → List Call → Option ℕ
-pending_of side window calls = pending_after side window 0 None calls
-
 -- whether this opening is the open one
 abbrev pub is_pending : Option ℕ → ℕ → Bool
 is_pending found number = option_map_or (λ own. own == number) found false
+
+-- what an opening states, as it is kept
+abbrev pub stated : Opening → List ℕ × List ℕ
+stated opening = (opening.window, opening.group)
 
 -- what is kept represents the epochs of one side that these calls of a rank open and close
 pub record AreEpochs (side : Side) (calls : List Call) (epochs : SideEpochs) : Type 0 where
   pub numbers_are : (window : List ℕ) (other : ℕ) → numbers_in (kept epochs.windows.entries window) other ≡ numbers side window other calls
   pub pending_are : (window : List ℕ) → pending_in (kept epochs.windows.entries window) ≡ pending_of side window calls
-  pub openers_are : (number : ℕ) → lookup (nat_eq number) epochs.openers.entries ≡ option_map (λ opening. opening.window) (opening_at side calls number)
+  pub openers_are : (number : ℕ) → lookup (nat_eq number) epochs.openers.entries ≡ option_map stated (opening_at side calls number)
   pub closings_are : (number : ℕ) → lookup (nat_eq number) epochs.closings.entries ≡ closing_of side calls number
+  pub closed_are : (number : ℕ) → lookup (nat_eq number) epochs.closed.entries ≡ opener_of side calls number
 
 -- these calls of a rank open and close no epochs of one side
 pub record HaveNoEpochs (side : Side) (calls : List Call) : Type 0 where
@@ -66,6 +61,7 @@ pub record HaveNoEpochs (side : Side) (calls : List Call) : Type 0 where
   pub pending_are : (window : List ℕ) → pending_of side window calls ≡ None
   pub openers_are : (number : ℕ) → opening_at side calls number ≡ None
   pub closings_are : (number : ℕ) → closing_of side calls number ≡ None
+  pub closed_are : (number : ℕ) → opener_of side calls number ≡ None
 
 -- what is kept represents the epochs of both sides
 pub record AreOfRank (calls : List Call) (epochs : RankEpochs) : Type 0 where

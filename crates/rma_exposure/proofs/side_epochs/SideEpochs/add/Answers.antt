@@ -2,7 +2,7 @@ use Rattle.std.proofs.Common.{Some, cond, ap, ◌∙◌, refl, subst, sym}
 use Rattle.std.specs.Prelude.{nat_eq}
 use Rattle.std.specs.Map.{lookup}
 use Rattle.rma_exposure.specs.Opening.{Opening}
-use Rattle.rma_exposure.specs.inside.Epochs.{kept, IsOpened}
+use Rattle.rma_exposure.specs.inside.Epochs.{kept, stated, IsOpened}
 use Rattle.rma_exposure.proofs.EpochLemmas.{AreEpochs_added}
 use Rattle.rma_exposure.proofs.side_epochs.SideEpochs.add.Goals as goal
 
@@ -15,6 +15,7 @@ returns c = λ side calls call len opens closes are.
     c.in_ok-add.ensures.others
     (λ number.
     c.in_ok-insert.ensures.updates.0 number
-    ∙ ap (λ w. cond (nat_eq c.args.number number) (Some w) (lookup (nat_eq number) old.openers.entries)) c.in_ok-window.ensures
-    ∙ ap (λ n. cond (nat_eq n number) (Some opening.window) (lookup (nat_eq number) old.openers.entries)) (sym len))
-    are refl
+    ∙ ap (λ w. cond (nat_eq c.args.number number) (Some (w, c.in_ok-group.group)) (lookup (nat_eq number) old.openers.entries)) c.in_ok-window.ensures
+    ∙ ap (λ g. cond (nat_eq c.args.number number) (Some (opening.window, g)) (lookup (nat_eq number) old.openers.entries)) c.in_ok-group.ensures
+    ∙ ap (λ n. cond (nat_eq n number) (Some (stated opening)) (lookup (nat_eq number) old.openers.entries)) (sym len))
+    are refl refl
