@@ -10,17 +10,17 @@ use rma_link::{Edge, Member};
 
 /// A movement of data from a root to all, or from all to the root.
 #[derive(Clone, Copy)]
-pub(crate) struct Rooted<'a> {
+pub struct Rooted<'a> {
     /// Whether it goes to the root.
-    to_root: bool,
+    pub to_root: bool,
     /// The root.
-    pub(crate) root: Rank,
+    pub root: Rank,
     /// The communicator.
-    pub(crate) comm: &'a Name,
+    pub comm: &'a Name,
 }
 
 /// The movement that a call is part of.
-pub(crate) fn rooted_of<'a>(what: WhatRef<'a>) -> Option<Rooted<'a>>
+pub fn rooted_of<'a>(what: WhatRef<'a>) -> Option<Rooted<'a>>
     ensures { option_map (λ at. record { to_root = at.to_root; root = at.root; comm = at.comm.now }) result ≡ rooted_of (what_of what.entry) }
 {
     match what {

@@ -25,7 +25,9 @@ mod name_rounds;
 mod own_calls;
 mod rounds;
 
+pub use edge::{Rooted, rooted_of};
 pub use kind::{Kind, moved_on, named};
 pub use kind_rounds::KindRounds;
+pub use meet::waits_for_all;
 pub use name_rounds::{NameRounds, RankRounds};
 pub use rounds::Rounds;

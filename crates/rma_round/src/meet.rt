@@ -112,7 +112,7 @@ fn waits_at(calls: &CallList, number: u32) -> bool
 }
 
 /// Whether a call returns only after all calls of its round are entered.
-fn waits_for_all(what: WhatRef<'_>) -> bool
+pub fn waits_for_all(what: WhatRef<'_>) -> bool
     ensures { result ≡ waits_for_all (what_of what.entry) }
 {
     match what {
