@@ -1,1 +1,4 @@
 pub mod Matches
+pub mod Membership
+pub mod Source
+pub mod inside

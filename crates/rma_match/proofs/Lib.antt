@@ -1,0 +1,3 @@
+pub mod AwaitedLemmas
+pub mod GroupLemmas
+pub mod BelowLemmas
