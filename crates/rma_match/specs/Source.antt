@@ -1,12 +1,15 @@
 -- What the return of a call waits for, in the calls of the ranks that are taken (MPI 4.0, "Point-to-Point Communication",
 -- "Collective Communication" and "One-Sided Communications").
-use Rattle.std.specs.Prelude.{◌≤◌, ℕ, ◌==◌, List, [], ◌∷◌, ◌++◌, not, Option, Some, option_map, map, filter, length, slice_get, if◌then◌else◌}
+use Rattle.std.specs.Prelude.{◌≤◌, ℕ, ◌==◌, List, [], ◌∷◌, ◌++◌, not, Option, Some, None, option_map, map, filter, length, slice_get, if◌then◌else◌}
 use Rattle.std.specs.Option.{option_and_then, option_map_or, option_or}
 use Rattle.rma_base.specs.Limits.{fed_limit}
 use Rattle.rma_base.specs.declared.point.Point.{Point}
 use Rattle.rma_call.specs.Call.{Call}
 use Rattle.rma_call.specs.declared.what.What.{What}
 use Rattle.rma_link.specs.Point.{entry}
+use Rattle.rma_message.specs.declared.source.MessageSource.{MessageSource}
+use Rattle.rma_message.specs.declared.source.MessageSource.TheVariants.{NoReceive, Unknown, From}
+use Rattle.rma_message.specs.Source.{source_of}
 use Rattle.rma_round.specs.Edge.{Rooted, rooted_of}
 use Rattle.rma_round.specs.Meet.{waits_for_all}
 use Rattle.rma_round.specs.Round as round
@@ -64,9 +67,16 @@ abbrev pub expwait_entries : (ℕ → List Call) → ℕ → ℕ → List (Optio
 expwait_entries calls rank number =
     option_map_or (λ post. option_map_or (complete_entries calls rank post) (opening_at Exposure (calls rank) post) []) (opener_of Exposure (calls rank) number) []
 
+-- what the return of a call waits for whose message comes from there: the send that matches
+abbrev pub message_entries : MessageSource → List (Option Point)
+message_entries NoReceive = []
+message_entries Unknown = None ∷ []
+message_entries (From point) = Some point ∷ []
+
 -- what the return of a call waits for, each with its entry where the call that it is in is taken
 abbrev pub awaited : ℕ → (ℕ → List Call) → ℕ → ℕ → What → List (Option Point)
-awaited ranks calls rank number what = round_entries ranks calls rank number what ++ expwait_entries calls rank number
+awaited ranks calls rank number what =
+    round_entries ranks calls rank number what ++ (expwait_entries calls rank number ++ message_entries (source_of calls rank number))
 
 -- all points, where each of them is there
 abbrev pub all_of : List (Option Point) → Option (List Point)

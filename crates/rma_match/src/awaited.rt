@@ -1,5 +1,5 @@
 //! The points that a return waits for.
-ghost use Rattle.std.specs.Prelude.{◌≡◌, ◌<◌, ◌^◌, [], Some, IfSome, OnOk};
+ghost use Rattle.std.specs.Prelude.{◌≡◌, ◌<◌, ◌^◌, [], Some, is_none, IfSome, OnOk};
 ghost use Rattle.rma_match.specs.Source.{entry_at};
 ghost use Rattle.rma_match.specs.inside.Awaited.{with_one};
 
@@ -47,6 +47,13 @@ impl Awaited {
                 Ok(())
             }
         }
+    }
+
+    /// Whether any point is not there.
+    pub(crate) fn is_lacking(&self) -> bool
+        ensures { result ≡ is_none self.now }
+    {
+        self.lacking
     }
 
     /// The points, where each of them is there.

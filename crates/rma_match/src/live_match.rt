@@ -11,6 +11,7 @@ use crate::groups::Groups;
 use rma_base::{Memory, Rank};
 use rma_call::CallRef;
 use rma_exposure::Exposures;
+use rma_message::LiveMessages;
 use rma_round::Rounds;
 use std::alloc::Global;
 
@@ -19,6 +20,8 @@ use std::alloc::Global;
 pub struct LiveMatch {
     /// The communicators and windows that each rank has declared.
     pub(crate) groups: Groups,
+    /// The messages.
+    pub(crate) messages: LiveMessages,
     /// The rounds of collectives.
     pub(crate) rounds: Rounds,
     /// The posts and starts.
@@ -36,6 +39,7 @@ impl LiveMatch {
     {
         Ok(LiveMatch {
             groups: Groups::new(alloc, ranks)?,
+            messages: LiveMessages::new(alloc),
             rounds: Rounds::new(alloc),
             exposures: Exposures::new(alloc),
         })
@@ -46,12 +50,13 @@ impl LiveMatch {
     ///
     /// # Errors
     ///
-    /// `Memory`, and then nothing is said of what is kept.
+    /// `Memory`, also where a rank makes more calls than a run may have, and then nothing is said of what is kept.
     pub fn take(&mut self, rank: Rank, number: u32, call: CallRef<'_>) -> Result<(), Memory>
         ensures { OnOk result ((ranks : ℕ) (calls : ℕ → List Call) → length (calls rank.0) ≡ number → Represents ranks calls self.old
             → Represents ranks (with_calls calls rank.0 (call_of call.entry ∷ [])) self.new) }
     {
         self.groups.take(rank, call)?;
+        self.messages.take(rank, number, call)?;
         self.rounds.take(rank, number, call)?;
         self.exposures.take(rank, number, call)?;
         Ok(())

@@ -1,16 +1,18 @@
 //! What the return of a call waits for.
-ghost use Rattle.std.specs.Prelude.{◌≡◌, ◌∷◌, [], ℕ, List, Some, map, slice_get, IfOk, OnOk};
+ghost use Rattle.std.specs.Prelude.{◌≡◌, ◌∷◌, [], ℕ, List, None, Some, false, map, slice_get, IfOk, OnOk};
 ghost use Rattle.rma_call.specs.Call.{Call, call_of, what_of};
-ghost use Rattle.rma_exposure.specs.Opening.{Opening};
+ghost use Rattle.rma_exposure.specs.Opening.{waited};
+ghost use Rattle.rma_message.specs.Source.{source_of};
 ghost use Rattle.rma_match.specs.Membership.{members};
-ghost use Rattle.rma_match.specs.Source.{AreFew, others, awaited_in, round_entry, round_entries, complete_entry, complete_entries, expwait_entries, sources_of};
+ghost use Rattle.rma_match.specs.Source.{AreFew, others, awaited_in, round_entry, round_entries, complete_entry, complete_entries, expwait_entries, message_entries, sources_of};
 ghost use Rattle.rma_match.specs.inside.Awaited.{with_more};
 ghost use Rattle.rma_match.specs.inside.Live.{Represents};
 
 use crate::awaited::{Awaited, entry_at};
 use crate::live_match::LiveMatch;
 use rma_base::{Memory, Name, Point, Rank, RankSet, Sequence};
-use rma_call::CallRef;
+use rma_call::{CallRef, EpochCall, WhatRef};
+use rma_message::MessageSource;
 use rma_round::{Rooted, rooted_of, waits_for_all};
 use std::alloc::Global;
 
@@ -33,7 +35,8 @@ impl LiveMatch {
     {
         let mut awaited = Awaited::new(alloc);
         self.add_round(rank, number, call, &mut awaited)?;
-        self.add_completes(rank, number, &mut awaited)?;
+        self.add_completes(rank, number, call, &mut awaited)?;
+        self.add_send(rank, number, &mut awaited)?;
         Ok(awaited.finish())
     }
 
@@ -98,6 +101,9 @@ impl LiveMatch {
     {
         for member in self.groups.members(rank, call.what) {
             self.add_other(rank, number, call, Rank(*member), awaited)?;
+            if awaited.is_lacking() {
+                return Ok(());
+            }
         }
         Ok(())
     }
@@ -130,10 +136,20 @@ impl LiveMatch {
     }
 
     /// Adds what the return of a call waits for, if it is an expwait.
-    fn add_completes(&self, rank: Rank, number: u32, awaited: &mut Awaited) -> Result<(), Memory>
+    fn add_completes(
+        &self,
+        rank: Rank,
+        number: u32,
+        call: CallRef<'_>,
+        awaited: &mut Awaited,
+    ) -> Result<(), Memory>
         ensures { OnOk result ((ranks : ℕ) (calls : ℕ → List Call) → Represents ranks calls self.now → AreFew calls
+            → slice_get (calls rank.0) number ≡ Some (call_of call.entry)
             → awaited.new ≡ with_more awaited.old (expwait_entries calls rank.0 number)) }
     {
+        if !is_expwait(call.what) {
+            return Ok(());
+        }
         let Some(post) = self.exposures.post_of(rank, number) else {
             return Ok(());
         };
@@ -157,6 +173,9 @@ impl LiveMatch {
     {
         for origin in group.numbers() {
             awaited.add(self.complete_entry(rank, post, window, Rank(*origin)))?;
+            if awaited.is_lacking() {
+                return Ok(());
+            }
         }
         Ok(())
     }
@@ -170,5 +189,27 @@ impl LiveMatch {
             origin,
             self.exposures.complete_for(rank, post, window, origin),
         )
+    }
+
+    /// Adds the send that the return of a call waits for, if the call completes a receive.
+    fn add_send(&self, rank: Rank, number: u32, awaited: &mut Awaited) -> Result<(), Memory>
+        ensures { OnOk result ((ranks : ℕ) (calls : ℕ → List Call) → Represents ranks calls self.now
+            → awaited.new ≡ with_more awaited.old (message_entries (source_of calls rank.0 number))) }
+    {
+        match self.messages.source(rank, number) {
+            MessageSource::NoReceive => Ok(()),
+            MessageSource::Unknown => awaited.add(None),
+            MessageSource::From(point) => awaited.add(Some(point)),
+        }
+    }
+}
+
+/// Whether a call is an expwait.
+fn is_expwait(what: WhatRef<'_>) -> bool
+    ensures { result ≡ false → waited (what_of what.entry) ≡ None }
+{
+    match what {
+        WhatRef::Epoch(EpochCall::Expwait { .. }) => true,
+        _ => false,
     }
 }
