@@ -5,3 +5,4 @@ pub mod PositionLemmas
 pub mod RunLemmas
 pub mod EdgeLemmas
 pub mod ClosingLemmas
+pub mod OpenerLemmas
