@@ -1,8 +1,10 @@
 -- The calls that match are calls that are taken, so their numbers are small.
-use Rattle.std.proofs.Common.{◌≡◌, ◌<◌, ◌^◌, ℕ, List, Option, Some, None, slice_get, refl, sym, subst, arith}
+use Rattle.std.proofs.Common.{◌≡◌, ◌<◌, ◌≤◌, ◌^◌, ◌∙◌, ◌∷◌, [], ap, Bool, true, false, nat_eq, length, length-append, ℕ, List, Option, Some, None, slice_get, refl, sym, subst, arith}
 use Rattle.std.specs.Prelude.{IfSome}
 use Rattle.std.specs.Option.{option_and_then, option_or}
+use Rattle.std.proofs.lemmas.Bool.{eqb-true}
 use Rattle.std.proofs.lemmas.Option.{slice_get_within}
+use Rattle.rma_base.specs.Limits.{fed_limit}
 use Rattle.rma_call.specs.Call.{Call}
 use Rattle.rma_call.specs.declared.what.What.{What}
 use Rattle.rma_round.specs.declared.kind.Kind.{Kind}
@@ -15,6 +17,7 @@ use Rattle.rma_exposure.specs.Closing.{closing_of}
 use Rattle.rma_exposure.specs.Matching as exposure
 use Rattle.rma_exposure.specs.Edge.{complete_for}
 use Rattle.rma_exposure.proofs.RunLemmas.{closing_below}
+use Rattle.rma_run.specs.Run.{with_calls}
 use Rattle.rma_match.specs.Source.{AreFew}
 
 -- a number of which the position of a point is no larger than it may be
@@ -67,3 +70,13 @@ complete_small calls few rank post window origin found is = subst IsSmall (sym i
     by : (o : Option ℕ) → IsSmall (option_and_then (closing_of Access (calls origin)) o)
     by None = tt
     by (Some start) = closing_below Access (calls origin) start (closing_of Access (calls origin) start) refl (few origin)
+
+-- with one more call of a rank there are still no more than there may be
+pub few_more : (calls : ℕ → List Call) (rank : ℕ) (call : Call) (number : ℕ) → length (calls rank) ≡ number → number < fed_limit → AreFew calls → AreFew (with_calls calls rank (call ∷ []))
+few_more calls rank call number len below few other = by (nat_eq rank other) refl
+  where
+    by : (b : Bool) → nat_eq rank other ≡ b → length (with_calls calls rank (call ∷ []) other) ≤ fed_limit
+    by true same =
+        let e : length (calls other) ≡ number = ap (λ r. length (calls r)) (sym (eqb-true rank other same)) ∙ len in
+        rw same (simp length-append (omega arith))
+    by false differ = rw differ (few other)

@@ -8,6 +8,7 @@ ghost use Rattle.rma_match.specs.Source.{partner_of};
 ghost use Rattle.rma_match.specs.inside.Live.{Represents};
 
 use crate::groups::Groups;
+use rma_base::limits::FED;
 use rma_base::{Memory, Rank};
 use rma_call::CallRef;
 use rma_exposure::Exposures;
@@ -55,6 +56,9 @@ impl LiveMatch {
         ensures { OnOk result ((ranks : ℕ) (calls : ℕ → List Call) → length (calls rank.0) ≡ number → Represents ranks calls self.old
             → Represents ranks (with_calls calls rank.0 (call_of call.entry ∷ [])) self.new) }
     {
+        if number as u64 >= FED {
+            return Err(Memory);
+        }
         self.groups.take(rank, call)?;
         self.messages.take(rank, number, call)?;
         self.rounds.take(rank, number, call)?;

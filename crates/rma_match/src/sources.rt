@@ -4,7 +4,7 @@ ghost use Rattle.rma_call.specs.Call.{Call, call_of, what_of};
 ghost use Rattle.rma_exposure.specs.Opening.{waited};
 ghost use Rattle.rma_message.specs.Source.{source_of};
 ghost use Rattle.rma_match.specs.Membership.{members};
-ghost use Rattle.rma_match.specs.Source.{AreFew, others, awaited_in, round_entry, round_entries, complete_entry, complete_entries, expwait_entries, message_entries, sources_of};
+ghost use Rattle.rma_match.specs.Source.{others, awaited_in, round_entry, round_entries, complete_entry, complete_entries, expwait_entries, message_entries, sources_of};
 ghost use Rattle.rma_match.specs.inside.Awaited.{with_more};
 ghost use Rattle.rma_match.specs.inside.Live.{Represents};
 
@@ -30,7 +30,7 @@ impl LiveMatch {
         number: u32,
         call: CallRef<'_>,
     ) -> Result<Option<Sequence<Point>>, Memory>
-        ensures { IfOk result (λ sources. (ranks : ℕ) (calls : ℕ → List Call) → Represents ranks calls self.now → AreFew calls
+        ensures { IfOk result (λ sources. (ranks : ℕ) (calls : ℕ → List Call) → Represents ranks calls self.now
             → slice_get (calls rank.0) number ≡ Some (call_of call.entry) → sources ≡ sources_of ranks calls rank.0 number) }
     {
         let mut awaited = Awaited::new(alloc);
@@ -48,7 +48,7 @@ impl LiveMatch {
         call: CallRef<'_>,
         awaited: &mut Awaited,
     ) -> Result<(), Memory>
-        ensures { OnOk result ((ranks : ℕ) (calls : ℕ → List Call) → Represents ranks calls self.now → AreFew calls
+        ensures { OnOk result ((ranks : ℕ) (calls : ℕ → List Call) → Represents ranks calls self.now
             → slice_get (calls rank.0) number ≡ Some (call_of call.entry)
             → awaited.new ≡ with_more awaited.old (round_entries ranks calls rank.0 number (what_of call.entry.what))) }
     {
@@ -70,7 +70,7 @@ impl LiveMatch {
         at: Rooted<'_>,
         awaited: &mut Awaited,
     ) -> Result<(), Memory>
-        ensures { OnOk result ((ranks : ℕ) (calls : ℕ → List Call) → Represents ranks calls self.now → AreFew calls
+        ensures { OnOk result ((ranks : ℕ) (calls : ℕ → List Call) → Represents ranks calls self.now
             → slice_get (calls rank.0) number ≡ Some (call_of call.entry)
             → awaited.new ≡ with_more awaited.old (map (round_entry calls rank.0 number)
             (awaited_in (others rank.0 (members ranks (calls rank.0) (what_of call.entry.what))) rank.0 (record { to_root = at.entry.to_root; root = at.entry.root; comm = at.entry.comm.now })))) }
@@ -95,7 +95,7 @@ impl LiveMatch {
         call: CallRef<'_>,
         awaited: &mut Awaited,
     ) -> Result<(), Memory>
-        ensures { OnOk result ((ranks : ℕ) (calls : ℕ → List Call) → Represents ranks calls self.now → AreFew calls
+        ensures { OnOk result ((ranks : ℕ) (calls : ℕ → List Call) → Represents ranks calls self.now
             → slice_get (calls rank.0) number ≡ Some (call_of call.entry)
             → awaited.new ≡ with_more awaited.old (map (round_entry calls rank.0 number) (others rank.0 (members ranks (calls rank.0) (what_of call.entry.what))))) }
     {
@@ -117,7 +117,7 @@ impl LiveMatch {
         member: Rank,
         awaited: &mut Awaited,
     ) -> Result<(), Memory>
-        ensures { OnOk result ((ranks : ℕ) (calls : ℕ → List Call) → Represents ranks calls self.now → AreFew calls
+        ensures { OnOk result ((ranks : ℕ) (calls : ℕ → List Call) → Represents ranks calls self.now
             → slice_get (calls rank.0) number ≡ Some (call_of call.entry)
             → awaited.new ≡ with_more awaited.old (map (round_entry calls rank.0 number) (others rank.0 (member.0 ∷ [])))) }
     {
@@ -129,7 +129,7 @@ impl LiveMatch {
 
     /// The entry of the call of another rank that is of the round of a call.
     fn round_entry(&self, rank: Rank, number: u32, call: CallRef<'_>, other: Rank) -> Option<Point>
-        ensures { (ranks : ℕ) (calls : ℕ → List Call) → Represents ranks calls self.now → AreFew calls
+        ensures { (ranks : ℕ) (calls : ℕ → List Call) → Represents ranks calls self.now
             → slice_get (calls rank.0) number ≡ Some (call_of call.entry) → result ≡ round_entry calls rank.0 number other.0 }
     {
         entry_at(other, self.rounds.partner(rank, number, call, other))
@@ -143,7 +143,7 @@ impl LiveMatch {
         call: CallRef<'_>,
         awaited: &mut Awaited,
     ) -> Result<(), Memory>
-        ensures { OnOk result ((ranks : ℕ) (calls : ℕ → List Call) → Represents ranks calls self.now → AreFew calls
+        ensures { OnOk result ((ranks : ℕ) (calls : ℕ → List Call) → Represents ranks calls self.now
             → slice_get (calls rank.0) number ≡ Some (call_of call.entry)
             → awaited.new ≡ with_more awaited.old (expwait_entries calls rank.0 number)) }
     {
@@ -168,7 +168,7 @@ impl LiveMatch {
         group: &RankSet,
         awaited: &mut Awaited,
     ) -> Result<(), Memory>
-        ensures { OnOk result ((ranks : ℕ) (calls : ℕ → List Call) → Represents ranks calls self.now → AreFew calls
+        ensures { OnOk result ((ranks : ℕ) (calls : ℕ → List Call) → Represents ranks calls self.now
             → awaited.new ≡ with_more awaited.old (complete_entries calls rank.0 post (record { window = window.now; group = group.now }))) }
     {
         for origin in group.numbers() {
@@ -182,7 +182,7 @@ impl LiveMatch {
 
     /// The entry of the complete of the origin's start that matches a post.
     fn complete_entry(&self, rank: Rank, post: u32, window: &Name, origin: Rank) -> Option<Point>
-        ensures { (ranks : ℕ) (calls : ℕ → List Call) → Represents ranks calls self.now → AreFew calls
+        ensures { (ranks : ℕ) (calls : ℕ → List Call) → Represents ranks calls self.now
             → result ≡ complete_entry calls rank.0 post window.now origin.0 }
     {
         entry_at(

@@ -10,7 +10,7 @@ use Rattle.rma_match.proofs.AwaitedLemmas.{all_is}
 use Rattle.rma_match.proofs.live_match.LiveMatch.sources.Goals as goal
 
 pub returns : goal.returns
-returns c = λ ranks calls are few there.
+returns c = λ ranks calls are there.
     let rank = c.args.rank.0 in
     let number = c.args.number in
     let round : List (Option Point) = round_entries ranks calls rank number (what_of c.args.call.what) in
@@ -20,8 +20,8 @@ returns c = λ ranks calls are few there.
     let what = what_of c.args.call.what in
     c.finish.ensures
     ∙ c.in_ok-add_send.ensures ranks calls are
-    ∙ ap (λ a. with_more a message) (c.in_ok-add_completes.ensures ranks calls are few there)
-    ∙ ap (λ a. with_more (with_more a completes) message) (c.in_ok-add_round.ensures ranks calls are few there ∙ ap (λ a. with_more a round) c.new-awaited.ensures)
+    ∙ ap (λ a. with_more a message) (c.in_ok-add_completes.ensures ranks calls are there)
+    ∙ ap (λ a. with_more (with_more a completes) message) (c.in_ok-add_round.ensures ranks calls are there ∙ ap (λ a. with_more a round) c.new-awaited.ensures)
     ∙ sym (fold-append with_one (with_more begun round) completes message)
     ∙ sym (fold-append with_one begun round (completes ++ message))
     ∙ all_is (awaited ranks calls rank number what)
