@@ -18,45 +18,45 @@ struct Row {
     sources: Option<&'static [(u32, u32)]>,
 }
 
-static RECEIVE: &[&str] = &[
+const RECEIVE: &[&str] = &[
     "rma 1 0 3\nsend 1 7 world\nend\n",
     "rma 1 1 3\nrecv 0 7 world\nend\n",
     "rma 1 2 3\nend\n",
 ];
 
 /// Two receives of one key: the second is complete first.
-static RECEIVES: &[&str] = &[
+const RECEIVES: &[&str] = &[
     "rma 1 0 3\nsend 1 7 world\nsend 1 7 world\nend\n",
     "rma 1 1 3\nirecv a world\nirecv b world\nwait b 0 7\nwait a 0 7\nend\n",
     "rma 1 2 3\nend\n",
 ];
 
 /// Receives on two communicators, where the first on `world` is complete last.
-static COMMUNICATORS: &[&str] = &[
+const COMMUNICATORS: &[&str] = &[
     "rma 1 0 3\ncomm c 0,1\nsend 1 7 c\nend\n",
     "rma 1 1 3\ncomm c 0,1\nirecv a world\nirecv b c\nwait b 0 7\nrecv 0 8 world\nwait a 0 9\nend\n",
     "rma 1 2 3\nend\n",
 ];
 
-static PAIR: &[&str] = &[
+const PAIR: &[&str] = &[
     "rma 1 0 3\ncomm c 0,2\nbarrier c\nend\n",
     "rma 1 1 3\nend\n",
     "rma 1 2 3\ncomm c 0,2\nbarrier world\nbarrier c\nend\n",
 ];
 
-static FENCES: &[&str] = &[
+const FENCES: &[&str] = &[
     "rma 1 0 3\nwin create W world 0 8 1 unified same_op\nfence W\nfence W noprecede\nend\n",
     "rma 1 1 3\nwin create W world 0 8 1 unified same_op\nfence W\nfence W noprecede\nend\n",
     "rma 1 2 3\nwin create W world 0 8 1 unified same_op\nfence W\nfence W noprecede\nend\n",
 ];
 
-static ROOTED: &[&str] = &[
+const ROOTED: &[&str] = &[
     "rma 2 0 3\nbcast 0 4 world\ngather 0 4 world\nbcast 1 0 world\nend\n",
     "rma 2 1 3\nbcast 0 4 world\ngather 0 4 world\nbcast 1 0 world\nend\n",
     "rma 2 2 3\nbcast 0 4 world\ngather 0 4 world\nbcast 1 0 world\nend\n",
 ];
 
-static EXPOSURE: &[&str] = &[
+const EXPOSURE: &[&str] = &[
     "rma 1 0 3\nwin create W world 0 8 1 unified same_op\npost W 1,2\nexpwait W\nend\n",
     "rma 1 1 3\nwin create W world 0 8 1 unified same_op\nstart W 0\ncomplete W\nend\n",
     "rma 1 2 3\nwin create W world 0 8 1 unified same_op\nstart W 0\ncomplete W\nend\n",
