@@ -1,3 +1,4 @@
 pub mod AwaitedLemmas
 pub mod GroupLemmas
 pub mod BelowLemmas
+pub mod CompleteLemmas

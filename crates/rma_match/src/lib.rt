@@ -10,6 +10,7 @@
 
 mod awaited;
 mod groups;
+pub mod laws;
 mod live_match;
 mod matches;
 mod sources;
