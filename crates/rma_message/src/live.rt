@@ -23,8 +23,8 @@ use rma_base::{Memory, Point, Rank, Sequence};
 use rma_call::{CallRef, MessageCall, WhatRef};
 use std::alloc::Global;
 
-/// The messages of a run, as its calls come. A call costs the same whatever is pending: each receive is numbered once, when
-/// it and all that its rank posted before it on its communicator are complete.
+/// The messages of a run, as its calls come. Whatever is pending, calls cost the same on average: each receive is numbered
+/// once, when it and all that its rank posted before it on its communicator are complete.
 #[derive(Drop)]
 pub struct LiveMessages {
     /// Where tables take their memory.
@@ -91,10 +91,13 @@ impl LiveMessages {
         let Some(place) = receives.completed(number) else {
             return MessageSource::NoReceive;
         };
-        let Some(key) = receives.key(place) else {
+        let Some(comm) = receives.on(place) else {
             return MessageSource::Unknown;
         };
-        match receives.number(place) {
+        let Some(key) = comm.key(place.index) else {
+            return MessageSource::Unknown;
+        };
+        match comm.number(place.index) {
             Some(number) => self.sent(key, number),
             None => MessageSource::Unknown,
         }

@@ -10,7 +10,7 @@ ghost use Rattle.rma_message.specs.declared.receive.Receive.{Receive};
 ghost use Rattle.rma_message.specs.Receive.{posted, waited};
 ghost use Rattle.rma_message.specs.RankMessages.{RankMessages, with_what};
 ghost use Rattle.rma_message.specs.Source.{completed_at};
-ghost use Rattle.rma_message.specs.inside.Live.{AreBefore, AreReceives, IsOnComm, kept_on, keys_on, key_at, number_at, place_of};
+ghost use Rattle.rma_message.specs.inside.Live.{AreBefore, AreReceives, IsOnComm, kept_on, keys_on, key_at, place_of};
 
 use crate::comm_receives::CommReceives;
 use crate::key::Key;
@@ -25,7 +25,7 @@ pub(crate) struct Place {
     /// Its communicator.
     comm: Name,
     /// How many receives its rank posted before it on the communicator.
-    index: usize,
+    pub(crate) index: usize,
 }
 
 /// The receives of one rank.
@@ -145,27 +145,11 @@ impl RankReceives {
         self.completed.get(&number)
     }
 
-    /// What the receive at a place matches by, where it is complete.
-    pub(crate) fn key(&self, place: &Place) -> Option<&Key>
-        ensures { (rank : ℕ) (receives : List Receive) → AreReceives rank receives self.now
-            → option_copied result ≡ key_at (keys_on rank place.now.comm receives) place.now.index }
+    /// The receives on the communicator of a place.
+    pub(crate) fn on(&self, place: &Place) -> Option<&CommReceives>
+        ensures { (rank : ℕ) (receives : List Receive) → AreReceives rank receives self.now → IsOnComm (keys_on rank place.now.comm receives) (option_copied result) }
     {
-        match self.comms.get(&place.comm) {
-            Some(comm) => comm.key(place.index),
-            None => None,
-        }
-    }
-
-    /// How many of its key are posted before the receive at a place, where it and each before it on its communicator is
-    /// complete.
-    pub(crate) fn number(&self, place: &Place) -> Option<u32>
-        ensures { (rank : ℕ) (receives : List Receive) → AreReceives rank receives self.now
-            → result ≡ number_at (keys_on rank place.now.comm receives) place.now.index }
-    {
-        match self.comms.get(&place.comm) {
-            Some(comm) => comm.number(place.index),
-            None => None,
-        }
+        self.comms.get(&place.comm)
     }
 }
 

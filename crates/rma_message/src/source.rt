@@ -1,7 +1,7 @@
 //! Where the message of a call comes from.
 use rma_base::Point;
 
-/// The send whose message a call completes the receive of.
+/// Where the message of a receive comes from, asked of the call that completes the receive.
 #[derive(Clone, Copy, Debug, PartialEq, Eq)]
 pub enum MessageSource {
     /// The call completes no receive.
