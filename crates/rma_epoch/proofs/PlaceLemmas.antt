@@ -17,6 +17,7 @@ use Rattle.rma_call.specs.Call.{Call}
 use Rattle.rma_call.specs.declared.what.What.{What}
 use Rattle.rma_window.specs.Windows.{Window}
 use Rattle.rma_open.specs.declared.open_epochs.OpenEpochs.{OpenEpochs}
+use Rattle.rma_epoch.specs.declared.open_windows.Place.{Place}
 use Rattle.rma_epoch.specs.declared.placements.Placement.{Placement}
 use Rattle.rma_open.specs.Calls.{window_on}
 use Rattle.rma_open.specs.Open.{open_after, open_on}
@@ -58,22 +59,22 @@ found_at names name place is =
     slice_get-get_or names place [] at.0 ∙ ap Some (sym (same_text name (get_or names place []) (sym at.1)))
 
 -- a place stays that of what calls do
-stays_place : (old new : List (List ℕ)) (what : What) (place : Option ℕ) → StayThere old new → IsPlaceOf old what place → IsPlaceOf new what place
-stays_place old new what None stay none = none
-stays_place old new what (Some place) stay (name, at, is) = (name, stay place name at, is)
+stays_place : (windows : List Window) (old new : List (List ℕ)) (what : What) (place : Option Place) → StayThere old new → IsPlaceOf windows old what place → IsPlaceOf windows new what place
+stays_place windows old new what None stay none = none
+stays_place windows old new what (Some place) stay (name, at, is, number) = (name, stay place.index name at, is, number)
 
 -- the places with one more
-pub places_more : (old new : List (List ℕ)) (whats : List What) (places : List (Option ℕ)) (what : What) (place : Option ℕ) → StayThere old new →
-    slice_get whats (length places) ≡ Some what → IsPlaceOf new what place → ArePlaces old whats places → ArePlaces new whats (places ++ place ∷ [])
-places_more old new whats places what place stay there is are number other found at in_places =
-    in_push (IsPlaceOf new other found) places place found number in_places
-    (λ before. stays_place old new other found stay (are number other found at before))
-    (λ last same. let one : what ≡ other = (let here = ap (slice_get whats) last in cc) in subst (IsPlaceOf new other) same (subst (λ w. IsPlaceOf new w place) one is))
+pub places_more : (windows : List Window) (old new : List (List ℕ)) (whats : List What) (places : List (Option Place)) (what : What) (place : Option Place) → StayThere old new →
+    slice_get whats (length places) ≡ Some what → IsPlaceOf windows new what place → ArePlaces windows old whats places → ArePlaces windows new whats (places ++ place ∷ [])
+places_more windows old new whats places what place stay there is are number other found at in_places =
+    in_push (IsPlaceOf windows new other found) places place found number in_places
+    (λ before. stays_place windows old new other found stay (are number other found at before))
+    (λ last same. let one : what ≡ other = (let here = ap (slice_get whats) last in cc) in subst (IsPlaceOf windows new other) same (subst (λ w. IsPlaceOf windows new w place) one is))
 
 -- the place of the window of a call, by the number of what it does
-pub place_here : (names : List (List ℕ)) (whats : List What) (places : List (Option ℕ)) (calls : List Call) (i number : ℕ) (call : Call) → ArePlaces names whats places → number < length places →
-    slice_get calls i ≡ Some call → slice_get whats number ≡ option_map (λ c. c.what) (slice_get calls i) → IsPlaceOf names call.what (get_or places number None)
-place_here names whats places calls i number call are within there what =
+pub place_here : (windows : List Window) (names : List (List ℕ)) (whats : List What) (places : List (Option Place)) (calls : List Call) (i number : ℕ) (call : Call) → ArePlaces windows names whats places → number < length places →
+    slice_get calls i ≡ Some call → slice_get whats number ≡ option_map (λ c. c.what) (slice_get calls i) → IsPlaceOf windows names call.what (get_or places number None)
+place_here windows names whats places calls i number call are within there what =
     are number call.what (get_or places number None) (what ∙ ap (option_map (λ (c : Call). c.what)) there) (slice_get-get_or places number None within)
 
 -- a place past the end has no name

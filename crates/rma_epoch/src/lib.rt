@@ -7,8 +7,9 @@
 //! [`EpochTable`] of its sound calls beside the first fault.
 //!
 //! A call takes constant work, whatever is open and however many runs it touches, but for the ranks of its own group. So does
-//! each question. A call that is taken alone is looked up by the name of its window. In a whole log, what calls do is looked up
-//! once for all calls that do the same, and such a call costs an index.
+//! each question. The window of a call that is taken alone is looked up by its name twice: among those of the rank, and among
+//! those of the run. In a whole log that is done once for all calls that do the same, and then a call finds its window by an
+//! index.
 #![tactic(auto)]
 
 mod fault;

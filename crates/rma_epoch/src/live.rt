@@ -10,7 +10,7 @@ ghost use Rattle.rma_epoch.specs.inside.Live.{HasLocks, Represents};
 ghost use Rattle.rma_epoch.specs.inside.Windows.{IsOpenAfter, IsPlaceOf, names_in};
 
 use crate::locks::add_lock;
-use crate::open_windows::OpenWindows;
+use crate::open_windows::{OpenWindows, Place};
 use crate::placements::Placements;
 use crate::table::{Epoch, EpochTable, LockEpoch};
 use rma_base::{EpochReason, Memory};
@@ -70,7 +70,7 @@ impl LiveEpochs {
         ensures taken { IfOk result (λ reason. (calls : List Call) → Represents calls self.old → Represents (taken_with reason (call_of call.entry) calls) self.new) }
         ensures locks { IfOk result (λ reason. (calls : List Call) → Represents calls self.old → HasLocks windows.now calls self.old → HasLocks windows.now (taken_with reason (call_of call.entry) calls) self.new) }
     {
-        let place = self.windows.place(call.what)?;
+        let place = self.windows.place(windows, call.what)?;
         self.take_at(windows, place, call)
     }
 
@@ -78,11 +78,12 @@ impl LiveEpochs {
     pub(crate) fn take_at(
         &mut self,
         windows: &Windows,
-        place: Option<usize>,
+        place: Option<Place>,
         call: CallRef<'_>,
     ) -> Result<Option<EpochReason>, Memory>
-        ensures reason { IfOk result (λ reason. (calls : List Call) → Represents calls self.old → IsPlaceOf (names_in self.old.windows) (call_of call.entry).what place → reason ≡ reason_at windows.now calls (call_of call.entry)) }
-        ensures taken { IfOk result (λ reason. (calls : List Call) → Represents calls self.old → IsPlaceOf (names_in self.old.windows) (call_of call.entry).what place → Represents (taken_with reason (call_of call.entry) calls) self.new) }
+        requires { IsPlaceOf windows.now (names_in self.old.windows) (call_of call).what place }
+        ensures reason { IfOk result (λ reason. (calls : List Call) → Represents calls self.old → reason ≡ reason_at windows.now calls (call_of call.entry)) }
+        ensures taken { IfOk result (λ reason. (calls : List Call) → Represents calls self.old → Represents (taken_with reason (call_of call.entry) calls) self.new) }
         ensures locks { IfOk result (λ reason. (calls : List Call) → Represents calls self.old → HasLocks windows.now calls self.old → HasLocks windows.now (taken_with reason (call_of call.entry) calls) self.new) }
         ensures names { OnOk result (names_in self.new.windows ≡ names_in self.old.windows) }
     {

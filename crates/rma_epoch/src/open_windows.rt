@@ -4,6 +4,7 @@ ghost use Rattle.std.specs.Map.{keys_of, lookup};
 ghost use Rattle.std.specs.List.{list_any};
 ghost use Rattle.std.specs.Cmp.Lexicographic.{pointwise};
 ghost use Rattle.rma_call.specs.Call.{Call, call_of, what_of};
+ghost use Rattle.rma_window.specs.Windows.{Window};
 ghost use Rattle.rma_open.specs.Open.{open_on, is_unclosed};
 ghost use Rattle.rma_open.specs.Reason.{reason_at};
 ghost use Rattle.rma_epoch.specs.Table.{taken_with};
@@ -17,7 +18,7 @@ use indexmap::IndexMap;
 use rma_base::{EpochReason, Memory, Name};
 use rma_call::{CallList, CallRef, WhatRef};
 use rma_open::{OpenEpochs, window_on};
-use rma_window::Windows;
+use rma_window::{WindowId, Windows};
 use std::alloc::Global;
 
 /// What a rank has open on its windows, as its calls come. A call finds its window by a place: what calls do tells it, so it
@@ -30,6 +31,15 @@ pub(crate) struct OpenWindows {
     windows: IndexMap<Name, OpenEpochs>,
     /// How many calls are taken.
     taken: u32,
+}
+
+/// Where the window of a call is found.
+#[derive(Clone, Copy, Debug)]
+pub(crate) struct Place {
+    /// Its index among the windows on which something may be open.
+    pub index: usize,
+    /// Its number among the windows of the run, if it is one of them.
+    pub window: Option<WindowId>,
 }
 
 impl OpenWindows {
@@ -45,27 +55,39 @@ impl OpenWindows {
     }
 
     /// The places of the windows that calls are on, by the numbers of what calls do.
-    pub(crate) fn places(&mut self, calls: &CallList) -> Result<Vec<Option<usize>>, Memory>
+    pub(crate) fn places(
+        &mut self,
+        windows: &Windows,
+        calls: &CallList,
+    ) -> Result<Vec<Option<Place>>, Memory>
         ensures len { IfOk result (λ places. length places.items ≡ length calls.now.whats) }
-        ensures places { IfOk result (λ places. ArePlaces (names_in self.new) calls.now.whats places.items) }
+        ensures places { IfOk result (λ places. ArePlaces windows.now (names_in self.new) calls.now.whats places.items) }
         ensures same { OnOk result ((before : List Call) → IsOpenAfter before self.old → IsOpenAfter before self.new) }
     {
         let mut places = Vec::new(self.alloc);
         for number in 0..calls.whats() {
-            let place = self.place(calls.what(number))?;
+            let place = self.place(windows, calls.what(number))?;
             places.push(place)?;
         }
         Ok(places)
     }
 
     /// The place of the window that calls are on which do this, where they are on one.
-    pub(crate) fn place(&mut self, what: WhatRef<'_>) -> Result<Option<usize>, Memory>
-        ensures place { IfOk result (IsPlaceOf (names_in self.new) (what_of what.entry)) }
+    pub(crate) fn place(
+        &mut self,
+        windows: &Windows,
+        what: WhatRef<'_>,
+    ) -> Result<Option<Place>, Memory>
+        ensures place { IfOk result (IsPlaceOf windows.now (names_in self.new) (what_of what.entry)) }
         ensures names { OnOk result (StayThere (names_in self.old) (names_in self.new)) }
         ensures same { OnOk result ((before : List Call) → IsOpenAfter before self.old → IsOpenAfter before self.new) }
     {
         match window_on(what) {
-            Some(window) => Ok(Some(place_of(self.alloc, &mut self.windows, window)?)),
+            Some(name) => {
+                let index = index_of(self.alloc, &mut self.windows, name)?;
+                let window = windows.find(name);
+                Ok(Some(Place { index, window }))
+            }
             None => Ok(None),
         }
     }
@@ -79,11 +101,12 @@ impl OpenWindows {
     pub(crate) fn take(
         &mut self,
         windows: &Windows,
-        place: Option<usize>,
+        place: Option<Place>,
         call: CallRef<'_>,
     ) -> Result<Option<EpochReason>, Memory>
-        ensures reason { IfOk result (λ reason. (calls : List Call) → IsOpenAfter calls self.old → IsPlaceOf (names_in self.old) (call_of call.entry).what place → reason ≡ reason_at windows.now calls (call_of call.entry)) }
-        ensures taken { IfOk result (λ reason. (calls : List Call) → IsOpenAfter calls self.old → IsPlaceOf (names_in self.old) (call_of call.entry).what place → IsOpenAfter (taken_with reason (call_of call.entry) calls) self.new) }
+        requires { IsPlaceOf windows.now (names_in self.old) (call_of call).what place }
+        ensures reason { IfOk result (λ reason. (calls : List Call) → IsOpenAfter calls self.old → reason ≡ reason_at windows.now calls (call_of call.entry)) }
+        ensures taken { IfOk result (λ reason. (calls : List Call) → IsOpenAfter calls self.old → IsOpenAfter (taken_with reason (call_of call.entry) calls) self.new) }
         ensures names { OnOk result (names_in self.new ≡ names_in self.old) }
     {
         let Some(next) = self.taken.checked_add(1) else {
@@ -105,11 +128,11 @@ impl OpenWindows {
     }
 
     /// In which epoch the call would stand that comes next, and what it would close. Its window has this place.
-    pub(crate) fn placement(&self, place: Option<usize>, call: CallRef<'_>) -> Placement
-        ensures { (calls : List Call) → IsOpenAfter calls self.now → IsPlaceOf (names_in self.now) (call_of call.entry).what place → result ≡ placed_at calls (call_of call.entry) }
+    pub(crate) fn placement(&self, place: Option<Place>, call: CallRef<'_>) -> Placement
+        ensures { (windows : List Window) (calls : List Call) → IsOpenAfter calls self.now → IsPlaceOf windows (names_in self.now) (call_of call.entry).what place → result ≡ placed_at calls (call_of call.entry) }
     {
         match place {
-            Some(place) => placement_in(&self.windows, place, call.what),
+            Some(place) => placement_in(&self.windows, place.index, call.what),
             None => Placement::none(),
         }
     }
@@ -122,35 +145,36 @@ impl OpenWindows {
     }
 }
 
-/// The place of a window. Nothing is open on one that is new.
-fn place_of(
+/// The index of a window. Nothing is open on one that is new.
+fn index_of(
     alloc: Global,
     table: &mut IndexMap<Name, OpenEpochs>,
-    window: &Name,
+    name: &Name,
 ) -> Result<usize, Memory>
-    ensures place { IfOk result (λ place. slice_get (keys_of table.new.entries) place ≡ Some window.now) }
+    ensures index { IfOk result (λ index. slice_get (keys_of table.new.entries) index ≡ Some name.now) }
     ensures names { OnOk result (StayThere (keys_of table.old.entries) (keys_of table.new.entries)) }
-    ensures same { OnOk result ((name : List ℕ) → kept table.new.entries name ≡ kept table.old.entries name) }
+    ensures same { OnOk result ((other : List ℕ) → kept table.new.entries other ≡ kept table.old.entries other) }
 {
-    if let Some(place) = table.get_index_of(window) {
-        return Ok(place);
+    if let Some(index) = table.get_index_of(name) {
+        return Ok(index);
     }
-    let place = table.len();
-    table.insert(window.copy()?, OpenEpochs::new(alloc))?;
-    Ok(place)
+    let index = table.len();
+    table.insert(name.copy()?, OpenEpochs::new(alloc))?;
+    Ok(index)
 }
 
 /// Takes the call of this number, which is the next one, on the window at the place, unless it has a reason, which it answers.
 fn take_in(
     table: &mut IndexMap<Name, OpenEpochs>,
     windows: &Windows,
-    place: Option<usize>,
+    place: Option<Place>,
     number: u32,
     call: CallRef<'_>,
 ) -> Result<Option<EpochReason>, Memory>
+    requires { IsPlaceOf windows.now (keys_of table.old.entries) (call_of call).what place }
     ensures names { OnOk result (keys_of table.new.entries ≡ keys_of table.old.entries) }
     ensures taken { IfOk result (λ reason. (calls : List Call) → number ≡ length calls → ((window : List ℕ) → kept table.old.entries window ≡ open_on calls window)
-        → IsPlaceOf (keys_of table.old.entries) (call_of call.entry).what place → IsTaken windows.now calls (call_of call.entry) reason table.new.entries) }
+        → IsTaken windows.now calls (call_of call.entry) reason table.new.entries) }
 {
     match place {
         Some(place) => take_at(table, windows, place, number, call),
@@ -162,25 +186,26 @@ fn take_in(
 fn take_at(
     table: &mut IndexMap<Name, OpenEpochs>,
     windows: &Windows,
-    place: usize,
+    place: Place,
     number: u32,
     call: CallRef<'_>,
 ) -> Result<Option<EpochReason>, Memory>
+    requires { IsPlaceOf windows.now (keys_of table.old.entries) (call_of call).what (Some place) }
     ensures names { OnOk result (keys_of table.new.entries ≡ keys_of table.old.entries) }
     ensures taken { IfOk result (λ reason. (calls : List Call) → number ≡ length calls → ((window : List ℕ) → kept table.old.entries window ≡ open_on calls window)
-        → IsPlaceOf (keys_of table.old.entries) (call_of call.entry).what (Some place) → IsTaken windows.now calls (call_of call.entry) reason table.new.entries) }
+        → IsTaken windows.now calls (call_of call.entry) reason table.new.entries) }
 {
-    match table.get_index_mut(place) {
-        Some(own) => own.take_allowed(windows, number, call),
+    match table.get_index_mut(place.index) {
+        Some(own) => own.take_allowed(windows, place.window, number, call),
         None => Ok(None),
     }
 }
 
-/// In which epoch a call on the window at the place would stand, and what it would close.
-fn placement_in(table: &IndexMap<Name, OpenEpochs>, place: usize, what: WhatRef<'_>) -> Placement
-    ensures { (name : List ℕ) → slice_get (keys_of table.now.entries) place ≡ Some name → result ≡ placed_in (kept table.now.entries name) (what_of what.entry) }
+/// In which epoch a call on the window at the index would stand, and what it would close.
+fn placement_in(table: &IndexMap<Name, OpenEpochs>, index: usize, what: WhatRef<'_>) -> Placement
+    ensures { (name : List ℕ) → slice_get (keys_of table.now.entries) index ≡ Some name → result ≡ placed_in (kept table.now.entries name) (what_of what.entry) }
 {
-    match table.get_index(place) {
+    match table.get_index(index) {
         Some((_, own)) => Placement {
             opening: own.opening(what),
             closes: own.closed_by(what),

@@ -10,7 +10,7 @@ ghost use Rattle.rma_epoch.specs.inside.Windows.{ArePlaces, IsOpenAfter, names_i
 
 use crate::fault::EpochFault;
 use crate::live::LiveEpochs;
-use crate::open_windows::OpenWindows;
+use crate::open_windows::{OpenWindows, Place};
 use crate::table::EpochOutcome;
 use rma_base::{EpochReason, LineNo, Memory};
 use rma_call::{CallList, Group, RankCalls};
@@ -33,7 +33,7 @@ pub fn place_calls(
 {
     let calls = own.calls();
     let mut opened = OpenWindows::new(alloc);
-    let places = opened.places(calls)?;
+    let places = opened.places(windows, calls)?;
     let mut live = LiveEpochs::on(alloc, opened);
     let fault = take_sound(&mut live, windows, calls, places.as_slice(), own.end())?;
     let table = live.into_table()?;
@@ -57,7 +57,7 @@ pub fn epoch_fault(
         return Ok(None);
     }
     let mut opened = OpenWindows::new(alloc);
-    let places = opened.places(calls)?;
+    let places = opened.places(windows, calls)?;
     first_fault(&mut opened, windows, calls, places.as_slice(), own.end())
 }
 
@@ -67,12 +67,12 @@ fn first_fault(
     opened: &mut OpenWindows,
     windows: &Windows,
     calls: &CallList,
-    places: &[Option<usize>],
+    places: &[Option<Place>],
     end: LineNo,
 ) -> Result<Option<EpochFault>, Memory>
     requires nothing { IsOpenAfter [] opened.old }
     requires each { length places.now ≡ length calls.now.whats }
-    requires places { ArePlaces (names_in opened.old) calls.now.whats places.now }
+    requires places { ArePlaces windows.now (names_in opened.old) calls.now.whats places.now }
     ensures { IfOk result (λ fault. fault ≡ fault_from windows.now [] calls.now.calls end) }
 {
     for i in 0..calls.len() {
@@ -115,13 +115,13 @@ fn take_sound(
     live: &mut LiveEpochs,
     windows: &Windows,
     calls: &CallList,
-    places: &[Option<usize>],
+    places: &[Option<Place>],
     end: LineNo,
 ) -> Result<Option<EpochFault>, Memory>
     requires nothing { Represents [] live.old }
     requires no_locks { HasLocks windows.now [] live.old }
     requires each { length places.now ≡ length calls.now.whats }
-    requires places { ArePlaces (names_in live.old.windows) calls.now.whats places.now }
+    requires places { ArePlaces windows.now (names_in live.old.windows) calls.now.whats places.now }
     ensures fault { IfOk result (λ fault. fault ≡ fault_from windows.now [] calls.now.calls end) }
     ensures taken { OnOk result (Represents (sound_from windows.now [] calls.now.calls) live.new) }
     ensures locks { OnOk result (HasLocks windows.now (sound_from windows.now [] calls.now.calls) live.new) }

@@ -1,6 +1,6 @@
 -- The calls of a rank that concern a window (MPI 4.0, "One-Sided Communications").
 use Rattle.std.specs.Prelude.{ℕ, ◌+◌, List, [], ◌∷◌, Bool, false, Option, Some, None, nat_eq, if◌then◌else◌}
-use Rattle.std.specs.Option.{option_map_or}
+use Rattle.std.specs.Option.{option_and_then, option_map_or}
 use Rattle.std.specs.Cmp.Lexicographic.{pointwise}
 use Rattle.rma_call.specs.Call.{Call}
 use Rattle.rma_call.specs.declared.what.What.{What}
@@ -10,6 +10,9 @@ use Rattle.rma_call.specs.declared.window.WindowCall.TheVariants.{Free}
 use Rattle.rma_call.specs.declared.epoch.EpochCall.{EpochCall}
 use Rattle.rma_call.specs.declared.epoch.EpochCall.TheVariants.{Fence, Post, Start, Complete, Expwait, Lock, Unlock, LockAll, UnlockAll, Flush, FlushAll, FlushLocal, FlushLocalAll}
 use Rattle.rma_call.specs.declared.epoch.EpochCall.TheVariants as epoch
+use Rattle.rma_window.specs.declared.window_id.WindowId.{WindowId}
+use Rattle.rma_window.specs.Windows.{number_of}
+use Rattle.rma_window.specs.Windows as table
 
 -- the window of a call that opens, completes or closes an epoch
 abbrev pub window_in : EpochCall → List ℕ
@@ -34,6 +37,10 @@ window_on (Sync (Epoch call)) = Some (window_in call)
 window_on (Sync (Window (Free window))) = Some window
 window_on (Rma call) = Some call.window
 window_on _ = None
+
+-- the number of the window that a call is on, where it is one of the run
+abbrev pub number_on : List table.Window → What → Option WindowId
+number_on windows what = option_and_then (number_of windows) (window_on what)
 
 -- whether a call is on the window of this name
 abbrev pub is_on : List ℕ → What → Bool

@@ -119,10 +119,14 @@ holds windows own what request ExposureOverlap = exposure_overlap own what
 holds windows own what request CloseWithoutOpen = close_without_open own what
 holds windows own what request EpochLeftOpen = epoch_left_open own what
 
+-- the reasons but the first, in the order in which they are asked
+abbrev pub other_reasons : List EpochReason
+other_reasons =
+    NoEpoch ∷ RequestOutsidePassive ∷ OutsideWindow ∷ FlushOutsidePassive ∷ AccessOverlap ∷ FenceInEpoch ∷ NoPrecedeBroken ∷ ExposureOverlap ∷ CloseWithoutOpen ∷ EpochLeftOpen ∷ []
+
 -- the reasons, in the order in which they are asked
 abbrev pub all_reasons : List EpochReason
-all_reasons =
-    NotMember ∷ NoEpoch ∷ RequestOutsidePassive ∷ OutsideWindow ∷ FlushOutsidePassive ∷ AccessOverlap ∷ FenceInEpoch ∷ NoPrecedeBroken ∷ ExposureOverlap ∷ CloseWithoutOpen ∷ EpochLeftOpen ∷ []
+all_reasons = NotMember ∷ other_reasons
 
 -- the first reason of a call, where this is open on its window
 abbrev pub reason_in : List Window → Open → What → Option ℕ → Option EpochReason

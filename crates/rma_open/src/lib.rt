@@ -6,10 +6,12 @@
 //! in which an access stands, and the call that opened what it closes. [`window_on`] tells the window that a call is on.
 //!
 //! A call takes constant work, whatever is open and however many runs it touches, but for the ranks of its own group. So does
-//! each question.
+//! each question. No name is looked up: a call comes with the number of its window among those of the run, and each part that
+//! it asks for is one look-up by that number and a rank.
 #![tactic(auto)]
 
 mod call;
+mod member;
 mod open_epochs;
 mod opening;
 mod range;

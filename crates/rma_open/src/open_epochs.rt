@@ -5,6 +5,7 @@ ghost use Rattle.rma_call.specs.Call.{call_of, what_of};
 ghost use Rattle.rma_call.specs.declared.what.What.{What};
 ghost use Rattle.rma_call.specs.declared.what.What.TheVariants.{Sync};
 ghost use Rattle.rma_call.specs.declared.what.SyncCall.TheVariants.{Epoch, Window};
+ghost use Rattle.rma_open.specs.Calls.{number_on};
 ghost use Rattle.rma_open.specs.Open.{frees, is_exclusive, is_left, is_used, open_after, is_unclosed};
 ghost use Rattle.rma_open.specs.Reason.{reason_in, start_reaches};
 ghost use Rattle.rma_open.specs.Reaching.{by_phase, by_start, closed_by, opening_in, reaching};
@@ -18,7 +19,7 @@ use crate::opening::{
 use indexmap::IndexMap;
 use rma_base::{EpochReason, Memory, Rank};
 use rma_call::{CallRef, EpochCall, LockKind, WhatRef, WindowCall};
-use rma_window::Windows;
+use rma_window::{WindowId, Windows};
 use std::alloc::Global;
 
 /// What a rank has open on one window.
@@ -54,7 +55,7 @@ impl OpenEpochs {
     }
 
     /// Takes the call of this number, which is the next one on the window, unless it stands in no epoch that allows it: then it
-    /// answers why, and nothing changes.
+    /// answers why, and nothing changes. The window has this number among those of the run, if it is one of them.
     ///
     /// # Errors
     ///
@@ -62,14 +63,16 @@ impl OpenEpochs {
     pub fn take_allowed(
         &mut self,
         windows: &Windows,
+        window: Option<WindowId>,
         number: u32,
         call: CallRef<'_>,
     ) -> Result<Option<EpochReason>, Memory>
+        requires { window ≡ number_on windows.now (what_of call.what) }
         ensures reason { IfOk result (λ reason. reason ≡ reason_in windows.now (open_of self.old) (call_of call.entry).what call.entry.request) }
         ensures taken { IfOk result (λ reason. (past : List (ℕ × What)) → open_of self.old ≡ open_after past
             → open_of self.new ≡ open_after (past_with reason (number, (call_of call.entry).what) past)) }
     {
-        let reason = self.reason(windows, call);
+        let reason = self.reason(windows, window, call);
         if reason.is_some() {
             return Ok(reason);
         }

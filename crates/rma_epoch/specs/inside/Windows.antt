@@ -6,9 +6,10 @@ use Rattle.std.specs.Cmp.Lexicographic.{pointwise}
 use Rattle.rma_base.specs.declared.epoch_reason.EpochReason.{EpochReason}
 use Rattle.rma_call.specs.Call.{Call}
 use Rattle.rma_call.specs.declared.what.What.{What}
-use Rattle.rma_window.specs.Windows.{Window}
+use Rattle.rma_window.specs.Windows.{Window, number_of}
 use Rattle.rma_open.specs.declared.open_epochs.OpenEpochs.{OpenEpochs}
 use Rattle.rma_epoch.specs.declared.open_windows.OpenWindows.{OpenWindows}
+use Rattle.rma_epoch.specs.declared.open_windows.Place.{Place}
 use Rattle.rma_epoch.specs.declared.placements.Placement.{Placement}
 use Rattle.rma_open.specs.Calls.{window_on}
 use Rattle.rma_open.specs.Open.{Open, open_after, open_on}
@@ -30,14 +31,15 @@ pub record IsOpenAfter (calls : List Call) (own : OpenWindows) : Type 0 where
 abbrev pub names_in : OpenWindows → List (List ℕ)
 names_in own = keys_of own.windows.entries
 
--- a place is that of the window which calls are on that do this, and there is none where they are on no window
-abbrev pub IsPlaceOf : List (List ℕ) → What → Option ℕ → Type 0
-IsPlaceOf names what None = window_on what ≡ None
-IsPlaceOf names what (Some place) = (name : List ℕ) × (slice_get names place ≡ Some name) × (window_on what ≡ Some name)
+-- a place is that of the window which calls are on that do this, with its number among those of the run, and there is none where they are on no window
+abbrev pub IsPlaceOf : List Window → List (List ℕ) → What → Option Place → Type 0
+IsPlaceOf windows names what None = window_on what ≡ None
+IsPlaceOf windows names what (Some place) = (name : List ℕ) × (slice_get names place.index ≡ Some name) × (window_on what ≡ Some name) × (place.window ≡ number_of windows name)
 
 -- the places are those of what calls do, by number
-abbrev pub ArePlaces : List (List ℕ) → List What → List (Option ℕ) → Type 0
-ArePlaces names whats places = (number : ℕ) (what : What) (place : Option ℕ) → slice_get whats number ≡ Some what → slice_get places number ≡ Some place → IsPlaceOf names what place
+abbrev pub ArePlaces : List Window → List (List ℕ) → List What → List (Option Place) → Type 0
+ArePlaces windows names whats places =
+    (number : ℕ) (what : What) (place : Option Place) → slice_get whats number ≡ Some what → slice_get places number ≡ Some place → IsPlaceOf windows names what place
 
 -- names stay where they are
 abbrev pub StayThere : List (List ℕ) → List (List ℕ) → Type 0

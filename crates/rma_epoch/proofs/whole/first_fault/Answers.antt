@@ -15,9 +15,7 @@ returns-in-Some c =
     let i = c.loop-i.i in
     let call = call_of c.get-call.result in
     let number = c.what_number.result in
-    let at = subst (λ names. IsPlaceOf names call.what (get_or places number None)) (sym c.loop-i.invariant.names)
-    (place_here _ calls.whats places calls.calls i number call c.requires.places (omega (arith, c.what_number.ensures.within, c.requires.each)) c.get-call.ensures c.what_number.ensures.what) in
-    let reason : reason_at windows (take i calls.calls) call ≡ Some c.in-Some.reason = sym (c.in_ok-reason.ensures.reason (take i calls.calls) c.loop-i.invariant.taken at) ∙ c.in-Some.is in
+    let reason : reason_at windows (take i calls.calls) call ≡ Some c.in-Some.reason = sym (c.in_ok-reason.ensures.reason (take i calls.calls) c.loop-i.invariant.taken) ∙ c.in-Some.is in
     sym (c.loop-i.invariant.fault ∙ fault_on windows calls.calls i call c.args.end (Some c.in-Some.reason) c.get-call.ensures reason)
 
 pub loop-i-preserved : goal.loop-i-preserved
@@ -28,12 +26,20 @@ loop-i-preserved c =
     let i = c.loop-i.i in
     let call = call_of c.get-call.result in
     let number = c.what_number.result in
-    let at = subst (λ names. IsPlaceOf names call.what (get_or places number None)) (sym c.loop-i.invariant.names)
-    (place_here _ calls.whats places calls.calls i number call c.requires.places (omega (arith, c.what_number.ensures.within, c.requires.each)) c.get-call.ensures c.what_number.ensures.what) in
-    let none : reason_at windows (take i calls.calls) call ≡ None = sym (c.in_ok-reason.ensures.reason (take i calls.calls) c.loop-i.invariant.taken at) ∙ c.in_default.is in
+    let none : reason_at windows (take i calls.calls) call ≡ None = sym (c.in_ok-reason.ensures.reason (take i calls.calls) c.loop-i.invariant.taken) ∙ c.in_default.is in
     record {
       taken = subst (λ before. IsOpenAfter before c.take.new.self) (sym (taken_there calls.calls i call c.get-call.ensures))
-          (subst (λ o. IsOpenAfter (taken_with o call (take i calls.calls)) c.take.new.self) c.in_default.is (c.in_ok-reason.ensures.taken (take i calls.calls) c.loop-i.invariant.taken at));
+          (subst (λ o. IsOpenAfter (taken_with o call (take i calls.calls)) c.take.new.self) c.in_default.is (c.in_ok-reason.ensures.taken (take i calls.calls) c.loop-i.invariant.taken));
       names = c.in_ok-reason.ensures.names ∙ c.loop-i.invariant.names;
       fault = c.loop-i.invariant.fault ∙ fault_on windows calls.calls i call c.args.end None c.get-call.ensures none;
     }
+
+pub take-requires : goal.take-requires
+take-requires c =
+    let calls = c.args.calls.now in
+    let windows = c.args.windows.now in
+    let places = c.args.places.now in
+    let call = call_of c.get-call.result in
+    let number = c.what_number.result in
+    subst (λ names. IsPlaceOf windows names call.what (get_or places number None)) (sym c.loop-i.invariant.names)
+    (place_here windows _ calls.whats places calls.calls c.loop-i.i number call c.requires.places (omega (arith, c.what_number.ensures.within, c.requires.each)) c.get-call.ensures c.what_number.ensures.what)

@@ -10,15 +10,15 @@ use Rattle.rma_epoch.proofs.TableLemmas.{close_push, locks_push, openings_push}
 use Rattle.rma_epoch.proofs.live.LiveEpochs.take_at.Goals as goal
 
 pub returns-clause-taken : goal.returns-clause-taken
-returns-clause-taken c = λ calls are at.
+returns-clause-taken c = λ calls are.
     let own = c.args.self.now in
     let call = call_of c.args.call in
     let reason = c.in_ok-reason.reason in
     let none : reason ≡ None = is_nothing reason (sym c.is_some.ensures ∙ c.if-is_some.false) in
     let number : c.taken-number.result ≡ length calls = c.taken-number.ensures calls are.open_is in
-    let placed : c.placement-placement.result ≡ placed_at calls call = c.placement-placement.ensures calls are.open_is at in
+    let placed : c.placement-placement.result ≡ placed_at calls call = c.placement-placement.ensures c.args.windows.now calls are.open_is c.requires in
     record {
-      open_is = subst (λ o. IsOpenAfter (taken_with o call calls) c.take.new.self) none (c.in_ok-reason.ensures.taken calls are.open_is at);
+      open_is = subst (λ o. IsOpenAfter (taken_with o call calls) c.take.new.self) none (c.in_ok-reason.ensures.taken calls are.open_is);
       openings_are = c.in_ok-add.ensures.openings
           ∙ ap (λ openings. openings ++ c.placement-placement.result.opening ∷ []) are.openings_are
           ∙ ap (λ (p : Placement). openings_from [] calls ++ p.opening ∷ []) placed

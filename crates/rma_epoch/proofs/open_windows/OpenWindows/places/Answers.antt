@@ -14,7 +14,7 @@ loop-number-preserved c =
     let new = names_in c.place.new.self in
     record {
       len = ap length c.in_ok-push.ensures.items ∙ length_push places place ∙ ap (λ n. n + 1) c.loop-number.invariant.len;
-      places = subst (ArePlaces new whats) (sym c.in_ok-push.ensures.items)
-          (places_more old new whats places (what_of c.what.result) place c.in_ok-place.ensures.names (ap (slice_get whats) c.loop-number.invariant.len ∙ c.what.ensures) c.in_ok-place.ensures.place c.loop-number.invariant.places);
+      places = subst (ArePlaces c.args.windows.now new whats) (sym c.in_ok-push.ensures.items)
+          (places_more c.args.windows.now old new whats places (what_of c.what.result) place c.in_ok-place.ensures.names (ap (slice_get whats) c.loop-number.invariant.len ∙ c.what.ensures) c.in_ok-place.ensures.place c.loop-number.invariant.places);
       same = λ before is. c.in_ok-place.ensures.same before (c.loop-number.invariant.same before is);
     }

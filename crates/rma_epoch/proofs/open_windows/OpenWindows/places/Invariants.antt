@@ -7,6 +7,6 @@ use Rattle.rma_epoch.proofs.open_windows.OpenWindows.places.Given as goal
 abbrev pub invariant-loop-number : goal.invariant-loop-number
 invariant-loop-number l = record {
   len : length l.places.items ≡ l.number;
-  places : ArePlaces (names_in l.self) l.calls.whats l.places.items;
+  places : ArePlaces l.windows (names_in l.self) l.calls.whats l.places.items;
   same : (before : List Call) → IsOpenAfter before l.initial.self → IsOpenAfter before l.self;
 }

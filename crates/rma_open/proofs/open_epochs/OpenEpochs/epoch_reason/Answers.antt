@@ -1,13 +1,14 @@
+use Rattle.std.proofs.Common.{Bool, Some, cond, sym, ap, ◌∙◌}
+use Rattle.rma_base.specs.declared.epoch_reason.EpochReason.TheVariants.{NotMember}
+use Rattle.rma_open.specs.inside.Held.{open_of}
+use Rattle.rma_open.specs.inside.Member.{member_reason}
 use Rattle.rma_open.proofs.open_epochs.OpenEpochs.epoch_reason.Goals as goal
 
-pub returns-in-Fence : goal.returns-in-Fence
-returns-in-Fence c = rw c.in-Fence.is (c.fence_reason.ensures c.args.windows.now c.in-Fence.window)
+pub returns-then-names_stranger : goal.returns-then-names_stranger
+returns-then-names_stranger c =
+    sym (ap (λ (b : Bool). cond b (Some NotMember) (member_reason (open_of c.args.self.now) c.args.call.now)) (sym c.names_stranger.ensures ∙ c.if-names_stranger.true))
 
-pub returns-in-Post : goal.returns-in-Post
-returns-in-Post c = rw c.in-Post.is (c.post_reason.ensures c.in-Post.assertions)
-
-pub returns-in-Start : goal.returns-in-Start
-returns-in-Start c = rw c.in-Start.is (c.start_reason.ensures c.in-Start.assertions)
-
-pub returns-in-Lock : goal.returns-in-Lock
-returns-in-Lock c = rw c.in-Lock.is (c.lock_reason.ensures c.in-Lock.kind c.in-Lock.assertions)
+pub returns : goal.returns
+returns c =
+    c.member_reason.ensures
+    ∙ sym (ap (λ (b : Bool). cond b (Some NotMember) (member_reason (open_of c.args.self.now) c.args.call.now)) (sym c.names_stranger.ensures ∙ c.if-names_stranger.false))

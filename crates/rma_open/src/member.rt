@@ -1,0 +1,70 @@
+//! Which ranks have a part of a window.
+ghost use Rattle.std.specs.Prelude.{◌≡◌, ℕ, List, is_none};
+ghost use Rattle.std.specs.Option.{option_and_then};
+ghost use Rattle.std.specs.List.{list_any};
+ghost use Rattle.rma_call.specs.declared.what.What.TheVariants.{Sync};
+ghost use Rattle.rma_call.specs.declared.what.SyncCall.TheVariants.{Epoch};
+ghost use Rattle.rma_window.specs.Windows.{number_of, part_named, part_of};
+ghost use Rattle.rma_open.specs.Calls.{window_in};
+ghost use Rattle.rma_open.specs.Reason.{lacks_part, not_member};
+
+use rma_base::Rank;
+use rma_call::{EpochCall, RmaCall};
+use rma_window::{Part, WindowId, Windows};
+
+/// The part of the target of an access, where it has a target and that has a part of the window, which has this number.
+pub(crate) fn target_part(
+    windows: &Windows,
+    window: Option<WindowId>,
+    access: &RmaCall,
+) -> Option<Part>
+    requires { window ≡ number_of windows.now access.now.window }
+    ensures { result ≡ option_and_then (part_named windows.now access.now.window) access.now.target }
+{
+    match access.target {
+        Some(target) => part_at(windows, window, target),
+        None => None,
+    }
+}
+
+/// Whether some of the ranks that a call names have no part of its window, which has this number.
+pub(crate) fn names_stranger(windows: &Windows, window: Option<WindowId>, call: &EpochCall) -> bool
+    requires { window ≡ number_of windows.now (window_in call.now) }
+    ensures { result ≡ not_member windows.now (Sync (Epoch call.now)) }
+{
+    match call {
+        EpochCall::Post { origins, .. } => any_lacks(windows, window, origins.numbers()),
+        EpochCall::Start { targets, .. } => any_lacks(windows, window, targets.numbers()),
+        EpochCall::Lock { target, .. } => any_lacks(windows, window, &[target.0]),
+        EpochCall::Unlock { target, .. } => any_lacks(windows, window, &[target.0]),
+        EpochCall::Flush { target, .. } => any_lacks(windows, window, &[target.0]),
+        EpochCall::FlushLocal { target, .. } => any_lacks(windows, window, &[target.0]),
+        EpochCall::Fence { .. } => false,
+        EpochCall::Complete { .. } => false,
+        EpochCall::Expwait { .. } => false,
+        EpochCall::LockAll { .. } => false,
+        EpochCall::UnlockAll { .. } => false,
+        EpochCall::FlushAll { .. } => false,
+        EpochCall::FlushLocalAll { .. } => false,
+        EpochCall::Sync { .. } => false,
+    }
+}
+
+/// Whether some of the ranks have no part of a window.
+fn any_lacks(windows: &Windows, window: Option<WindowId>, ranks: &[u32]) -> bool
+    ensures { result ≡ list_any (λ n. is_none (option_and_then (λ id. part_of windows.now id (record { 0 = n })) window)) ranks.now }
+{
+    ranks
+        .iter()
+        .any(|rank| part_at(windows, window, Rank(*rank)).is_none())
+}
+
+/// The part of a rank in a window, where there is one.
+fn part_at(windows: &Windows, window: Option<WindowId>, rank: Rank) -> Option<Part>
+    ensures { result ≡ option_and_then (λ id. part_of windows.now id rank) window }
+{
+    match window {
+        Some(id) => windows.part(id, rank),
+        None => None,
+    }
+}
