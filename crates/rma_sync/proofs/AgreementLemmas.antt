@@ -1,10 +1,9 @@
 -- Where the calls of each round agree, none differs from the first.
 use Rattle.std.proofs.Common.{◌≡◌, ℕ, zero, suc, ◌+◌, Bool, true, false, cond, List, [], ◌∷◌, ◌++◌, Option, Some, None, take, slice_get, nat_eq, refl, sym, ap, subst, ◌∙◌, arith, append_assoc, append-nil}
 use Rattle.std.specs.Prelude.{Contains, find}
-use Rattle.std.specs.Bool.{beq}
 use Rattle.std.specs.List.{cons_option, filter_map}
 use Rattle.std.specs.Cmp.Lexicographic.{pointwise, nat_list_eq_equiv, same_text}
-use Rattle.std.proofs.lemmas.Bool.{eqb-true, eq-eqb}
+use Rattle.std.proofs.lemmas.Bool.{eqb-true}
 use Rattle.std.proofs.lemmas.List.Sums.{sum_by-cons}
 use Rattle.rma_base.specs.declared.rank.Rank.{Rank}
 use Rattle.rma_base.proofs.NameLemmas.{and_left, and_right}
@@ -15,40 +14,12 @@ use Rattle.rma_run.proofs.ContainLemmas.{has_first, has_later, has_none, first_o
 use Rattle.rma_round.specs.declared.kind.Kind.{Kind}
 use Rattle.rma_round.specs.Kind.{count_of, is_on, named}
 use Rattle.rma_round.specs.Round.{numbers, numbers_from}
-use Rattle.rma_sync.specs.declared.argument.Movement.{Movement}
-use Rattle.rma_sync.specs.declared.argument.Movement.TheVariants.{Bcast, Scatter, Gather, Reduce, Allreduce, Allgather, Alltoall}
-use Rattle.rma_sync.specs.declared.argument.Arguments.{Arguments}
-use Rattle.rma_sync.specs.declared.argument.Arguments.TheVariants.{Barrier, Creation, Fence, Moving, Nothing}
-use Rattle.rma_sync.specs.Argument.{arguments_of, same_arguments, same_movement}
+use Rattle.rma_sync.specs.Argument.{arguments_of, same_arguments}
 use Rattle.rma_sync.specs.Collective.{RoundCall, place_of, round_call_at, round_calls, walked}
 use Rattle.rma_sync.specs.Round.{is_at, round_difference, round_differences}
 use Rattle.rma_sync.specs.inside.Agreement.{AgreeOn, IsInRound}
+use Rattle.rma_sync.proofs.ArgumentLemmas.{same_arguments_refl}
 use Rattle.rma_sync.proofs.SoFarLemmas.{is_on_some}
-
--- ---- a call agrees with itself
-
-itself : (n : ℕ) → nat_eq n n ≡ true
-itself n = eq-eqb n n refl
-
-beq_itself : (b : Bool) → beq b b ≡ true
-beq_itself true = refl
-beq_itself false = refl
-
-same_movement_itself : (m : Movement) → same_movement m m ≡ true
-same_movement_itself (Bcast root) = itself root.0
-same_movement_itself (Scatter root) = itself root.0
-same_movement_itself (Gather root) = itself root.0
-same_movement_itself (Reduce root) = itself root.0
-same_movement_itself Allreduce = refl
-same_movement_itself Allgather = refl
-same_movement_itself Alltoall = refl
-
-same_arguments_itself : (a : Arguments) → same_arguments a a ≡ true
-same_arguments_itself Barrier = refl
-same_arguments_itself (Creation window) = nat_list_eq_equiv.refl window
-same_arguments_itself (Fence noprecede nosucceed) = rw (beq_itself noprecede, beq_itself nosucceed) refl
-same_arguments_itself (Moving own) = rw (same_movement_itself own.movement, itself own.bytes, itself own.place) refl
-same_arguments_itself Nothing = refl
 
 -- ---- the calls of rounds
 
@@ -145,7 +116,7 @@ module _ (kind : Kind) (ranks : List RankCalls) (in_order : AreInOrder ranks) (a
       let one : IsInRound kind ranks own.name own.number first.arguments =
       subst (λ n. IsInRound kind ranks own.name n first.arguments) number (subst (λ n. IsInRound kind ranks n first.number first.arguments) name (in_round kind ranks in_order first found.0)) in
       let same = agree own.name own.number first.arguments own.arguments one (in_round kind ranks in_order own has) in
-      let agrees : same_arguments first.arguments own.arguments ≡ true = ap (same_arguments first.arguments) (sym same) ∙ same_arguments_itself first.arguments in
+      let agrees : same_arguments first.arguments own.arguments ≡ true = ap (same_arguments first.arguments) (sym same) ∙ same_arguments_refl first.arguments in
       rw (is, agrees) refl
 
   pub none_differ : round_differences kind (round_calls kind ranks) ≡ []

@@ -1,3 +1,4 @@
+pub mod ArgumentLemmas
 pub mod WalkLemmas
 pub mod AgreementLemmas
 pub mod RowLemmas

@@ -3,7 +3,6 @@ use Rattle.std.proofs.Common.{◌≡◌, ℕ, zero, suc, ◌+◌, ◌<◌, ◌�
 use Rattle.std.specs.Prelude.{find, option_map, slice_get, ◌==◌}
 use Rattle.std.specs.List.{filter_map, cons_option}
 use Rattle.std.specs.Option.{option_or, option_and_then}
-use Rattle.std.specs.Bool.{beq}
 use Rattle.std.specs.Cmp.Lexicographic.{pointwise, nat_list_eq_equiv, same_text}
 use Rattle.std.proofs.lemmas.Bool.{eqb-true}
 use Rattle.std.proofs.lemmas.Bool.Decides.{nat_tests}
@@ -15,20 +14,16 @@ use Rattle.rma_call.specs.Call.{Call, RankCalls}
 use Rattle.rma_call.specs.declared.match_fault.MatchFault.{MatchFault}
 use Rattle.rma_sync.specs.declared.round.NameRounds.{NameRounds}
 use Rattle.rma_round.specs.declared.kind.Kind.{Kind}
-use Rattle.rma_sync.specs.declared.argument.Movement.{Movement}
-use Rattle.rma_sync.specs.declared.argument.Movement.TheVariants.{Bcast, Scatter, Gather, Reduce, Allreduce, Allgather, Alltoall}
-use Rattle.rma_sync.specs.declared.argument.Transfer.{Transfer}
-use Rattle.rma_sync.specs.declared.argument.Arguments.{Arguments}
-use Rattle.rma_sync.specs.declared.argument.Arguments.TheVariants.{Barrier, Creation, Fence, Moving, Nothing}
 use Rattle.rma_sync.specs.declared.call_count.CallCounts.{CallCounts}
 use Rattle.rma_sync.specs.declared.round.First.{First}
 use Rattle.rma_sync.specs.declared.round.Rounds.{Rounds}
-use Rattle.rma_sync.specs.Argument.{arguments_of, same_movement, same_transfer, same_arguments}
+use Rattle.rma_sync.specs.Argument.{arguments_of}
 use Rattle.rma_round.specs.Kind.{named, count_of, is_on}
 use Rattle.rma_sync.specs.Collective.{RoundCall, round_calls, round_call_at, place_of, made_on, so_far}
 use Rattle.rma_sync.specs.inside.CallCount.{with_current, number_in, counted}
 use Rattle.rma_sync.specs.Round.{is_at, kept, differs, round_difference, round_differences}
 use Rattle.rma_sync.specs.inside.Round.{first_at, own_of, with_first, joined, rounds_of, IsJoined, HaveJoined, AreNameRounds, AreRounds}
+use Rattle.rma_sync.proofs.ArgumentLemmas.{same_arguments_refl}
 use Rattle.rma_sync.proofs.CallCountLemmas.{number_in_is}
 use Rattle.rma_sync.proofs.SoFarLemmas.{round_calls_more, made_now, AreCallCounts_scanned, is_on_none, is_on_some}
 
@@ -37,37 +32,8 @@ Firsts = List (List ℕ × NameRounds)
 
 -- ---- one more fault
 
-same_text_refl : (xs : List ℕ) → pointwise nat_eq xs xs ≡ true
-same_text_refl xs = nat_list_eq_equiv.refl xs
-
 is_at_refl : (c : RoundCall) → is_at c.name c.number c ≡ true
-is_at_refl c = ap (λ b. b && c.number == c.number) (same_text_refl c.name) ∙ eq-eqb c.number c.number refl
-
-same_movement_refl : (m : Movement) → same_movement m m ≡ true
-same_movement_refl (Bcast root) = eq-eqb root.0 root.0 refl
-same_movement_refl (Scatter root) = eq-eqb root.0 root.0 refl
-same_movement_refl (Gather root) = eq-eqb root.0 root.0 refl
-same_movement_refl (Reduce root) = eq-eqb root.0 root.0 refl
-same_movement_refl Allreduce = refl
-same_movement_refl Allgather = refl
-same_movement_refl Alltoall = refl
-
-same_transfer_refl : (t : Transfer) → same_transfer t t ≡ true
-same_transfer_refl t =
-    rw (same_movement_refl t.movement) (ap (λ b. b && t.place == t.place) (eq-eqb t.bytes t.bytes refl) ∙ eq-eqb t.place t.place refl)
-
-same_words_refl : (noprecede nosucceed : Bool) → (beq noprecede noprecede && beq nosucceed nosucceed) ≡ true
-same_words_refl true true = refl
-same_words_refl true false = refl
-same_words_refl false true = refl
-same_words_refl false false = refl
-
-same_arguments_refl : (a : Arguments) → same_arguments a a ≡ true
-same_arguments_refl Barrier = refl
-same_arguments_refl (Creation window) = same_text_refl window
-same_arguments_refl (Fence noprecede nosucceed) = same_words_refl noprecede nosucceed
-same_arguments_refl (Moving transfer) = same_transfer_refl transfer
-same_arguments_refl Nothing = refl
+is_at_refl c = ap (λ b. b && c.number == c.number) (nat_list_eq_equiv.refl c.name) ∙ eq-eqb c.number c.number refl
 
 module _ (kind : Kind) where
   differs_refl : (c : RoundCall) → differs kind (kept c) (kept c) ≡ None
