@@ -1,15 +1,17 @@
 //! Who has to make a call: the members of its communicator, or of the communicator of its window.
-ghost use Rattle.std.specs.Prelude.{◌≡◌, ◌++◌, List, IfOk, OnOk};
+ghost use Rattle.std.specs.Prelude.{◌≡◌, ◌++◌, [], List, None, false, IfOk, OnOk};
+ghost use Rattle.std.specs.List.{cons_option};
+ghost use Rattle.rma_call.specs.Call.{call_of, what_of};
 ghost use Rattle.rma_call.specs.Call.{RankCalls};
-ghost use Rattle.rma_member.specs.Declaration.{declarations, declarations_of};
+ghost use Rattle.rma_member.specs.Declaration.{declaration_of, declarations, declarations_of};
 ghost use Rattle.rma_member.specs.Attribute.{declared, created};
 ghost use Rattle.rma_member.specs.Member.{members_of_comm, members};
 ghost use Rattle.rma_member.specs.inside.Member.{AreMembers};
 
 use crate::attribute::WindowAttributes;
 use crate::declaration::{Declaration, Declarations, push_declaration};
-use rma_base::{Memory, Name, RankSet, Sequence};
-use rma_call::RankCalls;
+use rma_base::{Memory, Name, Rank, RankSet, Sequence};
+use rma_call::{CallRef, FrameCall, RankCalls, WhatRef, WindowCall};
 use rma_round::Kind;
 use std::alloc::Global;
 
@@ -104,9 +106,36 @@ fn push_declared(
 {
     let calls = own.calls();
     for i in 0..calls.len() {
-        let call = calls.get(i);
-        push_declaration(own.rank(), call, comms)?;
-        push_declaration(own.rank(), call, creations)?;
+        push_call(own.rank(), calls.get(i), comms, creations)?;
     }
     Ok(())
+}
+
+/// Appends what a call declares, if it declares anything, as few do.
+fn push_call(
+    rank: Rank,
+    call: CallRef<'_>,
+    comms: &mut Sequence<Declaration<RankSet>>,
+    creations: &mut Sequence<Declaration<WindowAttributes>>,
+) -> Result<(), Memory>
+    ensures comms { OnOk result (comms.new ≡ comms.old ++ cons_option (declaration_of declared rank (call_of call.entry)) []) }
+    ensures creations { OnOk result (creations.new ≡ creations.old ++ cons_option (declaration_of created rank (call_of call.entry)) []) }
+{
+    if !declares(call.what) {
+        return Ok(());
+    }
+    push_declaration(rank, call, comms)?;
+    push_declaration(rank, call, creations)
+}
+
+/// Whether a call declares a communicator or creates a window.
+fn declares(what: WhatRef<'_>) -> bool
+    ensures comm { result ≡ false → declared (what_of what.entry) ≡ None }
+    ensures window { result ≡ false → created (what_of what.entry) ≡ None }
+{
+    match what {
+        WhatRef::Frame(FrameCall::Comm { .. }) => true,
+        WhatRef::Window(WindowCall::Create { .. }) => true,
+        _ => false,
+    }
 }
