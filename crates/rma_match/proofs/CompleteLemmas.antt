@@ -1,5 +1,5 @@
 -- The completes that an expwait waits for are those from which an edge leads to its return.
-use Rattle.std.proofs.Common.{◌≡◌, ℕ, ◌+◌, ◌*◌, ◌∷◌, List, [], Option, Some, None, slice_get, map, refl, sym, ap, subst, ◌∙◌, arith}
+use Rattle.std.proofs.Common.{◌≡◌, ℕ, ◌+◌, ◌*◌, ◌∷◌, List, [], Option, Some, None, slice_get, map, refl, ap, subst, ◌∙◌, arith}
 use Rattle.std.specs.Prelude.{Contains, option_map}
 use Rattle.std.specs.Option.{option_and_then, option_map_or}
 use Rattle.rma_base.specs.declared.rank.Rank.{Rank}
@@ -29,7 +29,7 @@ module _ {X Y : Type 0} (f : X → Y) where
       (λ (later : Contains zs x). has_later (f z) (f x) (map f zs) (map_has zs x later))
       has
 
-  in_map : (xs : List X) (y : Y) → Contains (map f xs) y → (x : X) × Contains xs x × (f x ≡ y)
+  pub in_map : (xs : List X) (y : Y) → Contains (map f xs) y → (x : X) × Contains xs x × (f x ≡ y)
   in_map [] y has = has_none y has
   in_map (z ∷ zs) y has =
       first_or_later (f z) y (map f zs)

@@ -2,3 +2,4 @@ pub mod AwaitedLemmas
 pub mod GroupLemmas
 pub mod BelowLemmas
 pub mod CompleteLemmas
+pub mod LinkLemmas
