@@ -3,3 +3,4 @@ pub mod GroupLemmas
 pub mod BelowLemmas
 pub mod CompleteLemmas
 pub mod LinkLemmas
+pub mod RootLemmas
