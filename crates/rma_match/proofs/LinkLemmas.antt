@@ -3,7 +3,6 @@ use Rattle.std.proofs.Common.{◌≡◌, ◌≤◌, ℕ, ◌⊎◌, inl, inr, �
 use Rattle.std.specs.Prelude.{Contains, option_map}
 use Rattle.std.specs.Option.{option_and_then, option_map_or, option_or}
 use Rattle.std.proofs.lemmas.Option.{slice_get_within, get_or_from_slice_get}
-use Rattle.rma_base.specs.declared.rank.Rank.{Rank}
 use Rattle.rma_base.specs.declared.point.Point.{Point}
 use Rattle.rma_call.specs.Call.{Call, RankCalls}
 use Rattle.rma_call.specs.declared.what.What.{What}

@@ -1,5 +1,5 @@
 -- An edge leads from the call of the root that a call waits for.
-use Rattle.std.proofs.Common.{◌≡◌, ℕ, Bool, true, false, cond, ◌∷◌, List, [], Option, Some, None, nat_eq, slice_get, map, refl, sym, ap, subst, ◌∙◌}
+use Rattle.std.proofs.Common.{◌≡◌, ℕ, Bool, true, false, cond, ◌∷◌, List, [], Option, Some, None, nat_eq, slice_get, map, refl, sym, ap, ◌∙◌}
 use Rattle.std.specs.Prelude.{Contains, option_map}
 use Rattle.std.specs.Option.{option_and_then}
 use Rattle.rma_base.specs.declared.rank.Rank.{Rank}
@@ -16,7 +16,7 @@ use Rattle.rma_run.proofs.CallLemmas.{calls_are_own}
 use Rattle.rma_run.proofs.ContainLemmas.{has_none, first_or_later}
 use Rattle.rma_round.specs.declared.kind.Kind.TheVariants.{Moving}
 use Rattle.rma_round.specs.Round.{match_of, matched, partner_of}
-use Rattle.rma_round.specs.Edge.{Rooted, movement, rooted_of, edge_with, round_edges, IsRoundEdge}
+use Rattle.rma_round.specs.Edge.{Rooted, movement, rooted_of, edge_with, round_edges}
 use Rattle.rma_round.specs.Meet.{waits_for_all}
 use Rattle.rma_round.proofs.EdgeLemmas.{edge_has}
 use Rattle.rma_match.specs.Membership.{members}

@@ -67,13 +67,13 @@ abbrev pub expwait_entries : (ℕ → List Call) → ℕ → ℕ → List (Optio
 expwait_entries calls rank number =
     option_map_or (λ post. option_map_or (complete_entries calls rank post) (opening_at Exposure (calls rank) post) []) (opener_of Exposure (calls rank) number) []
 
--- what the return of a call waits for whose message comes from there: the send that matches
+-- the send that the return of a call waits for, by where its message comes from: none where it completes no receive
 abbrev pub message_entries : MessageSource → List (Option Point)
 message_entries NoReceive = []
 message_entries Unknown = None ∷ []
 message_entries (From point) = Some point ∷ []
 
--- what the return of a call waits for, each with its entry where the call that it is in is taken
+-- all calls that the return of a call waits for: of each its entry, or none where it is not taken yet
 abbrev pub awaited : ℕ → (ℕ → List Call) → ℕ → ℕ → What → List (Option Point)
 awaited ranks calls rank number what =
     round_entries ranks calls rank number what ++ (expwait_entries calls rank number ++ message_entries (source_of calls rank number))
@@ -83,6 +83,6 @@ abbrev pub all_of : List (Option Point) → Option (List Point)
 all_of [] = Some []
 all_of (point ∷ points) = option_and_then (λ first. option_map (λ rest. first ∷ rest) (all_of points)) point
 
--- the entries that the return of a call waits for, where all of them are there: by rank, each once
+-- the entries that the return of a call waits for, where all of them are taken: by rank, as its members or its group are listed
 abbrev pub sources_of : ℕ → (ℕ → List Call) → ℕ → ℕ → Option (List Point)
 sources_of ranks calls rank number = option_and_then (λ call. all_of (awaited ranks calls rank number call.what)) (slice_get (calls rank) number)
