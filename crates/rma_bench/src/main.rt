@@ -55,7 +55,7 @@ fn time_make(
     rt: HostRuntime,
     table: &mut TypeTable,
     name: &Name,
-    constructor: &Make,
+    constructor: Make,
 ) -> io::Result<()> {
     if table.types() == u32::MAX {
         return println!(rt; "the table is full");
@@ -67,7 +67,7 @@ fn time_make(
 }
 
 /// Prints how long a new table takes to make the datatype.
-fn time_first(rt: HostRuntime, constructor: &Make) -> io::Result<()> {
+fn time_first(rt: HostRuntime, constructor: Make) -> io::Result<()> {
     let name = made(Name::new(rt.alloc(), b"vector"))?;
     let mut table = made(TypeTable::new(rt.alloc()))?;
     time_make(rt, &mut table, &name, constructor)
@@ -77,7 +77,7 @@ fn time_first(rt: HostRuntime, constructor: &Make) -> io::Result<()> {
 fn time_vector(rt: HostRuntime, count: i32) -> io::Result<()> {
     print!(rt; "a vector of {count} elements: ")?;
     let constructor = vector(rt.alloc(), count)?;
-    time_first(rt, &constructor)
+    time_first(rt, constructor)
 }
 
 fn main(rt: HostRuntime) -> io::Result<()> {

@@ -123,7 +123,7 @@ impl Reader {
                 Ok(())
             }
             ReadEvent::Call { what, request } => self.read_call(no, site, what, request),
-            ReadEvent::Datatype(line) => self.read_datatype(no, &line),
+            ReadEvent::Datatype(line) => self.read_datatype(no, line),
             ReadEvent::Rma { line, request } => self.read_rma(no, site, &line, request),
             ReadEvent::Local(line) => self.read_local(no, site, &line),
         }
@@ -159,9 +159,9 @@ impl Reader {
     }
 
     // Judges a line that speaks of a datatype, and takes it where it is good.
-    fn read_datatype(&mut self, no: LineNo, line: &TypeLine) -> Result<(), Memory>
+    fn read_datatype(&mut self, no: LineNo, line: TypeLine) -> Result<(), Memory>
         requires { self.old.fault ≡ None }
-        ensures { OnOk result ((site : Option (List ℕ)) → Reads self.old self.new no (record { event = Datatype line.now; site = site })) }
+        ensures { OnOk result ((site : Option (List ℕ)) → Reads self.old self.new no (record { event = Datatype line; site = site })) }
     {
         if let Some(reason) = self.book.datatype(line)? {
             self.refuse(no, reason);

@@ -341,7 +341,7 @@ fn datatypes_of_a_table_that_knows_layouts(rt: HostRuntime) -> Result<(), Fail> 
         old: name(rt.alloc(), "INT")?,
     };
     assert!(rt; table.types().types() < u32::MAX);
-    let made = table.make(&pair, &constructor);
+    let made = table.make(&pair, constructor);
     assert!(rt; table.types().find(&pair) == made.ok());
     assert!(rt; table.commit(&pair).is_ok());
     assert!(rt; table.free(&pair).is_ok());

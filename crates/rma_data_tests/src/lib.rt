@@ -8,7 +8,6 @@ mod base;
 #[cfg(test)]
 mod bytes;
 #[cfg(test)]
-mod datatype;
 #[cfg(test)]
 mod io;
 #[cfg(test)]

@@ -282,7 +282,7 @@ pub(crate) fn make(
     let name = name(alloc, word)?;
     let constructor = plan::make(alloc, plan)?;
     assert!(rt; table.types() < 1000);
-    Ok(table.make(&name, &constructor))
+    Ok(table.make(&name, constructor))
 }
 
 /// What the table knows of a datatype.

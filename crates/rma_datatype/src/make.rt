@@ -1,7 +1,6 @@
 //! The constructors of derived datatypes, as a log states them (MPI 4.0, "Datatypes").
-ghost use Rattle.std.specs.Prelude.{◌≡◌, IfOk};
 
-use rma_base::{Memory, Name, Sequence};
+use rma_base::{Name, Sequence};
 
 /// A block of `indexed`: so many copies from a displacement counted in extents.
 #[derive(Clone, Copy, Debug, PartialEq, Eq)]
@@ -96,89 +95,4 @@ pub enum Make {
         old: Name,
         dimensions: Sequence<Dimension>,
     },
-}
-
-impl Make {
-    /// A constructor with the same arguments.
-    pub fn copy(&self) -> Result<Make, Memory>
-        ensures { IfOk result (λ make. make ≡ self.now) }
-    {
-        Ok(match self {
-            Make::Contiguous { count, old } => Make::Contiguous {
-                count: *count,
-                old: old.copy()?,
-            },
-            Make::Vector {
-                count,
-                length,
-                stride,
-                old,
-            } => Make::Vector {
-                count: *count,
-                length: *length,
-                stride: *stride,
-                old: old.copy()?,
-            },
-            Make::Hvector {
-                count,
-                length,
-                stride,
-                old,
-            } => Make::Hvector {
-                count: *count,
-                length: *length,
-                stride: *stride,
-                old: old.copy()?,
-            },
-            Make::Indexed { old, blocks } => Make::Indexed {
-                old: old.copy()?,
-                blocks: blocks.copy()?,
-            },
-            Make::Hindexed { old, blocks } => Make::Hindexed {
-                old: old.copy()?,
-                blocks: blocks.copy()?,
-            },
-            Make::IndexedBlock {
-                length,
-                old,
-                displacements,
-            } => Make::IndexedBlock {
-                length: *length,
-                old: old.copy()?,
-                displacements: displacements.copy()?,
-            },
-            Make::Struct { members } => Make::Struct {
-                members: copy_members(members)?,
-            },
-            Make::Resized { old, lower, extent } => Make::Resized {
-                old: old.copy()?,
-                lower: *lower,
-                extent: *extent,
-            },
-            Make::Subarray {
-                order,
-                old,
-                dimensions,
-            } => Make::Subarray {
-                order: *order,
-                old: old.copy()?,
-                dimensions: dimensions.copy()?,
-            },
-        })
-    }
-}
-
-/// A list of the same members.
-fn copy_members(members: &Sequence<Member>) -> Result<Sequence<Member>, Memory>
-    ensures { IfOk result (λ list. list ≡ members.now) }
-{
-    let mut copied = Sequence::new(members.allocator());
-    for member in members.as_slice() {
-        copied.push(Member {
-            length: member.length,
-            displacement: member.displacement,
-            old: member.old.copy()?,
-        })?;
-    }
-    Ok(copied)
 }

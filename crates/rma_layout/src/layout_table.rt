@@ -70,11 +70,11 @@ impl LayoutTable {
     /// # Errors
     ///
     /// Those of [`TypeTable::make`].
-    pub fn make(&mut self, name: &Name, constructor: &Make) -> Result<TypeId, TypeError>
+    pub fn make(&mut self, name: &Name, constructor: Make) -> Result<TypeId, TypeError>
         requires room { length self.old.origins + 1 < 2 ^ 32 }
-        ensures ok { IfOk result (IsMade self.old self.new name.now constructor.now) }
-        ensures taken { OnOk result (rule.refusal self.old name.now constructor.now ≡ None) }
-        ensures fault { IfErr result (rule.IsErrorOf (rule.refusal self.old name.now constructor.now)) }
+        ensures ok { IfOk result (IsMade self.old self.new name.now constructor) }
+        ensures taken { OnOk result (rule.refusal self.old name.now constructor ≡ None) }
+        ensures fault { IfErr result (rule.IsErrorOf (rule.refusal self.old name.now constructor)) }
         ensures err { OnErr result (self.new ≡ self.old) }
     {
         match self.types.make(name, constructor) {

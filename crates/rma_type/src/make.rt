@@ -90,19 +90,19 @@ impl TypeTable {
     ///
     /// # Errors
     /// The first [`TypeFault`], in their order, whose rule holds; and [`TypeError::Memory`].
-    pub fn make(&mut self, name: &Name, constructor: &Make) -> Result<TypeId, TypeError>
+    pub fn make(&mut self, name: &Name, constructor: Make) -> Result<TypeId, TypeError>
         requires room { length self.old.origins + 1 < 2 ^ 32 }
-        ensures ok { IfOk result (IsMade self.old self.new name.now constructor.now) }
-        ensures taken { OnOk result (refusal self.old name.now constructor.now ≡ None) }
-        ensures fault { IfErr result (IsErrorOf (refusal self.old name.now constructor.now)) }
+        ensures ok { IfOk result (IsMade self.old self.new name.now constructor) }
+        ensures taken { OnOk result (refusal self.old name.now constructor ≡ None) }
+        ensures fault { IfErr result (IsErrorOf (refusal self.old name.now constructor)) }
         ensures err { OnErr result (self.new ≡ self.old) }
     {
-        let old_types = self.check(name, constructor)?;
-        let summary = match self.measure(constructor, old_types.as_slice()) {
+        let old_types = self.check(name, &constructor)?;
+        let summary = match self.measure(&constructor, old_types.as_slice()) {
             Ok(summary) => summary,
             Err(fault) => return Err(TypeError::Fault(fault)),
         };
-        let Ok(source) = self.find_source(constructor, old_types.as_slice(), summary.entries) else {
+        let Ok(source) = self.find_source(&constructor, old_types.as_slice(), summary.entries) else {
             return Err(TypeError::Memory);
         };
         match self.add(name, constructor, old_types, summary, source) {

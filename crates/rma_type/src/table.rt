@@ -332,21 +332,20 @@ impl TypeTable {
     pub(crate) fn add(
         &mut self,
         name: &Name,
-        constructor: &Make,
+        constructor: Make,
         old_types: Sequence<TypeId>,
         summary: Summary,
         source: SignatureSource,
     ) -> Result<TypeId, Memory>
         requires room { length self.old.origins + 1 < 2 ^ 32 }
-        requires old_types_fit { ComesAfter (length self.old.origins) (Derived constructor.now old_types) }
-        requires summary_is { summary ≡ summary_of_new self.old.origins constructor.now old_types }
-        requires in_space { is_all_in_space (typemap_of (typemaps self.old.origins) (Derived constructor.now old_types)) ≡ true }
-        requires few { entry_count (typemap_of (typemaps self.old.origins) (Derived constructor.now old_types)) ≤ element_limit }
-        requires signed { IsSourceOf self.old.origins (signature (typemap_of (typemaps self.old.origins) (Derived constructor.now old_types))) source }
-        ensures ok { IfOk result (IsAdded self.old self.new name.now (Derived constructor.now old_types)) }
+        requires old_types_fit { ComesAfter (length self.old.origins) (Derived constructor old_types) }
+        requires summary_is { summary ≡ summary_of_new self.old.origins constructor old_types }
+        requires in_space { is_all_in_space (typemap_of (typemaps self.old.origins) (Derived constructor old_types)) ≡ true }
+        requires few { entry_count (typemap_of (typemaps self.old.origins) (Derived constructor old_types)) ≤ element_limit }
+        requires signed { IsSourceOf self.old.origins (signature (typemap_of (typemaps self.old.origins) (Derived constructor old_types))) source }
+        ensures ok { IfOk result (IsAdded self.old self.new name.now (Derived constructor old_types)) }
         ensures err { OnErr result (self.new ≡ self.old) }
     {
-        let constructor = constructor.copy()?;
         let name = name.copy()?;
         let draft = Draft {
             origin: Origin::Derived {

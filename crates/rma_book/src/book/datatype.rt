@@ -17,8 +17,8 @@ impl Book {
     /// # Errors
     ///
     /// `Memory` where memory ran out: the book no longer represents the events that it took.
-    pub fn datatype(&mut self, line: &TypeLine) -> Result<Option<FormReason>, Memory>
-        ensures { IfOk result (IsJudged self.old self.new (Datatype line.now)) }
+    pub fn datatype(&mut self, line: TypeLine) -> Result<Option<FormReason>, Memory>
+        ensures { IfOk result (IsJudged self.old self.new (Datatype line)) }
     {
         match self.later_reason() {
             Some(reason) => Ok(Some(reason)),
@@ -28,24 +28,24 @@ impl Book {
 }
 
 /// Changes the datatypes as the line says, or answers why it is bad.
-fn change(table: &mut LayoutTable, line: &TypeLine) -> Result<Option<FormReason>, Memory>
-    ensures { IfOk result (IsChanged table.old table.new line.now) }
+fn change(table: &mut LayoutTable, line: TypeLine) -> Result<Option<FormReason>, Memory>
+    ensures { IfOk result (IsChanged table.old table.new line) }
 {
     match line {
         TypeLine::Make { name, make } => made(table, name, make),
-        TypeLine::Commit { name } => Ok(fault_in(table.commit(name))),
-        TypeLine::Free { name } => Ok(fault_in(table.free(name))),
+        TypeLine::Commit { name } => Ok(fault_in(table.commit(&name))),
+        TypeLine::Free { name } => Ok(fault_in(table.free(&name))),
     }
 }
 
 /// Makes the datatype, or answers why it may not be made.
-fn made(table: &mut LayoutTable, name: &Name, make: &Make) -> Result<Option<FormReason>, Memory>
-    ensures { IfOk result (IsChanged table.old table.new (TypeLine.Make name.now make.now)) }
+fn made(table: &mut LayoutTable, name: Name, make: Make) -> Result<Option<FormReason>, Memory>
+    ensures { IfOk result (IsChanged table.old table.new (TypeLine.Make name make)) }
 {
     if table.types().types() == u32::MAX {
         return Err(Memory);
     }
-    match table.make(name, make) {
+    match table.make(&name, make) {
         Ok(_) => Ok(None),
         Err(TypeError::Fault(fault)) => Ok(Some(fault_reason(fault))),
         Err(TypeError::Memory) => Err(Memory),

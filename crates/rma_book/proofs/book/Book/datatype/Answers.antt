@@ -15,4 +15,4 @@ judged book types line (Ok reason) stand changed = datatype_judged book types li
 judged book types line (Err error) stand changed = tt
 
 pub returns-in-None : goal.returns-in-None
-returns-in-None c = rw (← c.self.view_is) (judged _ c.change.new.table c.args.line.now c.change.result (ap later c.self.view_is ∙ sym c.later_reason.ensures ∙ c.in-None.is) c.change.ensures)
+returns-in-None c = rw (← c.self.view_is) (judged _ c.change.new.table c.args.line c.change.result (ap later c.self.view_is ∙ sym c.later_reason.ensures ∙ c.in-None.is) c.change.ensures)
