@@ -102,7 +102,8 @@ impl TypeTable {
             Ok(summary) => summary,
             Err(fault) => return Err(TypeError::Fault(fault)),
         };
-        let Ok(source) = self.find_source(&constructor, old_types.as_slice(), summary.entries) else {
+        let Ok(source) = self.find_source(&constructor, old_types.as_slice(), summary.entries)
+        else {
             return Err(TypeError::Memory);
         };
         match self.add(name, constructor, old_types, summary, source) {
