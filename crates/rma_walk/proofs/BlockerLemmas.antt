@@ -1,11 +1,11 @@
 -- What blocks the next point of a rank.
-use Rattle.std.proofs.Common.{◌≡◌, ℕ, zero, suc, ◌+◌, ◌-◌, ◌*◌, ◌%◌, ◌<◌, ◌≤◌, ◌^◌, inl, inr, List, [], length, get_or, map, set, Some, refl, sym, ap, subst, ◌∙◌, arith, ⊎_elim}
+use Rattle.std.proofs.Common.{◌≡◌, ℕ, zero, suc, ◌+◌, ◌-◌, ◌*◌, ◌%◌, ◌<◌, ◌≤◌, ◌^◌, inl, inr, List, [], ◌∷◌, length, get_or, map, set, Some, refl, sym, ap, subst, ◌∙◌, arith, ⊎_elim}
 use Rattle.std.specs.Prelude.{Contains, All, slice_get, slice_index, slice_index_or}
 use Rattle.std.specs.List.Sorted.{IsStrictlyIncreasing}
 use Rattle.std.proofs.lemmas.Bool.{cases_eq, cases_lt}
-use Rattle.std.proofs.lemmas.List.{get_or-set_same, get_or-set_other, length-set, length-map}
+use Rattle.std.proofs.lemmas.List.{get_or-set_same, get_or-set_other, get_or_read, length-set, length-map}
 use Rattle.std.proofs.lemmas.Option.{same_Some, slice_get_within, get_or_from_slice_get}
-use Rattle.std.proofs.lemmas.List.Elements.{All-contains, Contains-get_or}
+use Rattle.std.proofs.lemmas.List.Elements.{All-contains, All-nil, All-cons, Contains-get_or}
 use Rattle.rma_base.specs.declared.rank.Rank.{Rank}
 use Rattle.rma_base.specs.declared.point.Point.{Point}
 use Rattle.rma_link.specs.declared.meet.Member.{Member}
@@ -21,7 +21,7 @@ use Rattle.rma_walk.specs.declared.pending.Pending.{Pending}
 use Rattle.rma_walk.specs.inside.Run.{IsRun, AreReadable, IsPassed, IsGathered, IsReady, IsBlocked, next_point}
 use Rattle.rma_walk.specs.Source.{IsEntryOf, sources_of}
 use Rattle.rma_walk.specs.inside.Pending.{IsSource, IsSourcePassed, IsMissing, IsReduced, IsInbox, IsKnown, IsPending}
-use Rattle.rma_walk.proofs.ListLemmas.{at_contains, contains_none}
+use Rattle.rma_walk.proofs.ListLemmas.{at_contains}
 use Rattle.rma_walk.proofs.InboxLemmas.{get_or-map_in}
 use Rattle.rma_walk.proofs.PendingLemmas.{in_ranks}
 
@@ -105,13 +105,20 @@ module _ (lens : List ℕ) (links : Links) (next : List ℕ) (run : IsRun lens l
       absurd (omega arith))
       (step_cases links p (next_point next rank) step)
 
+  pub inbox_at : (pending : Pending) (inbox : List (List Source)) → IsPending lens links next pending → slice_index next rank < 2 * slice_index lens rank
+      → inbox ≡ slice_index_or pending.inboxes.items rank inbox → IsInbox links next rank inbox
+  inbox_at pending inbox is more read =
+      let there : rank < length lens = in_ranks lens rank 0 (omega arith) in
+      let all = is.size in
+      subst (IsInbox links next rank) (sym (get_or_read pending.inboxes.items rank inbox (omega arith) read [])) (is.inboxes rank there)
+
   module _ (call : ℕ) (at : slice_index next rank ≡ 2 * call + 1) (inbox : List (List Source)) (own : IsInbox links next rank inbox) where
     here : next_point next rank ≡ return_of (record { 0 = rank }) call
     here = same_point (next_point next rank) (return_of (record { 0 = rank }) call) refl at
 
-    -- with no source left, all that leads to the return is passed
-    pub ready_at_return : sources_of inbox call ≡ [] → IsReady links next rank
-    ready_at_return none p step =
+    -- where the sources that are left are passed, all that leads to the return is
+    pub ready_at_return : All (IsSourcePassed links next) (sources_of inbox call) → IsReady links next rank
+    ready_at_return sources p step =
         ⊎_elim
         (λ (same : (p.rank ≡ (next_point next rank).rank) × (slice_index next rank ≡ p.pos + 1)).
         let own_next : slice_index next p.rank.0 ≡ slice_index next rank = ap (λ (r : Rank). slice_index next r.0) same.0 in
@@ -122,20 +129,28 @@ module _ (lens : List ℕ) (links : Links) (next : List ℕ) (run : IsRun lens l
         let E : Point → Type 0 = λ t. Contains links.edges (record { from = p; to = t }) in
         ⊎_elim
         (λ passed. passed)
-        (λ left. absurd (contains_none (Entry p) (subst (λ xs. Contains xs (Entry p)) none left)))
+        (λ left. All-contains (IsSourcePassed links next) (sources_of inbox call) (Entry p) sources left)
         (own.edges p call (subst E here edge)))
         (λ (met : IsMet links p (next_point next rank)).
         let found = at_contains links.meets met.meet met.is_meet in
         let second : met.second ≡ record { rank = record { 0 = rank }; call = call } = member_of rank call met.second (sym here ∙ met.to_return) in
-        ⊎_elim
-        (λ (gathered : IsGathered next met.meet).
+        let gathered : IsGathered next met.meet = ⊎_elim
+        (λ so. so)
+        (λ left. All-contains (IsSourcePassed links next) (sources_of inbox call) (Meet found.0) sources left met.meet found.1)
+        (own.meets found.0 met.meet call found.1 (subst (Contains met.meet.calls) second met.has_second)) in
         let passed : IsPassed next (entry met.first.rank met.first.call) =
         All-contains (λ (m : Member). IsPassed next (entry m.rank m.call)) met.meet.calls met.first gathered met.has_first in
         subst (IsPassed next) (sym met.from_entry) passed)
-        (λ left. absurd (contains_none (Meet found.0) (subst (λ xs. Contains xs (Meet found.0)) none left)))
-        (own.meets found.0 met.meet call found.1 (subst (Contains met.meet.calls) second met.has_second)))
         linked)
         (step_cases links p (next_point next rank) step)
+
+    pub ready_without : sources_of inbox call ≡ [] → IsReady links next rank
+    ready_without none = ready_at_return (subst (All (IsSourcePassed links next)) (sym none) (All-nil (IsSourcePassed links next)))
+
+    pub ready_gathered : (index : ℕ) → sources_of inbox call ≡ Meet index ∷ [] → IsSourcePassed links next (Meet index) → IsReady links next rank
+    ready_gathered index one passed =
+        let P : Source → Type 0 = IsSourcePassed links next in
+        ready_at_return (subst (All P) (sym one) (All-cons P (Meet index) [] passed (All-nil P)))
 
     -- a source with an entry that is not passed blocks the return
     linked_from : (source : Source) → Contains (sources_of inbox call) source → (p : Point) → IsEntryOf links source p → (IsPassed next p → ⊥) → IsLinked links p (next_point next rank)
@@ -161,6 +176,9 @@ module _ (lens : List ℕ) (links : Links) (next : List ℕ) (run : IsRun lens l
         let there : from.rank.0 < length lens = in_ranks lens from.rank.0 within.0 within.1 in
         omega arith
     source_fine (Meet index) has = let found = own.from_meet call index has in slice_get_within links.meets index found.0 found.1
+
+    pub meet_there : (index : ℕ) → sources_of inbox call ≡ Meet index ∷ [] → index < length links.meets
+    meet_there index one = source_fine (Meet index) (subst (λ xs. Contains xs (Meet index)) (sym one) (0, omega arith, refl))
 
     pub sources_fine : All (IsSource (length next) links) (sources_of inbox call)
     sources_fine k d lt = source_fine (get_or (sources_of inbox call) k d) (Contains-get_or (sources_of inbox call) k d lt)

@@ -7,6 +7,7 @@ pub mod AdvanceLemmas
 pub mod FollowLemmas
 pub mod StackLemmas
 pub mod WorkLemmas
+pub mod AheadLemmas
 pub mod SearchLemmas
 pub mod OutcomeLemmas
 pub mod ExistenceLemmas

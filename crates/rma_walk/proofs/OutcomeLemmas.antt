@@ -30,12 +30,14 @@ kept_at_start (Some list) empty = empty
 pub idle_at_start : (lens : List ℕ) (links : Links) (search : Search) → IsRun lens links → search.front.next.items ≡ replicate (length lens) 0 → IfSome search.front.order (λ list. list ≡ [])
     → IsPending lens links (replicate (length lens) 0) search.pending → search.waiting.items ≡ [] → search.free.items ≡ replicate (length lens) true → IsIdle lens links search 0
 idle_at_start lens links search run next empty pending nobody free = record {
-  run = run;
-  order = [];
-  front = subst (λ n. IsFront lens links n []) (sym next) (front_at_start lens links);
-  kept = kept_at_start search.front.order empty;
-  pending = subst (λ n. IsPending lens links n search.pending) (sym next) pending;
-  size = ap length free ∙ length-replicate (length lens) true;
+  walk = record {
+    run = run;
+    order = [];
+    front = subst (λ n. IsFront lens links n []) (sym next) (front_at_start lens links);
+    kept = kept_at_start search.front.order empty;
+    pending = subst (λ n. IsPending lens links n search.pending) (sym next) pending;
+    size = ap length free ∙ length-replicate (length lens) true;
+  };
   nobody = nobody;
   held = λ r taken. absurd (false≢true (sym taken ∙ ap (λ (bs : List Bool). slice_index_or bs r true) free ∙ replicate_at (length lens) r true));
   done = λ r less. absurd (omega arith);
@@ -46,13 +48,9 @@ pub search_from_idle : (lens : List ℕ) (links : Links) (search : Search) (rank
 search_from_idle lens links search rank lt idle =
     let P : List ℕ → Type 0 = λ ws. IsStack lens links search.front.next.items search.free.items ws rank rank in
     record {
-      run = idle.run;
-      order = idle.order;
-      front = idle.front;
-      kept = idle.kept;
-      pending = idle.pending;
+      walk = idle.walk;
       stack = subst P (sym idle.nobody) (record {
-        size = idle.size;
+        size = idle.walk.size;
         within = lt;
         root = refl;
         followed = λ some. absurd (omega arith);
@@ -99,7 +97,7 @@ module _ (lens : List ℕ) (links : Links) (search : Search) (rank current : ℕ
       let here : r ≡ current = (let same = itself in omega arith) in
       ⊎_elim
       (λ (end : 2 * slice_index lens current ≤ slice_index search.front.next.items current).
-      let bound = is.front.within current in
+      let bound = is.walk.front.within current in
       let all : slice_index search.front.next.items current ≡ 2 * slice_index lens current = omega arith in
       let P : ℕ → Type 0 = λ i. slice_index search.front.next.items i ≡ 2 * slice_index lens i in
       inl (subst P (sym here) all))
@@ -109,12 +107,7 @@ module _ (lens : List ℕ) (links : Links) (search : Search) (rank current : ℕ
 
   pub idle_from_search : IsIdle lens links search (rank + 1)
   idle_from_search = record {
-    run = is.run;
-    order = is.order;
-    front = is.front;
-    kept = is.kept;
-    pending = is.pending;
-    size = is.stack.size;
+    walk = is.walk;
     nobody = nobody;
     held = idle_held;
     done = idle_done;
@@ -174,13 +167,13 @@ cycle_of lens links next r settled differs =
 -- what a walk that is done with all ranks tells
 module _ (lens : List ℕ) (links : Links) (search : Search) (idle : IsIdle lens links search (length lens)) where
   pub possible_of : IsWhole lens search.front.next.items → IsPossible links
-  possible_of whole = whole_possible lens links search.front.next.items idle.order idle.front idle.run.within whole
+  possible_of whole = whole_possible lens links search.front.next.items idle.walk.order idle.walk.front idle.walk.run.within whole
 
   pub stuck_of : (stops : List (Option ℕ)) → AreStops lens search.front.next.items stops → IsStuck lens links stops
   stuck_of stops are =
       let r = are.part.0 in (
         cycle_of lens links search.front.next.items r (settled_of lens links search idle r are.part.1) are.part.2,
-        firsts_of lens links search.front.next.items idle.order idle.front (settled_of lens links search idle) stops are.each are.at,
+        firsts_of lens links search.front.next.items idle.walk.order idle.walk.front (settled_of lens links search idle) stops are.each are.at,
       )
 
   pub told_of : (found : Option (List (Option ℕ))) → MatchOption found (IsWhole lens search.front.next.items) (AreStops lens search.front.next.items)
@@ -190,8 +183,8 @@ module _ (lens : List ℕ) (links : Links) (search : Search) (idle : IsIdle lens
 
   pub order_of : IsWhole lens search.front.next.items → (list : List Point) → search.front.order ≡ Some list → IsOrder lens links list
   order_of whole list is =
-      let kept : list ≡ idle.order = subst (λ o. IsKept o idle.order) is idle.kept in
-      subst (IsOrder lens links) (sym kept) (whole_order lens links search.front.next.items idle.order idle.front idle.run.within whole)
+      let kept : list ≡ idle.walk.order = subst (λ o. IsKept o idle.walk.order) is idle.walk.kept in
+      subst (IsOrder lens links) (sym kept) (whole_order lens links search.front.next.items idle.walk.order idle.walk.front idle.walk.run.within whole)
 
 first_once : (links : Links) (rank : Rank) (len : ℕ) (one other : Option ℕ) → IsFirstImpossible links rank len one → IsFirstImpossible links rank len other → one ≡ other
 first_once links rank len None None a b = refl

@@ -1,8 +1,8 @@
 -- The sources of returns.
 use Rattle.std.proofs.Common.{◌≡◌, ℕ, zero, suc, ◌+◌, ◌*◌, ◌/◌, ◌<◌, ◌≤◌, ◌⊎◌, inl, inr, List, [], ◌∷◌, ◌++◌, length, get_or, drop, take, set, map, replicate, Option, is_some, false, IfNone, Some, None, refl, sym, ap, subst, ◌∙◌, arith, ⊎_elim}
-use Rattle.std.specs.Prelude.{Contains, slice_get, slice_index, slice_index_or}
+use Rattle.std.specs.Prelude.{All, Contains, slice_get, slice_index, slice_index_or}
 use Rattle.std.proofs.lemmas.Bool.{cases_eq, cases_lt, false≢true}
-use Rattle.std.proofs.lemmas.List.{get_or-set_same, get_or-set_other, length-set, get_or_past, take_more, length-map, length-replicate}
+use Rattle.std.proofs.lemmas.List.{get_or-set_same, get_or-set_other, length-set, get_or_past, get_or_read, take_more, length-map, length-replicate}
 use Rattle.std.proofs.lemmas.List.Elements.{Contains-push, Contains-push_cases, Contains-append_left}
 use Rattle.rma_base.specs.declared.point.Point.{Point}
 use Rattle.rma_link.specs.declared.edge.Edge.{Edge}
@@ -10,11 +10,12 @@ use Rattle.rma_link.specs.declared.meet.Member.{Member}
 use Rattle.rma_link.specs.declared.meet.Meet as meet
 use Rattle.rma_link.specs.declared.links.Links.{Links}
 use Rattle.rma_link.specs.Point.{return_of, IsReturn}
+use Rattle.rma_link.specs.Within.{IsMemberWithin, AreWithin}
 use Rattle.rma_walk.specs.declared.source.Source.{Source}
 use Rattle.rma_walk.specs.declared.source.Source.TheVariants.{Entry, Meet}
 use Rattle.rma_walk.specs.declared.pending.Pending.{Pending}
 use Rattle.rma_walk.specs.Source.{IsSourceOf, AreSources, IsEdgeSource, IsMemberSource, IsMeetSource, sources_of}
-use Rattle.rma_walk.specs.inside.Pending.{IsSourcePassed, AreAdded, IsReduced, IsInbox, IsKnown, IsPending}
+use Rattle.rma_walk.specs.inside.Pending.{no_meet, IsSourcePassed, AreAdded, IsReduced, IsInbox, IsKnown, IsPending}
 use Rattle.rma_walk.proofs.ListLemmas.{replicate_at, contains_cons, contains_cons_cases, contains_none, slice_get_front, slice_get_last, slice_get_push, first_is}
 
 -- one more source of one call
@@ -249,6 +250,14 @@ no_edge = record { from = record { rank = record { 0 = 0 }; pos = 0 }; to = reco
 
 abbrev pub no_member : Member
 no_member = record { rank = record { 0 = 0 }; call = 0 }
+
+-- each member of a meet of the run is a call of it
+pub member_within : (lens : List ℕ) (links : Links) (index : ℕ) (m : meet.Meet) (members : List Member) → AreWithin lens links → index < length links.meets
+    → m ≡ slice_index_or links.meets index m → members ≡ m.calls → (i : ℕ) → i < length members → IsMemberWithin lens (slice_index_or members i no_member)
+member_within lens links index m members ok lt read calls i less =
+    let whole : m ≡ slice_index_or links.meets index no_meet = get_or_read links.meets index m lt read no_meet in
+    let same : members ≡ (slice_index_or links.meets index no_meet).calls = calls ∙ ap (λ t. t.calls) whole in
+    subst (All (IsMemberWithin lens)) (sym same) (ok.meets index no_meet lt).0 i no_member less
 
 pub none_then : {A : Type 0} (o : Option A) (P : Type 0) → IfNone o P → is_some o ≡ false → P
 none_then None P holds none = holds

@@ -1,5 +1,5 @@
 -- A walk on its way.
-use Rattle.std.proofs.Common.{◌≡◌, ℕ, ◌*◌, ◌<◌, ◌⊎◌, Bool, true, false, List, [], ◌∷◌, ◌++◌, length, set, sym, ap, subst, arith, ⊎_elim}
+use Rattle.std.proofs.Common.{◌≡◌, ℕ, ◌*◌, ◌<◌, ◌⊎◌, Bool, true, false, List, [], ◌∷◌, ◌++◌, length, set, sym, ap, subst, ◌∙◌, arith, ⊎_elim}
 use Rattle.std.specs.Prelude.{slice_index, slice_index_or}
 use Rattle.std.proofs.lemmas.Bool.{cases_Bool}
 use Rattle.std.proofs.lemmas.List.{length-set}
@@ -34,23 +34,26 @@ module _ (lens : List ℕ) (links : Links) (old new : Search) (pending : Pending
 
     pub search_waits : IsSearch lens links new rank to
     search_waits =
-        let P : Front → Type 0 = λ f. IsFront lens links f.next.items is.order in
-        let K : Front → Type 0 = λ f. IsKept f.order is.order in
+        let P : Front → Type 0 = λ f. IsFront lens links f.next.items is.walk.order in
+        let K : Front → Type 0 = λ f. IsKept f.order is.walk.order in
         let Q : Front → Type 0 = λ f. IsPending lens links f.next.items new.pending in
         record {
-          run = is.run;
-          order = is.order;
-          front = subst P (sym front) is.front;
-          kept = subst K (sym front) is.kept;
-          pending = subst Q (sym front) (subst (IsPending lens links old.front.next.items) (sym pending_is) pends);
+          walk = record {
+            run = is.walk.run;
+            order = is.walk.order;
+            front = subst P (sym front) is.walk.front;
+            kept = subst K (sym front) is.walk.kept;
+            pending = subst Q (sym front) (subst (IsPending lens links old.front.next.items) (sym pending_is) pends);
+            size = ap length taken ∙ length-set old.free.items current false ∙ is.walk.size;
+          };
           stack = ⊎_elim
               (λ (free : slice_index_or (set old.free.items current false) other true ≡ true).
               stack_of (old.waiting.items ++ current ∷ []) other
-              (followed_other lens links old.front.next.items old.free.items old.waiting.items rank current is.stack is_free is.run.within other blocked free)
+              (followed_other lens links old.front.next.items old.free.items old.waiting.items rank current is.stack is_free is.walk.run.within other blocked free)
               (follows free).0 (follows free).1)
               (λ (stop : slice_index_or (set old.free.items current false) other true ≡ false).
               stack_of [] rank
-              (stopped_all lens links old.front.next.items old.free.items old.waiting.items rank current is.stack is_free is.run.within other blocked stop)
+              (stopped_all lens links old.front.next.items old.free.items old.waiting.items rank current is.stack is_free is.walk.run.within other blocked stop)
               (stops stop).0 (stops stop).1)
               (cases_Bool (slice_index_or (set old.free.items current false) other true));
         }
@@ -60,10 +63,10 @@ module _ (lens : List ℕ) (links : Links) (old new : Search) (pending : Pending
       (follows : ((old.waiting.items ≡ []) × (new.waiting.items ≡ []) × (to ≡ current) × (new.free.items ≡ old.free.items))
       ⊎ ((old.waiting.items ≡ new.waiting.items ++ to ∷ []) × (new.free.items ≡ set old.free.items to true))) where
     there : current < length old.front.next.items
-    there = let lt = is.stack.within in let size = is.front.ranks in omega arith
+    there = let lt = is.stack.within in let size = is.walk.front.ranks in omega arith
 
     passed_front : (order : List Point) × IsFront lens links new.front.next.items order × IsKept new.front.order order
-    passed_front = advanced.front is.order is.front is.kept
+    passed_front = advanced.front is.walk.order is.walk.front is.walk.kept
 
     front_later : IsFront lens links (set old.front.next.items current advanced.pos) passed_front.0
     front_later = subst (λ next. IsFront lens links next passed_front.0) advanced.next passed_front.1
@@ -90,11 +93,14 @@ module _ (lens : List ℕ) (links : Links) (old new : Search) (pending : Pending
         let pending_is_later : IsPending lens links (set old.front.next.items current advanced.pos) pending =
         pending_later links old.front.next.items (set old.front.next.items current advanced.pos) (passed_kept old.front.next.items current advanced.pos there advanced.more) lens pending pends in
         record {
-          run = is.run;
-          order = passed_front.0;
-          front = passed_front.1;
-          kept = passed_front.2;
-          pending = subst R (sym advanced.next) (subst (IsPending lens links (set old.front.next.items current advanced.pos)) (sym pending_is) pending_is_later);
+          walk = record {
+            run = is.walk.run;
+            order = passed_front.0;
+            front = passed_front.1;
+            kept = passed_front.2;
+            pending = subst R (sym advanced.next) (subst (IsPending lens links (set old.front.next.items current advanced.pos)) (sym pending_is) pending_is_later);
+            size = passed_stack.size;
+          };
           stack = subst S (sym advanced.next) passed_stack;
         }
 
@@ -105,12 +111,12 @@ module _ (lens : List ℕ) (links : Links) (old new : Search) (pending : Pending
         (⊎_elim
         (λ (alone : (old.waiting.items ≡ []) × (new.waiting.items ≡ []) × (to ≡ current) × (new.free.items ≡ old.free.items)).
         let P : List Bool → Type 0 = λ free. work lens (set old.front.next.items current advanced.pos) free < work lens old.front.next.items old.free.items in
-        subst P (sym alone.3) (less_by_passing lens old.front.next.items old.free.items current advanced.pos there advanced.more is.front.ranks front_later.within front_later.ranks))
+        subst P (sym alone.3) (less_by_passing lens old.front.next.items old.free.items current advanced.pos there advanced.more is.walk.front.ranks front_later.within front_later.ranks))
         (λ (below : (old.waiting.items ≡ new.waiting.items ++ to ∷ []) × (new.free.items ≡ set old.free.items to true)).
         let P : List Bool → Type 0 = λ free. work lens (set old.front.next.items current advanced.pos) free < work lens old.front.next.items old.free.items in
         let size = passed_stack.size in
         let in_ranks = passed_stack.within in
         let same : length (set old.free.items to true) ≡ length old.free.items = length-set old.free.items to true in
         let len : length new.free.items ≡ length (set old.free.items to true) = ap length below.1 in
-        subst P (sym below.1) (less_by_returning lens old.front.next.items old.free.items current advanced.pos there advanced.more is.front.ranks front_later.within front_later.ranks to (omega arith)))
+        subst P (sym below.1) (less_by_returning lens old.front.next.items old.free.items current advanced.pos there advanced.more is.walk.front.ranks front_later.within front_later.ranks to (omega arith)))
         follows)

@@ -16,10 +16,10 @@ use Rattle.rma_walk.specs.inside.Search.{line, IsLine, IsStopped, IsDone, IsStac
 use Rattle.rma_walk.proofs.ListLemmas.{contains_none}
 use Rattle.rma_walk.proofs.FollowLemmas.{other_within, other_first, other_has_next, cycle_back}
 
-line_front : (waiting : List ℕ) (current j : ℕ) → j < length waiting → slice_index (line waiting current) j ≡ slice_index waiting j
+pub line_front : (waiting : List ℕ) (current j : ℕ) → j < length waiting → slice_index (line waiting current) j ≡ slice_index waiting j
 line_front waiting current j lt = get_or_append_left waiting (current ∷ []) 0 j lt
 
-line_last : (waiting : List ℕ) (current j : ℕ) → j ≡ length waiting → slice_index (line waiting current) j ≡ current
+pub line_last : (waiting : List ℕ) (current j : ℕ) → j ≡ length waiting → slice_index (line waiting current) j ≡ current
 line_last waiting current j last = get_or_push waiting current 0 j (sym last)
 
 moved : (links : Links) (next : List ℕ) (a b c d : ℕ) → a ≡ c → b ≡ d → IsAtOrBefore links (next_point next a) (next_point next b) → IsAtOrBefore links (next_point next c) (next_point next d)

@@ -1,5 +1,6 @@
 //! What the calls of one rank wait for.
 ghost use Rattle.std.specs.Prelude.{◌≡◌, ◌<◌, [], ◌∷◌, length, replicate, drop, slice_get, slice_index_or, slice_set, IfOk, OnOk};
+ghost use Rattle.rma_walk.specs.inside.Inbox.{AreKept};
 
 use crate::source::Source;
 use crate::waits::{Arrival, ShortSource, Waits};
@@ -60,6 +61,15 @@ impl Inbox {
         self.arrivals.push(Arrival { source, before })?;
         self.waits[call as usize] = Waits::Arrivals(index);
         Ok(())
+    }
+
+    /// How it is kept what the call waits for.
+    #[inline]
+    pub(crate) fn waits(&self, call: u32) -> Waits
+        requires { call < length self.now }
+        ensures { AreKept result (slice_index_or self.now call []) }
+    {
+        self.waits[call as usize]
     }
 
     /// The first source of the call that is left.

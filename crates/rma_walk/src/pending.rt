@@ -1,10 +1,11 @@
 //! What the returns of all ranks still wait for.
-ghost use Rattle.std.specs.Prelude.{◌≡◌, ◌<◌, ◌*◌, ◌≤◌, ◌^◌, ℕ, [], length, slice_index, slice_index_or, replicate, map, All, Contains, IfOk, OnOk, IfSome, IfNone};
+ghost use Rattle.std.specs.Prelude.{◌≡◌, ◌<◌, ◌*◌, ◌≤◌, ◌^◌, ℕ, List, [], true, length, slice_index, slice_index_or, replicate, map, All, Contains, IfOk, OnOk, IfSome, IfNone};
 ghost use Rattle.std.specs.List.{AllWithin};
 ghost use Rattle.rma_link.specs.declared.meet.Member.{Member};
 ghost use Rattle.rma_link.specs.Point.{entry};
 ghost use Rattle.rma_link.specs.Within.{AreWithin};
 ghost use Rattle.rma_walk.specs.declared.source.Source.{Source};
+ghost use Rattle.rma_walk.specs.declared.source.Source.TheVariants.{Meet};
 ghost use Rattle.rma_walk.specs.inside.Run.{IsRun, AreReadable, IsPassed, IsReady, IsBlocked};
 ghost use Rattle.rma_walk.specs.Source.{AreSources, IsEdgeSource, IsMemberSource, IsMeetSource, sources_of};
 ghost use Rattle.rma_walk.specs.inside.Pending.{IsSource, IsSourcePassed, IsMissing, IsKnown, IsReduced, AreAdded, IsPending, no_meet};
@@ -13,6 +14,7 @@ use crate::front::is_passed;
 use crate::inbox::Inbox;
 use crate::run::Run;
 use crate::source::Source;
+use crate::waits::Waits;
 use rma_base::Memory;
 use rma_link::{Links, Member};
 use std::alloc::Global;
@@ -53,6 +55,57 @@ impl Pending {
         }
         let inbox = &mut self.inboxes[rank as usize];
         blocker(inbox, &mut self.known, run.links, next, pos / 2)
+    }
+
+    /// Whether nothing is known to block the next point of the rank. A return that waits for more than one source is left to
+    /// `blocker`.
+    #[inline]
+    pub(crate) fn is_ready(&self, run: &Run<'_>, next: &[u32], rank: u32) -> bool
+        requires run { IsRun run.now.lens.now run.now.links.now }
+        requires pending { IsPending run.now.lens.now run.now.links.now next.now self.now }
+        requires size { length next.now ≡ length run.now.lens.now }
+        requires rank { slice_index next.now rank < 2 * slice_index run.now.lens.now rank }
+        ensures { result ≡ true → IsReady run.now.links.now next.now rank }
+    {
+        let pos = next[rank as usize];
+        if pos % 2 == 0 {
+            return true;
+        }
+        match self.inboxes[rank as usize].waits(pos / 2) {
+            Waits::Nothing => true,
+            Waits::Meet(index) => self.is_gathered(run.links, index),
+            Waits::Arrivals(_) => false,
+        }
+    }
+
+    /// Whether all members of the meet are known to be entered.
+    #[inline]
+    fn is_gathered(&self, links: &Links, index: u32) -> bool
+        requires index { index < length links.now.meets }
+        requires known { index < length self.now.known.items }
+        ensures { (next : List ℕ) → IsKnown links.now next self.now.known.items → result ≡ true → IsSourcePassed links.now next (Meet index) }
+    {
+        let index = index as usize;
+        self.known[index] as usize == links.meets.get(index).calls.len()
+    }
+
+    /// The meet that the next point of the rank waits for, where it waits for that alone.
+    #[inline]
+    pub(crate) fn meet(&self, run: &Run<'_>, next: &[u32], rank: u32) -> Option<usize>
+        requires run { IsRun run.now.lens.now run.now.links.now }
+        requires pending { IsPending run.now.lens.now run.now.links.now next.now self.now }
+        requires size { length next.now ≡ length run.now.lens.now }
+        requires rank { slice_index next.now rank < 2 * slice_index run.now.lens.now rank }
+        ensures { IfSome result (λ index. index < length run.now.links.now.meets) }
+    {
+        let pos = next[rank as usize];
+        if pos % 2 == 0 {
+            return None;
+        }
+        match self.inboxes[rank as usize].waits(pos / 2) {
+            Waits::Meet(index) => Some(index as usize),
+            _ => None,
+        }
     }
 }
 

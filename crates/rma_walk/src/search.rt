@@ -1,10 +1,11 @@
 //! A walk on its way.
 ghost use Rattle.std.specs.Prelude.{◌≡◌, ◌<◌, ◌≤◌, ◌+◌, ◌*◌, ◌^◌, ◌++◌, ◌⊎◌, [], ◌∷◌, true, false, length, slice_index, slice_index_or, slice_set, is_some, All, IfOk, IfSome, OnOk};
-ghost use Rattle.rma_walk.specs.inside.Run.{IsRun, IsReady};
+ghost use Rattle.rma_link.specs.Point.{IsPoint};
+ghost use Rattle.rma_walk.specs.inside.Run.{IsRun, IsPassed, IsReady};
 ghost use Rattle.rma_walk.specs.inside.Front.{HasAdvanced};
-ghost use Rattle.rma_walk.specs.inside.Search.{IsSearch, IsIdle, work};
+ghost use Rattle.rma_walk.specs.inside.Search.{IsWalk, IsAhead, IsSearch, IsIdle, work};
 
-use crate::front::Front;
+use crate::front::{Front, is_passed};
 use crate::pending::Pending;
 use crate::run::Run;
 use rma_base::{Memory, Point, Sequence};
@@ -95,10 +96,84 @@ impl Search {
         ensures less { OnOk result (work run.now.lens.now self.new.front.next.items self.new.free.items < work run.now.lens.now self.old.front.next.items self.old.free.items) }
         ensures keeps { OnOk result (is_some self.new.front.order ≡ is_some self.old.front.order) }
     {
+        self.gather(run, current)?;
+        self.follow(run, rank, current)
+    }
+
+    /// Passes the next point of the rank, or waits for one of another rank.
+    #[inline]
+    fn follow(&mut self, run: &Run<'_>, rank: u32, current: u32) -> Result<u32, Memory>
+        requires search { IsSearch run.now.lens.now run.now.links.now self.old rank current }
+        requires next { slice_index self.old.front.next.items current < 2 * slice_index run.now.lens.now current }
+        requires free { slice_index_or self.old.free.items current true ≡ true }
+        ensures search { IfOk result (λ to. IsSearch run.now.lens.now run.now.links.now self.new rank to) }
+        ensures less { OnOk result (work run.now.lens.now self.new.front.next.items self.new.free.items < work run.now.lens.now self.old.front.next.items self.old.free.items) }
+        ensures keeps { OnOk result (is_some self.new.front.order ≡ is_some self.old.front.order) }
+    {
         match self.pending.blocker(run, &self.front.next, current) {
             Some(other) => self.wait(rank, current, other),
             None => self.pass(run, current),
         }
+    }
+
+    /// Where the rank is to return from a meet, other members are passed up to their entries, as far as nothing blocks them.
+    #[inline]
+    fn gather(&mut self, run: &Run<'_>, current: u32) -> Result<(), Memory>
+        requires walk { IsWalk run.now.lens.now run.now.links.now self.old }
+        requires next { slice_index self.old.front.next.items current < 2 * slice_index run.now.lens.now current }
+        ensures { OnOk result (IsAhead run.now.lens.now run.now.links.now current self.old self.new) }
+    {
+        match self.pending.meet(run, &self.front.next, current) {
+            Some(index) => self.gather_members(run, current, index),
+            None => Ok(()),
+        }
+    }
+
+    /// Passes the entries of the members of the meet, up to the first one that is blocked.
+    fn gather_members(&mut self, run: &Run<'_>, current: u32, index: usize) -> Result<(), Memory>
+        requires walk { IsWalk run.now.lens.now run.now.links.now self.old }
+        requires index { index < length run.now.links.now.meets }
+        ensures { OnOk result (IsAhead run.now.lens.now run.now.links.now current self.old self.new) }
+    {
+        let members = run.links.meets.get(index).calls.as_slice();
+        for member in self.pending.known[index]..members.len() as u32 {
+            if !self.reach(run, current, members[member as usize].entry())? {
+                return Ok(());
+            }
+            self.pending.known[index] = member + 1;
+        }
+        Ok(())
+    }
+
+    /// Passes points of a rank up to this one, as long as nothing blocks them. Answers whether it is passed. The rank that is
+    /// followed stays where it is.
+    #[inline]
+    fn reach(&mut self, run: &Run<'_>, current: u32, point: Point) -> Result<bool, Memory>
+        requires walk { IsWalk run.now.lens.now run.now.links.now self.old }
+        requires point { IsPoint run.now.lens.now point }
+        ensures ahead { OnOk result (IsAhead run.now.lens.now run.now.links.now current self.old self.new) }
+        ensures pending { self.new.pending ≡ self.old.pending }
+        ensures passed { IfOk result (λ passed. passed ≡ true → IsPassed self.new.front.next.items point) }
+    {
+        let rank = point.rank.0;
+        while !is_passed(&self.front.next, point) {
+            if rank == current || !self.is_ready(run, rank) {
+                return Ok(false);
+            }
+            self.front.advance(run, rank)?;
+        }
+        Ok(true)
+    }
+
+    /// Whether the rank may be followed, and nothing blocks its next point.
+    #[inline]
+    fn is_ready(&self, run: &Run<'_>, rank: u32) -> bool
+        requires walk { IsWalk run.now.lens.now run.now.links.now self.now }
+        requires next { slice_index self.now.front.next.items rank < 2 * slice_index run.now.lens.now rank }
+        ensures free { result ≡ true → slice_index_or self.now.free.items rank true ≡ true }
+        ensures ready { result ≡ true → IsReady run.now.links.now self.now.front.next.items rank }
+    {
+        self.free[rank as usize] && self.pending.is_ready(run, &self.front.next, rank)
     }
 
     /// The rank that is followed waits for another one. That one is followed next, if it may be; else all that wait are

@@ -1,5 +1,5 @@
 -- The sources of the calls of a rank, as an inbox keeps them.
-use Rattle.std.specs.Prelude.{ℕ, zero, suc, ◌≤◌, ◌<◌, List, [], ◌∷◌, length, slice_index_or, All}
+use Rattle.std.specs.Prelude.{ℕ, ◌≡◌, zero, suc, ◌≤◌, ◌<◌, List, [], ◌∷◌, length, slice_index_or, All}
 use Rattle.rma_walk.specs.declared.source.Source.{Source}
 use Rattle.rma_walk.specs.declared.source.Source.TheVariants as source
 use Rattle.rma_walk.specs.declared.waits.Waits.{Waits}
@@ -43,3 +43,9 @@ AreEarlier arrivals = (k : ℕ) → k < length arrivals → reach (slice_index_o
 pub record AreChained (arrivals : List Arrival) (waits : List Waits) : Type 0 where
   pub earlier : AreEarlier arrivals
   pub within : All (λ w. reach w ≤ length arrivals) waits
+
+-- such sources are kept so: none, or one meet, without an arrival
+abbrev pub AreKept : Waits → List Source → Type 0
+AreKept Nothing sources = sources ≡ []
+AreKept (Meet index) sources = sources ≡ source.Meet index ∷ []
+AreKept (Arrivals index) sources = Unit {0}

@@ -9,15 +9,8 @@ use Rattle.rma_walk.specs.declared.source.Source.{Source}
 use Rattle.rma_walk.specs.declared.source.Source.TheVariants.{Meet}
 use Rattle.rma_walk.specs.Source.{IsMemberSource, sources_of}
 use Rattle.rma_walk.specs.inside.Pending.{AreAdded, no_meet}
-use Rattle.rma_walk.proofs.PendingLemmas.{no_member, in_ranks, added_member}
+use Rattle.rma_walk.proofs.PendingLemmas.{no_member, in_ranks, member_within, added_member}
 use Rattle.rma_walk.proofs.pending.add_members.Goals as goal
-
-member_within : (lens : List ℕ) (links : Links) (index : ℕ) (m : meet.Meet) (members : List Member) → AreWithin lens links → index < length links.meets
-    → m ≡ slice_index_or links.meets index m → members ≡ m.calls → (i : ℕ) → i < length members → IsMemberWithin lens (slice_index_or members i no_member)
-member_within lens links index m members ok lt read calls i less =
-    let whole : m ≡ slice_index_or links.meets index no_meet = get_or_read links.meets index m lt read no_meet in
-    let same : members ≡ (slice_index_or links.meets index no_meet).calls = calls ∙ ap (λ t. t.calls) whole in
-    subst (All (IsMemberWithin lens)) (sym same) (ok.meets index no_meet lt).0 i no_member less
 
 pub index_mut-inbox-requires : goal.index_mut-inbox-requires
 index_mut-inbox-requires c =

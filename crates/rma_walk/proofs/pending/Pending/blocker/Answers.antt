@@ -5,10 +5,10 @@ use Rattle.std.proofs.lemmas.Option.{IfSome_then}
 use Rattle.rma_walk.specs.declared.source.Source.{Source}
 use Rattle.rma_walk.specs.inside.Run.{IsReady}
 use Rattle.rma_walk.specs.Source.{sources_of}
-use Rattle.rma_walk.specs.inside.Pending.{IsInbox, IsReduced}
+use Rattle.rma_walk.specs.inside.Pending.{IsReduced}
 use Rattle.rma_walk.proofs.ListLemmas.{none_later}
 use Rattle.rma_walk.proofs.PendingLemmas.{in_ranks}
-use Rattle.rma_walk.proofs.BlockerLemmas.{readable_of, ready_at_entry, ready_at_return, blocked_at_return, sources_fine, inbox_reduced, pending_reduced}
+use Rattle.rma_walk.proofs.BlockerLemmas.{readable_of, ready_at_entry, ready_without, inbox_at, blocked_at_return, sources_fine, inbox_reduced, pending_reduced}
 use Rattle.rma_walk.proofs.pending.Pending.blocker.Goals as goal
 
 pub returns-then-pos-eq0-clause-none : goal.returns-then-pos-eq0-clause-none
@@ -24,13 +24,10 @@ blocker-requires-clause-sources c =
     let links = c.args.run.now.links.now in
     let next = c.args.next.now in
     let rank = c.args.rank in
-    let inboxes = c.args.self.now.inboxes.items in
     let call : ℕ = slice_index next rank / 2 in
     let at : slice_index next rank ≡ 2 * call + 1 = (let odd = c.if-pos-eq0.false in omega arith) in
-    let there : rank < length lens = in_ranks lens rank 0 (let lt = c.requires.rank in omega arith) in
-    let inbox = get_or_read inboxes rank c.index_mut-inbox.result.now (let size = c.requires.pending.size in omega arith) c.index_mut-inbox.ensures.value [] in
     sources_fine lens links next c.requires.run c.requires.size rank call at c.index_mut-inbox.result.now
-    (subst (IsInbox links next rank) (sym inbox) (c.requires.pending.inboxes rank there))
+    (inbox_at lens links next c.requires.run c.requires.size rank c.args.self.now c.index_mut-inbox.result.now c.requires.pending c.requires.rank c.index_mut-inbox.ensures.value)
 
 pub returns-clause-pending : goal.returns-clause-pending
 returns-clause-pending c =
@@ -50,14 +47,11 @@ returns-clause-none c =
     let links = c.args.run.now.links.now in
     let next = c.args.next.now in
     let rank = c.args.rank in
-    let inboxes = c.args.self.now.inboxes.items in
     let call : ℕ = slice_index next rank / 2 in
     let at : slice_index next rank ≡ 2 * call + 1 = (let odd = c.if-pos-eq0.false in omega arith) in
-    let there : rank < length lens = in_ranks lens rank 0 (let lt = c.requires.rank in omega arith) in
-    let inbox = get_or_read inboxes rank c.index_mut-inbox.result.now (let size = c.requires.pending.size in omega arith) c.index_mut-inbox.ensures.value [] in
-    let own : IsInbox links next rank c.index_mut-inbox.result.now = subst (IsInbox links next rank) (sym inbox) (c.requires.pending.inboxes rank there) in
+    let own = inbox_at lens links next c.requires.run c.requires.size rank c.args.self.now c.index_mut-inbox.result.now c.requires.pending c.requires.rank c.index_mut-inbox.ensures.value in
     none_later c.blocker.result (sources_of c.blocker.new.inbox call ≡ []) (IsReady links next rank) c.blocker.ensures.none
-    (ready_at_return lens links next c.requires.run c.requires.size rank call at c.blocker.new.inbox
+    (ready_without lens links next c.requires.run c.requires.size rank call at c.blocker.new.inbox
     (inbox_reduced links next rank c.index_mut-inbox.result.now c.blocker.new.inbox own c.blocker.ensures.reduced))
 
 pub returns-clause-some : goal.returns-clause-some
@@ -66,13 +60,10 @@ returns-clause-some c =
     let links = c.args.run.now.links.now in
     let next = c.args.next.now in
     let rank = c.args.rank in
-    let inboxes = c.args.self.now.inboxes.items in
     let call : ℕ = slice_index next rank / 2 in
     let at : slice_index next rank ≡ 2 * call + 1 = (let odd = c.if-pos-eq0.false in omega arith) in
-    let there : rank < length lens = in_ranks lens rank 0 (let lt = c.requires.rank in omega arith) in
     let fits : call < slice_index lens rank = (let lt = c.requires.rank in omega arith) in
-    let inbox = get_or_read inboxes rank c.index_mut-inbox.result.now (let size = c.requires.pending.size in omega arith) c.index_mut-inbox.ensures.value [] in
-    let own : IsInbox links next rank c.index_mut-inbox.result.now = subst (IsInbox links next rank) (sym inbox) (c.requires.pending.inboxes rank there) in
+    let own = inbox_at lens links next c.requires.run c.requires.size rank c.args.self.now c.index_mut-inbox.result.now c.requires.pending c.requires.rank c.index_mut-inbox.ensures.value in
     IfSome_then c.blocker.result c.blocker.ensures.some
     (λ other found. blocked_at_return lens links next c.requires.run c.requires.size rank call at c.blocker.new.inbox
     (inbox_reduced links next rank c.index_mut-inbox.result.now c.blocker.new.inbox own c.blocker.ensures.reduced) fits other found.0 found.1 found.2)

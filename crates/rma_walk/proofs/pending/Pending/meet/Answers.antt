@@ -1,0 +1,20 @@
+use Rattle.std.proofs.Common.{◌≡◌, ◌+◌, ◌*◌, ◌/◌, ℕ, subst, arith}
+use Rattle.std.specs.Prelude.{slice_index}
+use Rattle.rma_walk.specs.declared.waits.Waits.{Waits}
+use Rattle.rma_walk.specs.Source.{sources_of}
+use Rattle.rma_walk.specs.inside.Inbox.{AreKept}
+use Rattle.rma_walk.proofs.BlockerLemmas.{inbox_at, meet_there}
+use Rattle.rma_walk.proofs.pending.Pending.meet.Goals as goal
+
+pub returns-in-Meet : goal.returns-in-Meet
+returns-in-Meet c =
+    let lens = c.args.run.now.lens.now in
+    let links = c.args.run.now.links.now in
+    let next = c.args.next.now in
+    let rank = c.args.rank in
+    let inbox = c.index.result.now in
+    let call : ℕ = slice_index next rank / 2 in
+    let at : slice_index next rank ≡ 2 * call + 1 = (let odd = c.if-pos-eq0.false in omega arith) in
+    let own = inbox_at lens links next c.requires.run c.requires.size rank c.args.self.now inbox c.requires.pending c.requires.rank c.index.ensures in
+    let P : Waits → Type 0 = λ w. AreKept w (sources_of inbox call) in
+    meet_there lens links next c.requires.run c.requires.size rank call at inbox own c.in-Meet.index (subst P c.in-Meet.is c.waits.ensures)
