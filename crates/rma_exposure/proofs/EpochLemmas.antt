@@ -1,10 +1,17 @@
 -- What is kept of the epochs of a rank, with one more call.
-use Rattle.std.proofs.Common.{◌≡◌, ℕ, ◌+◌, Bool, true, false, cond, ◌&&◌, ◌∷◌, ◌++◌, List, [], length, Option, Some, None, Result, Ok, Err, nat_eq, refl, sym, ap, subst, ◌∙◌, arith, append-nil}
-use Rattle.std.specs.Map.{lookup}
+use Rattle.std.proofs.Common.{◌≡◌, ℕ, suc, ◌+◌, Bool, true, false, cond, ◌&&◌, ◌∷◌, ◌++◌, List, [], length, Option, Some, None, Result, Ok, Err, nat_eq, refl, sym, ap, subst, ◌∙◌, arith, append-nil, append_assoc}
+use Rattle.std.specs.Map.{lookup, keys_of}
+use Rattle.std.specs.Option.{option_map_or, option_and_then}
+use Rattle.std.proofs.lemmas.List.{map-append}
+use Rattle.std.proofs.lemmas.Option.{slice_get_past}
+use Rattle.indexmap.specs.IndexMap.{IndexMap, insert_entry}
+use Rattle.indexmap.proofs.CallerLemmas.{insert_entry-new}
 use Rattle.std.specs.Prelude.{OnOk, option_map}
 use Rattle.std.specs.Cmp.Lexicographic.{pointwise, nat_list_eq_equiv}
 use Rattle.rma_base.specs.RankSet.{has_number}
+use Rattle.rma_base.specs.declared.rank.Rank.{Rank}
 use Rattle.rma_call.specs.Call.{Call}
+use Rattle.rma_run.specs.Run.{by_number}
 use Rattle.rma_exposure.specs.declared.side.Side.{Side}
 use Rattle.rma_exposure.specs.declared.side.Side.TheVariants.{Exposure, Access}
 use Rattle.rma_exposure.specs.declared.side_epochs.SideEpochs.{SideEpochs}
@@ -12,7 +19,7 @@ use Rattle.rma_exposure.specs.declared.rank_epochs.RankEpochs.{RankEpochs}
 use Rattle.rma_exposure.specs.Opening.{Opening, posted, started, waited, completed, opening_at, opened, closed, opens_on, opens_with, closes_on}
 use Rattle.rma_exposure.specs.Matching.{numbers}
 use Rattle.rma_exposure.specs.Closing.{pending_of}
-use Rattle.rma_exposure.specs.inside.Epochs.{kept, numbers_in, pending_in, IsOpened, is_pending, stated, HaveNoEpochs, AreEpochs, AreOfRank, IsOfRank}
+use Rattle.rma_exposure.specs.inside.Epochs.{IsNeither, number_of_opener, openers, kept, kept_of, numbers_in, pending_in, IsOpened, is_pending, stated, HaveNoEpochs, AreEpochs, AreOfRank, IsOfRank}
 use Rattle.rma_exposure.proofs.CallLemmas.{numbers_from_push, next_pending, pending_after_push, closing_of_push, closing_at_same, opener_of_past, opener_of_same, opener_of_closed, opening_at_push, opening_at_same, closes_is, closes_none}
 
 numbers_push : (side : Side) (window : List ℕ) (other : ℕ) (calls : List Call) (call : Call) →
@@ -45,6 +52,25 @@ pending_same side window calls call opens closes =
     ∙ ap (λ b. cond b (Some (length calls)) (cond (closes_on side window call) None (pending_of side window calls))) (not_on side window call opens)
     ∙ ap (λ b. cond b None (pending_of side window calls)) (closes_none side window call closes)
 
+-- the numbers of the calls that open epochs, with one call more
+openers_from_push : (side : Side) (n : ℕ) (calls : List Call) (call : Call) →
+    by_number (number_of_opener side) n (calls ++ call ∷ []) ≡ by_number (number_of_opener side) n calls ++ number_of_opener side (n + length calls) call
+openers_from_push side n [] call = append-nil (number_of_opener side n call) ∙ ap (λ k. number_of_opener side k call) (let e : n ≡ n + 0 = omega arith in e)
+openers_from_push side n (x ∷ xs) call =
+    ap (λ l. number_of_opener side n x ++ l) (openers_from_push side (n + 1) xs call)
+    ∙ sym (append_assoc (number_of_opener side n x) (by_number (number_of_opener side) (n + 1) xs) (number_of_opener side (n + 1 + length xs) call))
+    ∙ ap (λ k. by_number (number_of_opener side) n (x ∷ xs) ++ number_of_opener side k call) (let e : n + 1 + length xs ≡ n + suc (length xs) = omega arith in e)
+
+openers_push : (side : Side) (calls : List Call) (call : Call) (opening : Option Opening) → opened side call.what ≡ opening →
+    openers side (calls ++ call ∷ []) ≡ openers side calls ++ option_map_or (λ o. length calls ∷ []) opening []
+openers_push side calls call opening is =
+    openers_from_push side 0 calls call
+    ∙ ap (λ k. openers side calls ++ number_of_opener side k call) (let e : 0 + length calls ≡ length calls = omega arith in e)
+    ∙ ap (λ o. openers side calls ++ option_map_or (λ (opening : Opening). length calls ∷ []) o []) is
+
+openers_same : (side : Side) (calls : List Call) (call : Call) → opened side call.what ≡ None → openers side (calls ++ call ∷ []) ≡ openers side calls
+openers_same side calls call opens = openers_push side calls call None opens ∙ append-nil (openers side calls)
+
 -- a call that opens and closes nothing
 pub AreEpochs_same : (side : Side) (calls : List Call) (call : Call) (epochs : SideEpochs) → opened side call.what ≡ None → closed side call.what ≡ None →
     AreEpochs side calls epochs → AreEpochs side (calls ++ call ∷ []) epochs
@@ -52,6 +78,7 @@ AreEpochs_same side calls call epochs opens closes are = record {
   numbers_are = λ window other. are.numbers_are window other ∙ sym (numbers_same side window other calls call opens);
   pending_are = λ window. are.pending_are window ∙ sym (pending_same side window calls call opens closes);
   openers_are = λ number. are.openers_are number ∙ ap (option_map stated) (sym (opening_at_same side calls call number opens));
+  openers_come = are.openers_come ∙ sym (openers_same side calls call opens);
   closings_are = λ number. are.closings_are number ∙ sym (closing_at_same side 0 calls call number closes);
   closed_are = λ number. are.closed_are number ∙ sym (opener_of_same side calls call number closes);
 }
@@ -59,13 +86,14 @@ AreEpochs_same side calls call epochs opens closes are = record {
 -- ---- calls that open and close nothing
 
 pub no_calls_have_no_epochs : (side : Side) → HaveNoEpochs side []
-no_calls_have_no_epochs side = record { numbers_are = λ window other. refl; pending_are = λ window. refl; openers_are = λ number. refl; closings_are = λ number. refl; closed_are = λ number. refl }
+no_calls_have_no_epochs side = record { numbers_are = λ window other. refl; pending_are = λ window. refl; openers_are = λ number. refl; none_opens = refl; closings_are = λ number. refl; closed_are = λ number. refl }
 
 pub HaveNoEpochs_more : (side : Side) (calls : List Call) (call : Call) → opened side call.what ≡ None → closed side call.what ≡ None → HaveNoEpochs side calls → HaveNoEpochs side (calls ++ call ∷ [])
 HaveNoEpochs_more side calls call opens closes have = record {
   numbers_are = λ window other. numbers_same side window other calls call opens ∙ have.numbers_are window other;
   pending_are = λ window. pending_same side window calls call opens closes ∙ have.pending_are window;
   openers_are = λ number. opening_at_same side calls call number opens ∙ have.openers_are number;
+  none_opens = openers_same side calls call opens ∙ have.none_opens;
   closings_are = λ number. closing_at_same side 0 calls call number closes ∙ have.closings_are number;
   closed_are = λ number. opener_of_same side calls call number closes ∙ have.closed_are number;
 }
@@ -76,15 +104,30 @@ AreEpochs_none side calls epochs have are = record {
   numbers_are = λ window other. are.numbers_are window other ∙ sym (have.numbers_are window other);
   pending_are = λ window. are.pending_are window ∙ sym (have.pending_are window);
   openers_are = λ number. are.openers_are number ∙ ap (option_map stated) (sym (have.openers_are number));
+  openers_come = are.openers_come ∙ sym have.none_opens;
   closings_are = λ number. are.closings_are number ∙ sym (have.closings_are number);
   closed_are = λ number. are.closed_are number ∙ sym (have.closed_are number);
 }
+
+-- no call that is to come opens an epoch yet
+pub no_opener_yet : (side : Side) (calls : List Call) (epochs : SideEpochs) → AreEpochs side calls epochs → lookup (nat_eq (length calls)) epochs.openers.entries ≡ None
+no_opener_yet side calls epochs are =
+    are.openers_are (length calls)
+    ∙ ap (λ (o : Option Call). option_map stated (option_and_then (λ (call : Call). opened side call.what) o)) (slice_get_past calls (length calls) (omega arith))
+
+-- a new key goes last
+pub keys_pushed : {V S : Type 0} (m : IndexMap ℕ V S) (key own : ℕ) (value : V) (new : List (ℕ × V)) → key ≡ own → lookup (nat_eq key) m.entries ≡ None → new ≡ insert_entry nat_eq m.entries own value →
+    keys_of new ≡ keys_of m.entries ++ key ∷ []
+keys_pushed m key own value new same none is =
+    ap keys_of (is ∙ ap (λ k. insert_entry nat_eq m.entries k value) (sym same) ∙ insert_entry-new nat_eq m key value none)
+    ∙ map-append (λ e. e.0) m.entries ((key, value) ∷ [])
 
 -- a call that opens an epoch
 module _ (side : Side) (calls : List Call) (call : Call) (opening : Opening) (old new : SideEpochs) (opens : opened side call.what ≡ Some opening) (closes : closed side call.what ≡ None)
     (own : (name : List ℕ) → pointwise nat_eq opening.window name ≡ true → IsOpened (length calls) opening.group (kept old.windows.entries name) (kept new.windows.entries name))
     (others : (name : List ℕ) → pointwise nat_eq opening.window name ≡ false → kept new.windows.entries name ≡ kept old.windows.entries name)
     (noted : (number : ℕ) → lookup (nat_eq number) new.openers.entries ≡ cond (nat_eq (length calls) number) (Some (stated opening)) (lookup (nat_eq number) old.openers.entries))
+    (come : keys_of new.openers.entries ≡ keys_of old.openers.entries ++ length calls ∷ [])
     (are : AreEpochs side calls old) where
   added_openers : (number : ℕ) → lookup (nat_eq number) new.openers.entries ≡ option_map stated (opening_at side (calls ++ call ∷ []) number)
   added_openers number =
@@ -144,6 +187,7 @@ module _ (side : Side) (calls : List Call) (call : Call) (opening : Opening) (ol
     numbers_are = added_numbers;
     pending_are = added_pending;
     openers_are = added_openers;
+    openers_come = come ∙ ap (λ l. l ++ length calls ∷ []) are.openers_come ∙ sym (openers_push side calls call (Some opening) opens);
     closings_are = λ number.
         ap (λ c. lookup (nat_eq number) c.entries) closings
         ∙ are.closings_are number
@@ -186,6 +230,7 @@ module _ (side : Side) (calls : List Call) (call : Call) (own : List ℕ) (old n
         ∙ sym (ap (λ b. cond b (Some (length calls)) (cond (closes_on side window call) None (pending_of side window calls))) (not_on side window call opens))
         ∙ sym (pending_push side window calls call);
     openers_are = λ number. ap (λ o. lookup (nat_eq number) o.entries) openers_stay ∙ are.openers_are number ∙ ap (option_map stated) (sym (opening_at_same side calls call number opens));
+    openers_come = ap (λ o. keys_of o.entries) openers_stay ∙ are.openers_come ∙ sym (openers_same side calls call opens);
     closings_are = λ number.
         noted number
         ∙ ap (λ p. cond (is_pending p number) (Some (length calls)) (lookup (nat_eq number) old.closings.entries)) (are.pending_are own)
@@ -209,22 +254,24 @@ OnOk_map (Ok x) f a = f a
 OnOk_map (Err e) f a = tt
 
 -- a call that opens and closes nothing
-pub AreOfRank_same : (calls : List Call) (call : Call) (epochs : RankEpochs) → posted call.what ≡ None → waited call.what ≡ None → started call.what ≡ None → completed call.what ≡ None →
-    AreOfRank calls epochs → AreOfRank (calls ++ call ∷ []) epochs
-AreOfRank_same calls call epochs post wait start complete are = record {
-  posts_are = AreEpochs_same Exposure calls call epochs.posts post wait are.posts_are;
-  starts_are = AreEpochs_same Access calls call epochs.starts start complete are.starts_are;
+pub AreOfRank_same : (calls : List Call) (call : Call) (epochs : RankEpochs) → IsNeither call.what → AreOfRank calls epochs → AreOfRank (calls ++ call ∷ []) epochs
+AreOfRank_same calls call epochs not are = record {
+  posts_are = AreEpochs_same Exposure calls call epochs.posts not.no_post not.no_wait are.posts_are;
+  starts_are = AreEpochs_same Access calls call epochs.starts not.no_start not.no_complete are.starts_are;
 }
 
 -- the same of what is kept of a rank, if anything is
-pub IsOfRank_same : (calls : List Call) (call : Call) (epochs : Option RankEpochs) → posted call.what ≡ None → waited call.what ≡ None → started call.what ≡ None → completed call.what ≡ None →
-    IsOfRank calls epochs → IsOfRank (calls ++ call ∷ []) epochs
-IsOfRank_same calls call None post wait start complete have = by
+pub IsOfRank_same : (calls : List Call) (call : Call) (epochs : Option RankEpochs) → IsNeither call.what → IsOfRank calls epochs → IsOfRank (calls ++ call ∷ []) epochs
+IsOfRank_same calls call None not have = by
   where
     by : (side : Side) → HaveNoEpochs side (calls ++ call ∷ [])
-    by Exposure = HaveNoEpochs_more Exposure calls call post wait (have Exposure)
-    by Access = HaveNoEpochs_more Access calls call start complete (have Access)
-IsOfRank_same calls call (Some epochs) post wait start complete are = AreOfRank_same calls call epochs post wait start complete are
+    by Exposure = HaveNoEpochs_more Exposure calls call not.no_post not.no_wait (have Exposure)
+    by Access = HaveNoEpochs_more Access calls call not.no_start not.no_complete (have Access)
+IsOfRank_same calls call (Some epochs) not are = AreOfRank_same calls call epochs not are
+
+-- where this is kept of a rank
+pub some_kept : (calls : List Call) (epochs : RankEpochs) (found : Option RankEpochs) → Some epochs ≡ found → IsOfRank calls found → AreOfRank calls epochs
+some_kept calls epochs found some are = subst (IsOfRank calls) (sym some) are
 
 -- where nothing is kept of a rank
 pub none_kept : (calls : List Call) (epochs : Option RankEpochs) → None ≡ epochs → IsOfRank calls epochs → (side : Side) → HaveNoEpochs side calls
@@ -245,3 +292,7 @@ AreOfRank_starts calls call old starts post wait are new = record {
   posts_are = AreEpochs_same Exposure calls call old.posts post wait are.posts_are;
   starts_are = new;
 }
+
+-- what is kept of a rank, found by its number
+pub own_are : (ranks : List (Rank × RankEpochs)) (calls : List Call) (found rank : Rank) → found ≡ rank → IsOfRank calls (kept_of ranks rank.0) → IsOfRank calls (kept_of ranks found.0)
+own_are ranks calls found rank same are = subst (λ (r : Rank). IsOfRank calls (kept_of ranks r.0)) (sym same) are

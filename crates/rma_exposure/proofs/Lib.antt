@@ -3,6 +3,7 @@ pub mod CallLemmas
 pub mod EpochLemmas
 pub mod PositionLemmas
 pub mod RunLemmas
+pub mod WalkLemmas
 pub mod EdgeLemmas
 pub mod ClosingLemmas
 pub mod OpenerLemmas

@@ -4,7 +4,7 @@ use Rattle.std.specs.Option.{option_and_then, option_map_or}
 use Rattle.std.specs.Cmp.Lexicographic.{pointwise, same_text, nat_list_eq_equiv}
 use Rattle.rma_call.specs.Call.{Call}
 use Rattle.rma_exposure.specs.declared.side.Side.{Side}
-use Rattle.rma_exposure.specs.Opening.{Opening, opened, closed, opening_at, opens_on, closes_on}
+use Rattle.rma_exposure.specs.Opening.{Opening, opened, closed, opens_on, closes_on}
 use Rattle.rma_exposure.specs.Closing.{pending_after, pending_of, opener_of, IsClosedBy}
 
 -- a call neither opens nor closes on the window

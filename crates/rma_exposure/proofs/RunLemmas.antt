@@ -1,7 +1,7 @@
 -- What is kept of a run, with more calls of a rank.
-use Rattle.std.proofs.Common.{◌≡◌, ℕ, zero, suc, ◌+◌, ◌<◌, ◌≤◌, Bool, true, false, cond, ◌∷◌, ◌++◌, List, [], length, Option, Some, None, nat_eq, take, append_assoc, refl, sym, subst, arith, ◌^◌}
-use Rattle.std.specs.Prelude.{slice_get, IfSome}
-use Rattle.std.specs.Option.{option_and_then}
+use Rattle.std.proofs.Common.{◌≡◌, ℕ, zero, suc, ◌+◌, ◌<◌, ◌≤◌, Bool, true, false, cond, ◌∷◌, ◌++◌, List, [], length, Option, Some, None, nat_eq, take, append_assoc, refl, sym, ap, subst, ◌∙◌, arith, ◌^◌}
+use Rattle.std.specs.Prelude.{slice_get, IfSome, option_map}
+use Rattle.std.specs.Option.{option_and_then, option_map_or}
 use Rattle.rma_base.specs.Limits.{fed_limit}
 use Rattle.std.proofs.lemmas.Bool.{eqb-true}
 use Rattle.rma_base.specs.declared.rank.Rank.{Rank}
@@ -11,15 +11,14 @@ use Rattle.rma_call.specs.declared.group.Group.TheVariants as group
 use Rattle.rma_call.specs.declared.what.What.{What}
 use Rattle.rma_call.specs.declared.what.What.TheVariants.{Sync, Rma, Local}
 use Rattle.rma_call.specs.declared.what.SyncCall.TheVariants as sync
-use Rattle.rma_exposure.specs.declared.side.Side.TheVariants.{Exposure, Access}
 use Rattle.rma_exposure.specs.declared.rank_epochs.RankEpochs.{RankEpochs}
-use Rattle.rma_exposure.specs.inside.Epochs.{kept_of, IsOfRank, Represents}
+use Rattle.rma_exposure.specs.inside.Epochs.{kept_of, IsNeither, IsOfRank, Represents}
 use Rattle.rma_exposure.specs.declared.side.Side.{Side}
 use Rattle.rma_exposure.specs.declared.exposures.Exposures.{Exposures}
-use Rattle.rma_exposure.specs.Opening.{Opening, opened, opens_on, closes_on, posted, started, waited, completed}
+use Rattle.rma_exposure.specs.Opening.{Opening, opened, opens_on, closes_on}
 use Rattle.rma_exposure.specs.Closing.{first_closing, closing_at, closing_of}
 use Rattle.rma_run.specs.Run.{with_calls, calls_of}
-use Rattle.rma_run.proofs.CallLemmas.{none_more, one_more, next_calls}
+use Rattle.rma_run.proofs.CallLemmas.{none_more, next_calls}
 use Rattle.rma_exposure.proofs.EpochLemmas.{IsOfRank_same}
 
 -- more calls of a rank, of which alone something changes
@@ -33,44 +32,34 @@ more_of_rank calls rank more old new own others are other = by (nat_eq rank.0 ot
     by false differ = rw differ (subst (IsOfRank (calls other)) (sym (others (record { 0 = other }) differ)) (are other))
 
 -- a call that opens and closes nothing
-pub Represents_same : (calls : ℕ → List Call) (rank : ℕ) (call : Call) (exposures : Exposures) → posted call.what ≡ None → waited call.what ≡ None → started call.what ≡ None → completed call.what ≡ None →
+pub Represents_same : (calls : ℕ → List Call) (rank : ℕ) (call : Call) (exposures : Exposures) → IsNeither call.what →
     Represents calls exposures → Represents (with_calls calls rank (call ∷ [])) exposures
-Represents_same calls rank call exposures post wait start complete are other = by (nat_eq rank other)
+Represents_same calls rank call exposures not are other = by (nat_eq rank other)
   where
     by : (b : Bool) → IsOfRank (cond b (calls other ++ call ∷ []) (calls other)) (kept_of exposures.ranks.entries other)
-    by true = IsOfRank_same (calls other) call (kept_of exposures.ranks.entries other) post wait start complete (are other)
+    by true = IsOfRank_same (calls other) call (kept_of exposures.ranks.entries other) not (are other)
     by false = are other
 
 -- a call of another group does not
-neither : (what : What) → (group_of what ≡ group.Epoch → ⊥) → (posted what ≡ None) × (waited what ≡ None) × (started what ≡ None) × (completed what ≡ None)
-neither (Sync (sync.Frame call)) other = (refl, refl, refl, refl)
-neither (Sync (sync.Message call)) other = (refl, refl, refl, refl)
-neither (Sync (sync.Window call)) other = (refl, refl, refl, refl)
-neither (Sync (sync.Epoch call)) other = absurd (other refl)
-neither (Sync (sync.Moving call)) other = (refl, refl, refl, refl)
-neither (Rma call) other = (refl, refl, refl, refl)
-neither (Local call) other = (refl, refl, refl, refl)
-
--- so it opens no epoch of either side
-pub opens_none : (side : Side) (what : What) → (group_of what ≡ group.Epoch → ⊥) → opened side what ≡ None
-opens_none Exposure what other = (neither what other).0
-opens_none Access what other = (neither what other).2
+pub other_is_neither : (what : What) → (group_of what ≡ group.Epoch → ⊥) → IsNeither what
+other_is_neither (Sync (sync.Frame call)) other = record { no_post = refl; no_wait = refl; no_start = refl; no_complete = refl }
+other_is_neither (Sync (sync.Message call)) other = record { no_post = refl; no_wait = refl; no_start = refl; no_complete = refl }
+other_is_neither (Sync (sync.Window call)) other = record { no_post = refl; no_wait = refl; no_start = refl; no_complete = refl }
+other_is_neither (Sync (sync.Epoch call)) other = absurd (other refl)
+other_is_neither (Sync (sync.Moving call)) other = record { no_post = refl; no_wait = refl; no_start = refl; no_complete = refl }
+other_is_neither (Rma call) other = record { no_post = refl; no_wait = refl; no_start = refl; no_complete = refl }
+other_is_neither (Local call) other = record { no_post = refl; no_wait = refl; no_start = refl; no_complete = refl }
 
 -- the same calls of each rank
 pub Represents_along : (f g : ℕ → List Call) (exposures : Exposures) → ((rank : ℕ) → f rank ≡ g rank) → Represents f exposures → Represents g exposures
 Represents_along f g exposures same are = λ rank. subst (λ calls. IsOfRank calls (kept_of exposures.ranks.entries rank)) (same rank) (are rank)
 
--- before the calls of a rank are taken
-pub Represents_begun : (calls : ℕ → List Call) (rank : ℕ) (exposures : Exposures) → Represents calls exposures → Represents (with_calls calls rank []) exposures
-Represents_begun calls rank exposures are = Represents_along calls (with_calls calls rank []) exposures (none_more calls rank) are
-
--- with calls of other groups
-pub Represents_others : (own : List Call) (calls : ℕ → List Call) (rank : ℕ) (exposures : Exposures) → ((i : ℕ) (call : Call) → slice_get own i ≡ Some call → group_of call.what ≡ group.Epoch → ⊥) →
+-- with calls that open and close nothing
+pub Represents_others : (own : List Call) (calls : ℕ → List Call) (rank : ℕ) (exposures : Exposures) → ((i : ℕ) (call : Call) → slice_get own i ≡ Some call → IsNeither call.what) →
     Represents calls exposures → Represents (with_calls calls rank own) exposures
-Represents_others [] calls rank exposures others are = Represents_begun calls rank exposures are
+Represents_others [] calls rank exposures others are = Represents_along calls (with_calls calls rank []) exposures (none_more calls rank) are
 Represents_others (call ∷ own) calls rank exposures others are =
-    let not = neither call.what (others 0 call refl) in
-    let one = Represents_same calls rank call exposures not.0 not.1 not.2 not.3 are in
+    let one = Represents_same calls rank call exposures (others 0 call refl) are in
     Represents_along (with_calls (with_calls calls rank (call ∷ [])) rank own) (with_calls calls rank (call ∷ own)) exposures (λ other. by (nat_eq rank other) other)
     (Represents_others own (with_calls calls rank (call ∷ [])) rank exposures (λ i c at. others (suc i) c at) one)
   where
@@ -78,17 +67,22 @@ Represents_others (call ∷ own) calls rank exposures others are =
     by true other = append_assoc (calls other) (call ∷ []) own
     by false other = refl
 
--- with one more call of the rank
-pub Represents_more : (calls : ℕ → List Call) (rank i : ℕ) (own : List Call) (call : Call) (exposures : Exposures) → slice_get own i ≡ Some call →
-    Represents (with_calls (with_calls calls rank (take i own)) rank (call ∷ [])) exposures → Represents (with_calls calls rank (take (i + 1) own)) exposures
-Represents_more calls rank i own call exposures there are =
-    Represents_along (with_calls (with_calls calls rank (take i own)) rank (call ∷ [])) (with_calls calls rank (take (i + 1) own)) exposures (λ other. one_more calls rank other i own call there) are
+-- what a call does, by its number
+pub call_of_what : (o : Option Call) (what : What) → Some what ≡ option_map (λ call. call.what) o → (call : Call) × (o ≡ Some call) × (what ≡ call.what)
+call_of_what None what is = absurd (cc)
+call_of_what (Some call) what is = (call, refl, let same : what ≡ call.what = cc in same)
 
 -- the calls of one more rank
 pub Represents_next : (ranks : List RankCalls) (i : ℕ) (own : RankCalls) (exposures : Exposures) → slice_get ranks i ≡ Some own → own.rank.0 ≡ i →
     Represents (with_calls (calls_of (take i ranks)) own.rank.0 own.calls) exposures → Represents (calls_of (take (i + 1) ranks)) exposures
 Represents_next ranks i own exposures there is are =
     Represents_along (with_calls (calls_of (take i ranks)) own.rank.0 own.calls) (calls_of (take (i + 1) ranks)) exposures (next_calls ranks i own there is) are
+
+-- what is kept of a rank of the run
+pub own_of_run : (ranks : List RankCalls) (i : ℕ) (own : RankCalls) (exposures : Exposures) → slice_get ranks i ≡ Some own → own.rank.0 ≡ i → Represents (calls_of ranks) exposures →
+    IsOfRank own.calls (kept_of exposures.ranks.entries own.rank.0)
+own_of_run ranks i own exposures there is are =
+    subst (λ l. IsOfRank l (kept_of exposures.ranks.entries own.rank.0)) (ap (calls_of ranks) is ∙ ap (λ o. option_map_or (λ (r : RankCalls). r.calls) o []) there) (are own.rank.0)
 
 -- ---- closing calls are calls of the rank
 

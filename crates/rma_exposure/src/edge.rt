@@ -1,18 +1,17 @@
 //! What completes order before the returns of expwaits.
-ghost use Rattle.std.specs.Prelude.{◌≡◌, ◌≤◌, ◌<◌, ◌^◌, ◌++◌, [], IfSome, length, OnOk};
+ghost use Rattle.std.specs.Prelude.{◌≡◌, ◌<◌, ◌^◌, ◌++◌, [], IfSome, OnOk};
 ghost use Rattle.std.specs.List.{cons_option};
-ghost use Rattle.rma_base.specs.Limits.{fed_limit};
 ghost use Rattle.rma_call.specs.Call.{call_of};
 ghost use Rattle.rma_link.specs.Point.{return_of};
 ghost use Rattle.rma_run.specs.Run.{IsRun, calls_of, by_number};
 ghost use Rattle.rma_exposure.specs.Closing.{closing_of};
 ghost use Rattle.rma_exposure.specs.Edge.{edge_from, edges_to, edges_at, exposure_edges};
-ghost use Rattle.rma_exposure.specs.inside.Epochs.{Represents};
+ghost use Rattle.rma_exposure.specs.inside.Epochs.{kept_of, IsOfRank, Represents};
 
 use crate::exposures::Exposures;
 use crate::side::{Side, opened};
 use rma_base::{Memory, Name, Point, Rank, RankSet};
-use rma_call::{CallRef, Group, RankCalls};
+use rma_call::{CallRef, RankCalls};
 use rma_link::{Edge, Links, Member};
 
 impl Exposures {
@@ -41,18 +40,18 @@ impl Exposures {
         rank: &RankCalls,
         links: &mut Links,
     ) -> Result<(), Memory>
-        requires few { length rank.now.calls ≤ fed_limit }
+        requires own { IsOfRank rank.now.calls (kept_of self.now.ranks.entries rank.now.rank.0) }
         requires run { IsRun ranks.now }
         requires represents { Represents (calls_of ranks.now) self.now }
         ensures edges { OnOk result (links.new.edges ≡ links.old.edges ++ by_number (edges_at (calls_of ranks.now) rank.now.rank) 0 rank.now.calls) }
         ensures meets { OnOk result (links.new.meets ≡ links.old.meets) }
     {
-        let calls = rank.calls();
-        if !calls.has(Group::Epoch) {
+        let Some(epochs) = self.ranks.get(&rank.rank()) else {
             return Ok(());
-        }
-        for i in 0..calls.len() {
-            self.push_edges_at(ranks, rank.rank(), i as u32, calls.get(i), links)?;
+        };
+        for (number, _) in epochs.of(Side::Exposure).openers.iter() {
+            let call = rank.calls().get(*number as usize);
+            self.push_edges_at(ranks, rank.rank(), *number, call, links)?;
         }
         Ok(())
     }

@@ -20,9 +20,9 @@ use std::alloc::Global;
 #[derive(Drop)]
 pub struct Exposures {
     /// Where tables take their memory.
-    alloc: Global,
+    pub(crate) alloc: Global,
     /// What each rank opens and closes.
-    ranks: IndexMap<Rank, RankEpochs>,
+    pub(crate) ranks: IndexMap<Rank, RankEpochs>,
 }
 
 impl Exposures {
@@ -181,10 +181,10 @@ fn take(
     ensures others { OnOk result ((other : Rank) → (rank.0 == other.0) ≡ false → kept_of ranks.new.entries other.0 ≡ kept_of ranks.old.entries other.0) }
 {
     if let Some(epochs) = ranks.get_mut(&rank) {
-        return epochs.take(alloc, number, call);
+        return epochs.take(alloc, number, call.what);
     }
     let mut epochs = RankEpochs::new(alloc);
-    epochs.take(alloc, number, call)?;
+    epochs.take(alloc, number, call.what)?;
     ranks.insert(rank, epochs)?;
     Ok(())
 }

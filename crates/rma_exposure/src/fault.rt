@@ -1,15 +1,14 @@
 //! Posts and starts that have no match.
-ghost use Rattle.std.specs.Prelude.{◌≡◌, ◌≤◌, ◌++◌, ℕ, List, length, IfOk, OnOk};
-ghost use Rattle.rma_base.specs.Limits.{fed_limit};
+ghost use Rattle.std.specs.Prelude.{◌≡◌, ◌++◌, ℕ, List, IfOk, OnOk};
 ghost use Rattle.rma_call.specs.Call.{Call, call_of};
 ghost use Rattle.rma_run.specs.Run.{IsRun, calls_of, by_number};
 ghost use Rattle.rma_exposure.specs.Fault.{reason_of, lacks_match, faults_at, faults_of, exposure_faults};
-ghost use Rattle.rma_exposure.specs.inside.Epochs.{Represents};
+ghost use Rattle.rma_exposure.specs.inside.Epochs.{kept_of, IsOfRank, Represents};
 
 use crate::exposures::Exposures;
 use crate::side::{Side, opened};
 use rma_base::{MatchReason, Memory, Name, Rank, RankSet, Sequence};
-use rma_call::{CallRef, Group, MatchFault, RankCalls};
+use rma_call::{CallRef, MatchFault, RankCalls};
 use std::alloc::Global;
 
 impl Exposures {
@@ -54,16 +53,16 @@ impl Exposures {
         rank: &RankCalls,
         faults: &mut Sequence<MatchFault>,
     ) -> Result<(), Memory>
-        requires { length rank.now.calls ≤ fed_limit }
+        requires { IsOfRank rank.now.calls (kept_of self.now.ranks.entries rank.now.rank.0) }
         ensures { OnOk result ((calls : ℕ → List Call) → Represents calls self.now
             → faults.new ≡ faults.old ++ by_number (faults_at side calls rank.now.rank) 0 rank.now.calls) }
     {
-        let calls = rank.calls();
-        if !calls.has(Group::Epoch) {
+        let Some(epochs) = self.ranks.get(&rank.rank()) else {
             return Ok(());
-        }
-        for i in 0..calls.len() {
-            self.judge(side, rank.rank(), i as u32, calls.get(i), faults)?;
+        };
+        for (number, _) in epochs.of(side).openers.iter() {
+            let call = rank.calls().get(*number as usize);
+            self.judge(side, rank.rank(), *number, call, faults)?;
         }
         Ok(())
     }

@@ -1,13 +1,14 @@
 //! The epochs of one rank.
-ghost use Rattle.std.specs.Prelude.{◌≡◌, ◌++◌, ◌∷◌, [], List, length, OnOk};
-ghost use Rattle.rma_call.specs.Call.{Call, call_of};
+ghost use Rattle.std.specs.Prelude.{◌≡◌, ◌≤◌, ◌++◌, ◌∷◌, [], List, length, IfOk, OnOk};
+ghost use Rattle.rma_base.specs.Limits.{fed_limit};
+ghost use Rattle.rma_call.specs.Call.{Call, what_of};
 ghost use Rattle.rma_exposure.specs.declared.side.Side.{Side};
 ghost use Rattle.rma_exposure.specs.inside.Epochs.{HaveNoEpochs, AreEpochs, AreOfRank};
 
 use crate::side::Side;
 use crate::side_epochs::SideEpochs;
 use rma_base::Memory;
-use rma_call::{CallRef, EpochCall, WhatRef};
+use rma_call::{CallList, EpochCall, WhatRef};
 use std::alloc::Global;
 
 /// The epochs of one rank.
@@ -30,16 +31,28 @@ impl RankEpochs {
         }
     }
 
-    /// Takes the next call of the rank, which has this number.
+    /// Those of all calls of a rank.
+    pub(crate) fn of_calls(alloc: Global, calls: &CallList) -> Result<RankEpochs, Memory>
+        requires { length calls.now.calls ≤ fed_limit }
+        ensures { IfOk result (AreOfRank calls.now.calls) }
+    {
+        let mut epochs = RankEpochs::new(alloc);
+        for i in 0..calls.len() {
+            epochs.take(alloc, i as u32, calls.what(calls.what_number(i)))?;
+        }
+        Ok(epochs)
+    }
+
+    /// Takes the next call of the rank, which has this number and does this.
     pub(crate) fn take(
         &mut self,
         alloc: Global,
         number: u32,
-        call: CallRef<'_>,
+        what: WhatRef<'_>,
     ) -> Result<(), Memory>
-        ensures { OnOk result ((calls : List Call) → length calls ≡ number → AreOfRank calls self.old → AreOfRank (calls ++ call_of call.entry ∷ []) self.new) }
+        ensures { OnOk result ((calls : List Call) (call : Call) → length calls ≡ number → what_of what.entry ≡ call.what → AreOfRank calls self.old → AreOfRank (calls ++ call ∷ []) self.new) }
     {
-        let WhatRef::Epoch(epoch) = call.what else {
+        let WhatRef::Epoch(epoch) = what else {
             return Ok(());
         };
         match epoch {

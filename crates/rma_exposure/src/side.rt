@@ -1,7 +1,8 @@
 //! The two sides of general active target synchronisation.
-ghost use Rattle.std.specs.Prelude.{◌≡◌, None, false, option_map};
+ghost use Rattle.std.specs.Prelude.{◌≡◌, false, option_map};
 ghost use Rattle.rma_call.specs.Call.{what_of};
-ghost use Rattle.rma_exposure.specs.Opening.{opened, opposite, posted, started, waited, completed};
+ghost use Rattle.rma_exposure.specs.Opening.{opened, opposite, posted, started};
+ghost use Rattle.rma_exposure.specs.inside.Epochs.{IsNeither};
 
 use rma_base::{Name, RankSet};
 use rma_call::{EpochCall, WhatRef};
@@ -27,10 +28,7 @@ pub(crate) fn opposite(side: Side) -> Side
 
 /// Whether a call opens an epoch of either side, or closes one.
 pub(crate) fn opens_or_closes(what: WhatRef<'_>) -> bool
-    ensures posted { result ≡ false → posted (what_of what.entry) ≡ None }
-    ensures waited { result ≡ false → waited (what_of what.entry) ≡ None }
-    ensures started { result ≡ false → started (what_of what.entry) ≡ None }
-    ensures completed { result ≡ false → completed (what_of what.entry) ≡ None }
+    ensures { result ≡ false → IsNeither (what_of what.entry) }
 {
     match what {
         WhatRef::Epoch(

@@ -19,7 +19,7 @@ pub(crate) struct SideEpochs {
     /// The calls that open them, by their window.
     windows: IndexMap<Name, Openings>,
     /// The window and the group of each, by the number of the call that opens it.
-    openers: IndexMap<u32, (Name, RankSet)>,
+    pub(crate) openers: IndexMap<u32, (Name, RankSet)>,
     /// The number of the call that closes an epoch, by that of the one that opens it.
     closings: IndexMap<u32, u32>,
     /// The number of the call that opens an epoch, by that of the one that closes it.

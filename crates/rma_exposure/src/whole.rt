@@ -1,13 +1,15 @@
 //! The posts and starts of whole logs.
-ghost use Rattle.std.specs.Prelude.{◌≡◌, ◌≤◌, [], ℕ, List, length, IfOk, OnOk};
+ghost use Rattle.std.specs.Prelude.{◌≡◌, ◌≤◌, [], ℕ, List, Some, false, slice_get, length, IfOk, OnOk};
 ghost use Rattle.rma_base.specs.Limits.{fed_limit};
 ghost use Rattle.rma_call.specs.Call.{Call};
 ghost use Rattle.rma_run.specs.Run.{IsRun, calls_of, with_calls};
-ghost use Rattle.rma_exposure.specs.inside.Epochs.{Represents};
+ghost use Rattle.rma_exposure.specs.inside.Epochs.{IsNeither, Represents};
 
 use crate::exposures::Exposures;
+use crate::rank_epochs::RankEpochs;
+use crate::side::opens_or_closes;
 use rma_base::Memory;
-use rma_call::{Group, RankCalls};
+use rma_call::{CallList, Group, RankCalls};
 use std::alloc::Global;
 
 impl Exposures {
@@ -34,12 +36,26 @@ impl Exposures {
             → Represents (with_calls calls rank.now.rank.0 rank.now.calls) self.new) }
     {
         let calls = rank.calls();
-        if !calls.has(Group::Epoch) {
+        if !may_open_or_close(calls) {
             return Ok(());
         }
-        for i in 0..calls.len() {
-            self.take(rank.rank(), i as u32, calls.get(i))?;
-        }
+        let epochs = RankEpochs::of_calls(self.alloc, calls)?;
+        self.ranks.insert(rank.rank(), epochs)?;
         Ok(())
     }
+}
+
+/// Whether a call may open an epoch or close one: where not, none does. What calls do is looked at, and not each call.
+fn may_open_or_close(calls: &CallList) -> bool
+    ensures { result ≡ false → (i : ℕ) (call : Call) → slice_get calls.now.calls i ≡ Some call → IsNeither call.what }
+{
+    if !calls.has(Group::Epoch) {
+        return false;
+    }
+    for number in 0..calls.whats() {
+        if opens_or_closes(calls.what(number)) {
+            return true;
+        }
+    }
+    false
 }

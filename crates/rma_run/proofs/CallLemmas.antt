@@ -29,18 +29,6 @@ none_more calls rank other = by (nat_eq rank other)
     by true = sym (append-nil (calls other))
     by false = refl
 
-pub one_more : (calls : ℕ → List Call) (rank other i : ℕ) (own : List Call) (call : Call) → slice_get own i ≡ Some call →
-    with_calls (with_calls calls rank (take i own)) rank (call ∷ []) other ≡ with_calls calls rank (take (i + 1) own) other
-one_more calls rank other i own call there = by (nat_eq rank other)
-  where
-    by : (b : Bool) → cond b (cond b (calls other ++ take i own) (calls other) ++ call ∷ []) (cond b (calls other ++ take i own) (calls other)) ≡ cond b (calls other ++ take (i + 1) own) (calls other)
-    by true = append_assoc (calls other) (take i own) (call ∷ []) ∙ ap (λ l. calls other ++ l) (sym (taken_there own i call there))
-    by false = refl
-
--- how many calls of the rank are taken
-pub begun_length : (calls : ℕ → List Call) (rank i : ℕ) (own : List Call) (call : Call) → calls rank ≡ [] → slice_get own i ≡ Some call → length (with_calls calls rank (take i own) rank) ≡ i
-begun_length calls rank i own call none there = rw (itself rank, none) (taken_length own i call there)
-
 -- ---- the calls of one more rank
 
 calls_at_end : (done : List RankCalls) (own : RankCalls) (other : ℕ) → cond (nat_eq (length done) other) (calls_of done other ++ own.calls) (calls_of done other) ≡ calls_of (done ++ own ∷ []) other

@@ -1,18 +1,20 @@
 -- What is kept of the posts and starts of a run.
 use Rattle.std.specs.Prelude.{◌≡◌, ℕ, ◌==◌, List, [], ◌∷◌, ◌++◌, Bool, false, Option, Some, None, option_map, MatchOption, nat_eq, unwrap_or, if◌then◌else◌}
 use Rattle.std.specs.Option.{option_map_or}
-use Rattle.std.specs.Map.{lookup}
+use Rattle.std.specs.Map.{lookup, keys_of}
 use Rattle.std.specs.Cmp.Lexicographic.{pointwise}
 use Rattle.rma_base.specs.RankSet.{has_number}
 use Rattle.rma_base.specs.declared.rank.Rank.{Rank}
 use Rattle.rma_call.specs.Call.{Call}
+use Rattle.rma_call.specs.declared.what.What.{What}
+use Rattle.rma_run.specs.Run.{by_number}
 use Rattle.rma_exposure.specs.declared.side.Side.{Side}
 use Rattle.rma_exposure.specs.declared.side.Side.TheVariants.{Exposure, Access}
 use Rattle.rma_exposure.specs.declared.openings.Openings.{Openings}
 use Rattle.rma_exposure.specs.declared.side_epochs.SideEpochs.{SideEpochs}
 use Rattle.rma_exposure.specs.declared.rank_epochs.RankEpochs.{RankEpochs}
 use Rattle.rma_exposure.specs.declared.exposures.Exposures.{Exposures}
-use Rattle.rma_exposure.specs.Opening.{Opening, opening_at}
+use Rattle.rma_exposure.specs.Opening.{Opening, opened, opening_at, posted, started, waited, completed}
 use Rattle.rma_exposure.specs.Closing.{pending_of, closing_of, opener_of}
 use Rattle.rma_exposure.specs.Matching.{numbers}
 
@@ -47,19 +49,36 @@ is_pending found number = option_map_or (λ own. own == number) found false
 abbrev pub stated : Opening → List ℕ × List ℕ
 stated opening = (opening.window, opening.group)
 
+-- the number of a call, where that opens an epoch of the side
+abbrev pub number_of_opener : Side → ℕ → Call → List ℕ
+number_of_opener side number call = option_map_or (λ opening. number ∷ []) (opened side call.what) []
+
+-- the numbers of those of a rank's calls that open an epoch of the side
+abbrev pub openers : Side → List Call → List ℕ
+openers side calls = by_number (number_of_opener side) 0 calls
+
 -- what is kept represents the epochs of one side that these calls of a rank open and close
 pub record AreEpochs (side : Side) (calls : List Call) (epochs : SideEpochs) : Type 0 where
   pub numbers_are : (window : List ℕ) (other : ℕ) → numbers_in (kept epochs.windows.entries window) other ≡ numbers side window other calls
   pub pending_are : (window : List ℕ) → pending_in (kept epochs.windows.entries window) ≡ pending_of side window calls
   pub openers_are : (number : ℕ) → lookup (nat_eq number) epochs.openers.entries ≡ option_map stated (opening_at side calls number)
+  pub openers_come : keys_of epochs.openers.entries ≡ openers side calls
   pub closings_are : (number : ℕ) → lookup (nat_eq number) epochs.closings.entries ≡ closing_of side calls number
   pub closed_are : (number : ℕ) → lookup (nat_eq number) epochs.closed.entries ≡ opener_of side calls number
+
+-- what a call does opens and closes no epoch of either side
+pub record IsNeither (what : What) : Type 0 where
+  pub no_post : posted what ≡ None
+  pub no_wait : waited what ≡ None
+  pub no_start : started what ≡ None
+  pub no_complete : completed what ≡ None
 
 -- these calls of a rank open and close no epochs of one side
 pub record HaveNoEpochs (side : Side) (calls : List Call) : Type 0 where
   pub numbers_are : (window : List ℕ) (other : ℕ) → numbers side window other calls ≡ []
   pub pending_are : (window : List ℕ) → pending_of side window calls ≡ None
   pub openers_are : (number : ℕ) → opening_at side calls number ≡ None
+  pub none_opens : openers side calls ≡ []
   pub closings_are : (number : ℕ) → closing_of side calls number ≡ None
   pub closed_are : (number : ℕ) → opener_of side calls number ≡ None
 

@@ -6,6 +6,7 @@ use Rattle.rma_call.specs.Call.{RankCalls}
 use Rattle.rma_run.specs.Run.{calls_of, by_number}
 use Rattle.rma_exposure.specs.Edge.{edges_at}
 use Rattle.rma_run.proofs.WalkLemmas.{flat_map_taken}
+use Rattle.rma_exposure.proofs.RunLemmas.{own_of_run}
 use Rattle.rma_exposure.proofs.exposures.Exposures.push_edges.Goals as goal
 
 pub loop-rank-preserved : goal.loop-rank-preserved
@@ -22,3 +23,11 @@ loop-rank-preserved c =
           ∙ ap (λ l. c.args.links.now.edges ++ l) (flat_map_taken edges ranks i own there);
       meets = c.in_ok-push_rank_edges.ensures.meets ∙ c.loop-rank.invariant.meets;
     }
+
+pub push_rank_edges-requires-clause-own : goal.push_rank_edges-requires-clause-own
+push_rank_edges-requires-clause-own c =
+    let ranks = c.args.ranks.now in
+    let i = c.loop-rank.rank-index in
+    let own = c.rank-item.result in
+    let there : slice_get ranks i ≡ Some own = slice_get_read ranks (length ranks) i own refl c.loop-rank-test.true c.rank-item.is in
+    own_of_run ranks i own c.args.self.now there (c.requires.run.in_order i own there) c.requires.represents

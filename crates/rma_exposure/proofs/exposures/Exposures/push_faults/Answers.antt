@@ -6,6 +6,7 @@ use Rattle.rma_call.specs.declared.match_fault.MatchFault.{MatchFault}
 use Rattle.rma_run.specs.Run.{calls_of, by_number}
 use Rattle.rma_exposure.specs.Fault.{faults_at}
 use Rattle.rma_run.proofs.WalkLemmas.{flat_map_taken}
+use Rattle.rma_exposure.proofs.RunLemmas.{own_of_run}
 use Rattle.rma_exposure.proofs.exposures.Exposures.push_faults.Goals as goal
 
 pub loop-rank-preserved : goal.loop-rank-preserved
@@ -19,3 +20,11 @@ loop-rank-preserved c =
     ∙ ap (λ l. l ++ faults own) c.loop-rank.invariant
     ∙ append_assoc c.args.faults.now (flat_map faults (take i ranks)) (faults own)
     ∙ ap (λ l. c.args.faults.now ++ l) (flat_map_taken faults ranks i own there)
+
+pub push_rank_faults-requires : goal.push_rank_faults-requires
+push_rank_faults-requires c =
+    let ranks = c.args.ranks.now in
+    let i = c.loop-rank.rank-index in
+    let own = c.rank-item.result in
+    let there : slice_get ranks i ≡ Some own = slice_get_read ranks (length ranks) i own refl c.loop-rank-test.true c.rank-item.is in
+    own_of_run ranks i own c.args.self.now there (c.requires.run.in_order i own there) c.requires.represents

@@ -1,33 +1,88 @@
-use Rattle.std.proofs.Common.{◌≡◌, ◌++◌, [], Some, slice_get, append-nil, sym, ap, ◌∙◌}
+use Rattle.std.proofs.Common.{◌≡◌, ℕ, List, ◌++◌, [], Some, None, slice_get, append-nil, append_assoc, refl, sym, ap, ◌∙◌}
+use Rattle.std.specs.List.{flat_map}
 use Rattle.std.specs.Option.{option_map_or}
+use Rattle.std.specs.Map.Iter.{deref_pair}
+use Rattle.std.proofs.lemmas.Cmp.{nat_eq_equiv}
+use Rattle.std.proofs.lemmas.Map.Iter.{rest_more, rest_all, hash_map_turn}
 use Rattle.rma_base.specs.declared.rank.Rank.{Rank}
-use Rattle.rma_call.specs.Call.{call_of}
+use Rattle.rma_call.specs.Call.{Call, call_of}
+use Rattle.rma_link.specs.declared.edge.Edge.{Edge}
 use Rattle.rma_run.specs.Run.{calls_of}
-use Rattle.rma_exposure.specs.Edge.{edges_at, edges_to}
-use Rattle.rma_run.proofs.WalkLemmas.{by_number_taken, by_number_none}
 use Rattle.rma_exposure.specs.declared.side.Side.TheVariants.{Exposure}
-use Rattle.rma_exposure.proofs.RunLemmas.{opens_none}
+use Rattle.rma_exposure.specs.Opening.{opened}
+use Rattle.rma_exposure.specs.Edge.{edges_at}
+use Rattle.rma_exposure.specs.inside.Epochs.{kept_of}
+use Rattle.rma_exposure.proofs.EpochLemmas.{none_kept, some_kept, own_are}
+use Rattle.rma_exposure.proofs.WalkLemmas.{had_at, openers_walked, opening_within}
 use Rattle.rma_exposure.proofs.exposures.Exposures.push_rank_edges.Goals as goal
 
-pub loop-i-preserved : goal.loop-i-preserved
-loop-i-preserved c =
-    let own = c.args.rank.now.calls in
-    let i = c.loop-i.i in
-    let call = call_of c.get.result in
-    let there : slice_get own i ≡ Some call = rw (← c.calls-calls.ensures) c.get.ensures in
+edges_none : (calls : ℕ → List Call) (rank : Rank) (number : ℕ) (call : Call) → opened Exposure call.what ≡ None → edges_at calls rank number call ≡ []
+edges_none calls rank number call none = rw none refl
+
+pub returns-in_default-clause-edges : goal.returns-in_default-clause-edges
+returns-in_default-clause-edges c =
     let calls = calls_of c.args.ranks.now in
+    let rank = c.args.rank.now in
+    let found = kept_of c.args.self.now.ranks.entries c.rank.result.0 in
+    let have = none_kept rank.calls found c.in_default.ensures.value (own_are c.args.self.now.ranks.entries rank.calls c.rank.result rank.rank c.rank.ensures c.requires.own) Exposure in
+    sym (append-nil c.args.links.now.edges)
+    ∙ ap (λ l. c.args.links.now.edges ++ l) (openers_walked Exposure (edges_at calls rank.rank) rank.calls (edges_none calls rank.rank) {V = List ℕ × List ℕ} [] (sym have.none_opens))
+
+pub loop-number-init : goal.loop-number-init
+loop-number-init c =
+    let calls = calls_of c.args.ranks.now in
+    let rank = c.args.rank.now in
+    let start = c.into_iter-number-iterator.ensures.into_iter_gives ∙ c.iter-number-items.ensures.rest in
+    let are = c.of.ensures rank.calls (some_kept rank.calls c.in-Some.epochs.now (kept_of c.args.self.now.ranks.entries c.rank.result.0) c.in-Some.ensures.value (own_are c.args.self.now.ranks.entries rank.calls c.rank.result rank.rank c.rank.ensures c.requires.own)) in
+    let f = edges_at calls rank.rank in
     record {
-      edges = c.in_ok-push_edges_at.ensures.edges
-          ∙ ap (λ (r : Rank). c.loop-i.links.edges ++ edges_at calls r i call) c.rank.ensures
-          ∙ ap (λ l. l ++ edges_at calls c.args.rank.now.rank i call) c.loop-i.invariant.edges
-          ∙ by_number_taken (edges_at calls c.args.rank.now.rank) own i call c.args.links.now.edges there;
-      meets = c.in_ok-push_edges_at.ensures.meets ∙ c.loop-i.invariant.meets;
+      edges = ap (λ l. c.args.links.now.edges ++ flat_map (λ e. had_at f rank.calls e.0) l) start
+          ∙ ap (λ l. c.args.links.now.edges ++ l) (openers_walked Exposure f rank.calls (edges_none calls rank.rank) c.of.result.now.openers.entries are.openers_come);
+      meets = refl;
     }
 
-pub returns-then-not-has-clause-edges : goal.returns-then-not-has-clause-edges
-returns-then-not-has-clause-edges c =
-    let rank = c.args.rank.now in
+pub get-call-requires : goal.get-call-requires
+get-call-requires c =
+    let own = c.args.rank.now.calls in
+    let number = c.in-Some-2.number in
+    let value = c.in-Some-2.field-0-1 in
+    let start = c.into_iter-number-iterator.ensures.into_iter_gives ∙ c.iter-number-items.ensures.rest in
+    let found = hash_map_turn deref_pair c.loop-number.yielded c.into_iter-number-iterator.result c.loop-number.number-iterator c.next.new.self c.next.result (number, value) c.loop-number.yielded_by c.in-Some-2.is c.next.ensures.steps nat_eq_equiv c.of.result.now.openers start c.iter-number-items.ensures.unique in
+    let are = c.of.ensures own (some_kept own c.in-Some.epochs.now (kept_of c.args.self.now.ranks.entries c.rank.result.0) c.in-Some.ensures.value (own_are c.args.self.now.ranks.entries own c.rank.result c.args.rank.now.rank c.rank.ensures c.requires.own)) in
+    rw c.calls.ensures (opening_within Exposure own number.now value.now (sym found.1 ∙ are.openers_are number.now))
+
+pub loop-number-preserved : goal.loop-number-preserved
+loop-number-preserved c =
     let calls = calls_of c.args.ranks.now in
-    let none = by_number_none (edges_at calls rank.rank) rank.calls (λ i call at.
-    ap (λ opening. option_map_or (edges_to calls rank.rank i) opening []) (opens_none Exposure call.what (c.has.ensures c.if-not-has.true i call (rw (← c.calls-calls.ensures) at at)))) in
-    sym (ap (λ l. c.args.links.now.edges ++ l) none ∙ append-nil c.args.links.now.edges)
+    let own = c.args.rank.now.calls in
+    let number = c.in-Some-2.number in
+    let left = c.loop-number.number-iterator in
+    let rest = c.next.new.self in
+    let call = call_of c.get-call.result in
+    let f = edges_at calls c.args.rank.now.rank in
+    let g : List (ℕ × (List ℕ × List ℕ)) → List Edge = flat_map (λ e. had_at f own e.0) in
+    let there : slice_get own number.now ≡ Some call = rw (← c.calls.ensures) c.get-call.ensures in
+    let step = rest_more deref_pair left rest c.next.result (number, c.in-Some-2.field-0-1) c.in-Some-2.is c.next.ensures.steps in
+    record {
+      edges = ap (λ l. l ++ g rest)
+          (c.in_ok-push_edges_at.ensures.edges
+          ∙ ap (λ (r : Rank). c.loop-number.links.edges ++ edges_at calls r number.now call) c.rank-in-loop-number.ensures
+          ∙ ap (λ o. c.loop-number.links.edges ++ option_map_or (f number.now) o []) (sym there))
+          ∙ append_assoc c.loop-number.links.edges (had_at f own number.now) (g rest)
+          ∙ ap (λ l. c.loop-number.links.edges ++ g l) (sym step)
+          ∙ c.loop-number.invariant.edges;
+      meets = c.in_ok-push_edges_at.ensures.meets ∙ c.loop-number.invariant.meets;
+    }
+
+pub returns-clause-edges : goal.returns-clause-edges
+returns-clause-edges c =
+    let calls = calls_of c.args.ranks.now in
+    let own = c.args.rank.now.calls in
+    let f = edges_at calls c.args.rank.now.rank in
+    let end = rest_all deref_pair c.loop-number.number-iterator c.next.new.self c.next.result c.in-None.is c.next.ensures.steps in
+    sym (append-nil c.loop-number.links.edges)
+    ∙ ap (λ l. c.loop-number.links.edges ++ flat_map (λ e. had_at f own e.0) l) (sym end)
+    ∙ c.loop-number.invariant.edges
+
+pub returns-clause-meets : goal.returns-clause-meets
+returns-clause-meets c = c.loop-number.invariant.meets

@@ -6,10 +6,7 @@ use Rattle.rma_exposure.proofs.exposures.Exposures.take.Goals as goal
 
 pub returns-then-not-opens_or_closes : goal.returns-then-not-opens_or_closes
 returns-then-not-opens_or_closes c = λ calls len are.
-    let call = call_of c.args.call in
-    let not = c.if-not-opens_or_closes.true in
-    Represents_same calls c.args.rank.0 call c.args.self.now
-    (c.opens_or_closes.ensures.posted not) (c.opens_or_closes.ensures.waited not) (c.opens_or_closes.ensures.started not) (c.opens_or_closes.ensures.completed not) are
+    Represents_same calls c.args.rank.0 (call_of c.args.call) c.args.self.now (c.opens_or_closes.ensures c.if-not-opens_or_closes.true) are
 
 pub returns : goal.returns
 returns c =

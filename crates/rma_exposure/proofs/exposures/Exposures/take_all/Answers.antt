@@ -1,34 +1,23 @@
-use Rattle.std.proofs.Common.{◌≡◌, ◌∷◌, [], length, Some, slice_get, take, ap, subst, ◌∙◌, arith}
-use Rattle.std.proofs.lemmas.List.{take_all}
-use Rattle.rma_call.specs.Call.{call_of}
+use Rattle.std.proofs.Common.{◌≡◌, ℕ, ◌++◌, [], sym, ap, subst, ◌∙◌}
+use Rattle.rma_base.specs.declared.rank.Rank.{Rank}
 use Rattle.rma_run.specs.Run.{with_calls}
-use Rattle.rma_exposure.specs.inside.Epochs.{Represents}
-use Rattle.rma_run.proofs.CallLemmas.{begun_length}
-use Rattle.rma_exposure.proofs.RunLemmas.{Represents_begun, Represents_more, Represents_others}
+use Rattle.rma_exposure.specs.inside.Epochs.{kept_of, IsOfRank, AreOfRank}
+use Rattle.rma_exposure.proofs.RunLemmas.{Represents_others, more_of_rank}
 use Rattle.rma_exposure.proofs.exposures.Exposures.take_all.Goals as goal
 
-pub loop-i-init : goal.loop-i-init
-loop-i-init c = λ calls none are. Represents_begun calls c.args.rank.now.rank.0 c.args.self.now are
-
-pub loop-i-preserved : goal.loop-i-preserved
-loop-i-preserved c = λ calls none are.
-    let own = c.args.rank.now.calls in
-    let rank = c.args.rank.now.rank.0 in
-    let i = c.loop-i.i in
-    let call = call_of c.get.result in
-    let there : slice_get own i ≡ Some call = rw (← c.calls-calls.ensures) c.get.ensures in
-    let same : c.rank.result.0 ≡ rank = ap (λ r. r.0) c.rank.ensures in
-    let before = with_calls calls rank (take i own) in
-    Represents_more calls rank i own call c.take.new.self there
-    (subst (λ r. Represents (with_calls before r (call ∷ [])) c.take.new.self) same
-    (c.in_ok-take.ensures before (ap (λ r. length (before r)) same ∙ begun_length calls rank i own call none there) (c.loop-i.invariant calls none are)))
+pub returns-then-not-may_open_or_close : goal.returns-then-not-may_open_or_close
+returns-then-not-may_open_or_close c = λ calls none are.
+    Represents_others c.args.rank.now.calls calls c.args.rank.now.rank.0 c.args.self.now
+    (λ i call at. c.may_open_or_close.ensures c.if-not-may_open_or_close.true i call (rw (← c.calls-calls.ensures) at at)) are
 
 pub returns : goal.returns
 returns c = λ calls none are.
     let own = c.args.rank.now.calls in
-    let whole : take c.loop-i.i own ≡ own = take_all c.loop-i.i own (rw (← c.calls-calls.ensures) (omega arith)) in
-    subst (λ l. Represents (with_calls calls c.args.rank.now.rank.0 l) c.loop-i.self) whole (c.loop-i.invariant calls none are)
-
-pub returns-then-not-has : goal.returns-then-not-has
-returns-then-not-has c = λ calls none are.
-    Represents_others c.args.rank.now.calls calls c.args.rank.now.rank.0 c.args.self.now (λ i call at. c.has.ensures c.if-not-has.true i call (rw (← c.calls-calls.ensures) at at)) are
+    let key = c.rank.result in
+    let epochs = c.in_ok-epochs.epochs in
+    let old = c.args.self.now.ranks.entries in
+    let new = c.insert.new.self.entries in
+    let taken : AreOfRank own epochs = subst (λ l. AreOfRank l epochs) c.calls-calls.ensures c.in_ok-epochs.ensures in
+    let first : calls key.0 ≡ [] = ap (λ (r : Rank). calls r.0) c.rank.ensures ∙ none in
+    let kept : IsOfRank (calls key.0 ++ own) (kept_of new key.0) = subst (IsOfRank (calls key.0 ++ own)) (sym c.in_ok-insert.ensures.updates.1) (subst (λ l. AreOfRank (l ++ own) epochs) (sym first) taken) in
+    subst (λ (r : Rank). (other : ℕ) → IsOfRank (with_calls calls r.0 own other) (kept_of new other)) c.rank.ensures (more_of_rank calls key own old new kept c.in_ok-insert.ensures.updates.2 are)
