@@ -11,7 +11,7 @@ use Rattle.std.specs.Cmp.Lexicographic.{pointwise, nat_list_eq_equiv}
 use Rattle.rma_base.specs.RankSet.{has_number}
 use Rattle.rma_base.specs.declared.rank.Rank.{Rank}
 use Rattle.rma_call.specs.Call.{Call}
-use Rattle.rma_run.specs.Run.{by_number}
+use Rattle.rma_run.proofs.WalkLemmas.{by_number_push}
 use Rattle.rma_exposure.specs.declared.side.Side.{Side}
 use Rattle.rma_exposure.specs.declared.side.Side.TheVariants.{Exposure, Access}
 use Rattle.rma_exposure.specs.declared.side_epochs.SideEpochs.{SideEpochs}
@@ -53,18 +53,10 @@ pending_same side window calls call opens closes =
     ∙ ap (λ b. cond b None (pending_of side window calls)) (closes_none side window call closes)
 
 -- the numbers of the calls that open epochs, with one call more
-openers_from_push : (side : Side) (n : ℕ) (calls : List Call) (call : Call) →
-    by_number (number_of_opener side) n (calls ++ call ∷ []) ≡ by_number (number_of_opener side) n calls ++ number_of_opener side (n + length calls) call
-openers_from_push side n [] call = append-nil (number_of_opener side n call) ∙ ap (λ k. number_of_opener side k call) (let e : n ≡ n + 0 = omega arith in e)
-openers_from_push side n (x ∷ xs) call =
-    ap (λ l. number_of_opener side n x ++ l) (openers_from_push side (n + 1) xs call)
-    ∙ sym (append_assoc (number_of_opener side n x) (by_number (number_of_opener side) (n + 1) xs) (number_of_opener side (n + 1 + length xs) call))
-    ∙ ap (λ k. by_number (number_of_opener side) n (x ∷ xs) ++ number_of_opener side k call) (let e : n + 1 + length xs ≡ n + suc (length xs) = omega arith in e)
-
 openers_push : (side : Side) (calls : List Call) (call : Call) (opening : Option Opening) → opened side call.what ≡ opening →
     openers side (calls ++ call ∷ []) ≡ openers side calls ++ option_map_or (λ o. length calls ∷ []) opening []
 openers_push side calls call opening is =
-    openers_from_push side 0 calls call
+    by_number_push (number_of_opener side) 0 calls call
     ∙ ap (λ k. openers side calls ++ number_of_opener side k call) (let e : 0 + length calls ≡ length calls = omega arith in e)
     ∙ ap (λ o. openers side calls ++ option_map_or (λ (opening : Opening). length calls ∷ []) o []) is
 

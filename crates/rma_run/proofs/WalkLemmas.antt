@@ -1,5 +1,5 @@
 -- One more element at a loop's step.
-use Rattle.std.proofs.Common.{◌≡◌, ℕ, ◌+◌, suc, List, [], ◌∷◌, ◌++◌, length, take, Option, Some, slice_get, refl, sym, ap, ◌∙◌, arith, append_assoc, append-nil}
+use Rattle.std.proofs.Common.{◌≡◌, ℕ, ◌+◌, suc, List, [], ◌∷◌, ◌++◌, length, take, Option, Some, slice_get, sym, ap, ◌∙◌, arith, append_assoc, append-nil}
 use Rattle.std.specs.List.{filter_map, flat_map, cons_option}
 use Rattle.std.proofs.lemmas.List.{take_more, length-take, flat_map_more}
 use Rattle.std.proofs.lemmas.List.Elements.{filter_map-append}
@@ -25,7 +25,8 @@ filter_map_taken f xs i x before there =
     append_assoc before (filter_map f (take i xs)) (cons_option (f x) [])
     ∙ ap (λ l. before ++ l) (sym (filter_map-append f (take i xs) (x ∷ [])) ∙ ap (filter_map f) (sym (taken_there xs i x there)))
 
-by_number_push : {Y : Type 0} (f : ℕ → Call → List Y) (n : ℕ) (xs : List Call) (x : Call) → by_number f n (xs ++ x ∷ []) ≡ by_number f n xs ++ f (n + length xs) x
+-- what is had of the calls with one more
+pub by_number_push : {Y : Type 0} (f : ℕ → Call → List Y) (n : ℕ) (xs : List Call) (x : Call) → by_number f n (xs ++ x ∷ []) ≡ by_number f n xs ++ f (n + length xs) x
 by_number_push f n [] x = append-nil (f n x) ∙ ap (λ k. f k x) (let e : n ≡ n + 0 = omega arith in e)
 by_number_push f n (y ∷ ys) x =
     ap (λ l. f n y ++ l) (by_number_push f (n + 1) ys x)
@@ -39,13 +40,3 @@ by_number_taken f calls i call before there =
     append_assoc before (by_number f 0 (take i calls)) (f i call)
     ∙ ap (λ k. before ++ (by_number f 0 (take i calls) ++ f k call)) (let long = taken_length calls i call there in let e : i ≡ 0 + length (take i calls) = omega arith in e)
     ∙ ap (λ l. before ++ l) (sym (by_number_push f 0 (take i calls) call) ∙ ap (by_number f 0) (sym (taken_there calls i call there)))
-
-by_number_none_from : {Y : Type 0} (f : ℕ → Call → List Y) (n : ℕ) (calls : List Call) → ((i : ℕ) (call : Call) → slice_get calls i ≡ Some call → f (n + i) call ≡ []) → by_number f n calls ≡ []
-by_number_none_from f n [] none = refl
-by_number_none_from f n (call ∷ calls) none =
-    ap (λ l. l ++ by_number f (n + 1) calls) (ap (λ k. f k call) (let e : n ≡ n + 0 = omega arith in e) ∙ none 0 call refl)
-    ∙ by_number_none_from f (n + 1) calls (λ i c at. ap (λ k. f k c) (let e : n + 1 + i ≡ n + suc i = omega arith in e) ∙ none (suc i) c at)
-
--- where nothing is had of any call
-pub by_number_none : {Y : Type 0} (f : ℕ → Call → List Y) (calls : List Call) → ((i : ℕ) (call : Call) → slice_get calls i ≡ Some call → f i call ≡ []) → by_number f 0 calls ≡ []
-by_number_none f calls none = by_number_none_from f 0 calls (λ i call at. ap (λ k. f k call) (let e : 0 + i ≡ i = omega arith in e) ∙ none i call at)
