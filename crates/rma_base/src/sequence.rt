@@ -123,3 +123,15 @@ impl<T> Sequence<T> {
         self.items.clear();
     }
 }
+
+impl<T: Copy> Sequence<T> {
+    /// A list of the same items.
+    pub fn copy(&self) -> Result<Sequence<T>, Memory>
+        ensures { IfOk result (λ list. list ≡ self.now) }
+    {
+        match Vec::from_slice(self.allocator(), self.items.as_slice()) {
+            Ok(items) => Ok(Sequence { items }),
+            Err(_) => Err(Memory),
+        }
+    }
+}

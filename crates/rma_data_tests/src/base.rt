@@ -112,8 +112,8 @@ fn list(alloc: Global) -> Result<Sequence<i32>, Fail> {
 }
 
 #[test]
-fn items_of_a_list_are_pushed_and_set(rt: HostRuntime) -> Result<(), Fail> {
+fn items_of_a_list_are_pushed_set_and_copied(rt: HostRuntime) -> Result<(), Fail> {
     let list = list(rt.alloc())?;
-    assert!(rt; list.as_slice() == [4, 8, 9].as_slice());
+    assert!(rt; list.copy()?.as_slice() == [4, 8, 9].as_slice());
     Ok(())
 }
