@@ -1,5 +1,5 @@
 -- Walks that are past more points of other ranks.
-use Rattle.std.proofs.Common.{◌≡◌, ℕ, ◌+◌, ◌*◌, ◌<◌, ◌≤◌, ◌⊎◌, inl, inr, Bool, true, false, List, [], ◌∷◌, length, get_or, set, Some, is_some, refl, sym, ap, subst, ◌∙◌, arith, ⊎_elim}
+use Rattle.std.proofs.Common.{◌≡◌, ℕ, ◌+◌, ◌*◌, ◌/◌, ◌<◌, ◌≤◌, ◌⊎◌, inl, inr, Bool, true, false, List, [], ◌∷◌, length, get_or, set, Some, is_some, refl, sym, ap, subst, ◌∙◌, arith, ⊎_elim}
 use Rattle.std.specs.Prelude.{slice_get, slice_index, slice_index_or}
 use Rattle.std.specs.List.{AllWithin}
 use Rattle.std.proofs.lemmas.Bool.{cases_eq, cases_lt, false≢true}
@@ -11,31 +11,22 @@ use Rattle.rma_link.specs.declared.meet.Member.{Member}
 use Rattle.rma_link.specs.declared.meet.Meet as meet
 use Rattle.rma_link.specs.Point.{entry, IsReturn}
 use Rattle.rma_link.specs.Order.{IsAtOrBefore, IsAfterCycle}
-use Rattle.rma_walk.specs.inside.Run.{IsPassed, next_point}
+use Rattle.rma_walk.specs.inside.Run.{IsPassed, IsReady, next_point}
 use Rattle.rma_walk.specs.inside.Front.{IsFront, IsKept, HasAdvanced}
 use Rattle.rma_walk.specs.declared.source.Source.{Source}
-use Rattle.rma_walk.specs.inside.Pending.{IsInbox, IsPending}
-use Rattle.rma_walk.specs.inside.Search.{line, IsLine, IsStopped, IsDone, IsStack, IsWalk, IsAhead, IsSearch, work}
+use Rattle.rma_walk.specs.declared.source.Source.TheVariants.{Meet}
+use Rattle.rma_walk.specs.Source.{sources_of}
+use Rattle.rma_walk.specs.inside.Pending.{IsInbox, IsPending, IsAlone, IsSourcePassed}
+use Rattle.rma_walk.specs.inside.Search.{line, IsLine, IsStopped, IsStack, IsWalk, IsAhead, IsSearch, work}
 use Rattle.rma_walk.specs.declared.front.Front.{Front}
 use Rattle.rma_walk.specs.declared.search.Search.{Search}
 use Rattle.rma_walk.proofs.PendingLemmas.{in_ranks, no_member}
 use Rattle.rma_walk.proofs.FrontLemmas.{passed_kept}
-use Rattle.rma_walk.proofs.BlockerLemmas.{pending_later}
+use Rattle.rma_walk.proofs.BlockerLemmas.{pending_later, ready_gathered}
 use Rattle.rma_walk.proofs.StackLemmas.{line_front, line_last}
 use Rattle.rma_walk.proofs.WorkLemmas.{less_by_passing}
 
 module _ (lens : List ℕ) (links : Links) (current : ℕ) where
-  pub ahead_none : (search : Search) → IsWalk lens links search → IsAhead lens links current search search
-  ahead_none search walk = record {
-    walk = walk;
-    free = refl;
-    waiting = refl;
-    keeps = refl;
-    more = λ r. omega arith;
-    still = λ r own. refl;
-    less = omega arith;
-  }
-
   pub ahead_then : (old mid new : Search) → IsAhead lens links current old mid → IsAhead lens links current mid new → IsAhead lens links current old new
   ahead_then old mid new one two = record {
     walk = two.walk;
@@ -48,10 +39,6 @@ module _ (lens : List ℕ) (links : Links) (current : ℕ) where
         two.still r (⊎_elim (λ (same : r ≡ current). inl same) (λ (taken : T). inr (ap (λ free. slice_index_or free r true) one.free ∙ taken)) own) ∙ one.still r own;
     less = let first = one.less in let second = two.less in omega arith;
   }
-
-  -- what is passed stays passed
-  pub ahead_kept : (old new : Search) → IsAhead lens links current old new → (p : Point) → IsPassed old.front.next.items p → IsPassed new.front.next.items p
-  ahead_kept old new ahead p passed = let more = ahead.more p.rank.0 in omega arith
 
   -- another rank that may be followed passes points
   module _ (old new : Search) (rank : ℕ) (walk : IsWalk lens links old) (is_free : slice_index_or old.free.items rank true ≡ true) (differs : rank ≡ current → ⊥)
@@ -116,6 +103,32 @@ module _ (lens : List ℕ) (links : Links) (current : ℕ) where
           less = let lt = advanced_less in omega arith;
         }
 
+  -- it is past no more points, but knows more of what returns wait for
+  pub pending_ahead : (old new : Search) → IsWalk lens links old → new.front ≡ old.front → new.free ≡ old.free → new.waiting ≡ old.waiting → IsPending lens links old.front.next.items new.pending → IsAhead lens links current old new
+  pending_ahead old new walk front free waiting pending =
+      let F : Front → Type 0 = λ f. IsFront lens links f.next.items walk.order in
+      let K : Front → Type 0 = λ f. IsKept f.order walk.order in
+      let P : Front → Type 0 = λ f. IsPending lens links f.next.items new.pending in
+      let same_free : new.free.items ≡ old.free.items = ap (λ v. v.items) free in
+      let next : new.front.next.items ≡ old.front.next.items = ap (λ f. f.next.items) front in
+      let W : Front → List Bool → Type 0 = λ f free. work lens f.next.items free ≤ work lens old.front.next.items old.free.items in
+      record {
+        walk = record {
+          run = walk.run;
+          order = walk.order;
+          front = subst F (sym front) walk.front;
+          kept = subst K (sym front) walk.kept;
+          pending = subst P (sym front) pending;
+          size = ap length same_free ∙ walk.size;
+        };
+        free = same_free;
+        waiting = ap (λ v. v.items) waiting;
+        keeps = ap (λ f. is_some f.order) front;
+        more = λ r. let same = ap (λ n. slice_index n r) next in omega arith;
+        still = λ r own. ap (λ n. slice_index n r) next;
+        less = subst (λ f. W f new.free.items) (sym front) (subst (W old.front) (sym same_free) (omega arith));
+      }
+
   -- one more member of a meet is known to be entered
   module _ (old new : Search) (index member : ℕ) (m : meet.Meet) (walk : IsWalk lens links old) (at : slice_get links.meets index ≡ Some m) (lt : member < length m.calls)
       (so_far : slice_index old.pending.known.items index ≡ member) (passed : IsPassed old.front.next.items (entry (slice_index_or m.calls member no_member).rank (slice_index_or m.calls member no_member).call))
@@ -133,13 +146,16 @@ module _ (lens : List ℕ) (links : Links) (current : ℕ) where
         let is : m ≡ other = same_Some m other (sym at ∙ ap (slice_get links.meets) (sym same) ∙ at_other) in
         let before = walk.pending.known.entered index m at in
         let Q : meet.Meet → Type 0 = λ t. (slice_index new.pending.known.items i ≤ length t.calls) × AllWithin P t.calls 0 (slice_index new.pending.known.items i) in
-        subst Q is (omega arith, λ k d low high. ⊎_elim
-        (λ (less : k < member). before.1 k d low (omega arith))
-        (λ (last : member ≤ k).
-        let here : k ≡ member = omega arith in
-        let read : get_or m.calls k d ≡ get_or m.calls member no_member = ap (λ j. get_or m.calls j d) here ∙ get_or_default m.calls member d no_member lt in
-        subst P (sym read) passed)
-        (cases_lt k member)))
+        subst Q is (
+          omega arith,
+          λ k d low high. ⊎_elim
+              (λ (less : k < member). before.1 k d low (omega arith))
+              (λ (last : member ≤ k).
+              let here : k ≡ member = omega arith in
+              let read : get_or m.calls k d ≡ get_or m.calls member no_member = ap (λ j. get_or m.calls j d) here ∙ get_or_default m.calls member d no_member lt in
+              subst P (sym read) passed)
+              (cases_lt k member),
+        ))
         (λ (differs : i ≡ index → ⊥).
         let now : slice_index new.pending.known.items i ≡ slice_index old.pending.known.items i = ap (λ xs. slice_index xs i) known ∙ get_or-set_other old.pending.known.items index i (member + 1) 0 differs in
         let Q : ℕ → Type 0 = λ n. (n ≤ length other.calls) × AllWithin P other.calls 0 n in
@@ -148,36 +164,27 @@ module _ (lens : List ℕ) (links : Links) (current : ℕ) where
 
     pub known_ahead : IsAhead lens links current old new
     known_ahead =
-        let F : Front → Type 0 = λ f. IsFront lens links f.next.items walk.order in
-        let K : Front → Type 0 = λ f. IsKept f.order walk.order in
-        let P : Front → Type 0 = λ f. IsPending lens links f.next.items new.pending in
         let B : List (List (List Source)) → Type 0 = λ boxes. (length boxes ≡ length lens) × ((r : ℕ) → length (slice_index_or boxes r []) ≡ slice_index lens r)
-            × ((r : ℕ) → r < length lens → IsInbox links old.front.next.items r (slice_index_or boxes r [])) in
+        × ((r : ℕ) → r < length lens → IsInbox links old.front.next.items r (slice_index_or boxes r [])) in
         let boxes : B new.pending.inboxes.items = subst B (ap (λ v. v.items) (sym inboxes)) (walk.pending.size, walk.pending.sizes, walk.pending.inboxes) in
-        let same_free : new.free.items ≡ old.free.items = ap (λ v. v.items) free in
-        let next : new.front.next.items ≡ old.front.next.items = ap (λ f. f.next.items) front in
-        let W : Front → List Bool → Type 0 = λ f free. work lens f.next.items free ≤ work lens old.front.next.items old.free.items in
-        record {
-          walk = record {
-            run = walk.run;
-            order = walk.order;
-            front = subst F (sym front) walk.front;
-            kept = subst K (sym front) walk.kept;
-            pending = subst P (sym front) (record {
-              size = boxes.0;
-              sizes = boxes.1;
-              inboxes = boxes.2;
-              known = record { size = ap length known ∙ length-set old.pending.known.items index (member + 1) ∙ walk.pending.known.size; entered = entered_more };
-            });
-            size = ap length same_free ∙ walk.size;
-          };
-          free = same_free;
-          waiting = ap (λ v. v.items) waiting;
-          keeps = ap (λ f. is_some f.order) front;
-          more = λ r. let same = ap (λ n. slice_index n r) next in omega arith;
-          still = λ r own. ap (λ n. slice_index n r) next;
-          less = subst (λ f. W f new.free.items) (sym front) (subst (W old.front) (sym same_free) (omega arith));
-        }
+        pending_ahead old new walk front free waiting (record {
+          size = boxes.0;
+          sizes = boxes.1;
+          inboxes = boxes.2;
+          known = record { size = ap length known ∙ length-set old.pending.known.items index (member + 1) ∙ walk.pending.known.size; entered = entered_more };
+        })
+
+  -- a return that waits for one meet alone is ready where that is passed
+  pub ready_after : (old new : Search) (index : ℕ) → IsAhead lens links current old new → new.pending.inboxes ≡ old.pending.inboxes → slice_index old.front.next.items current < 2 * slice_index lens current
+      → IsAlone old.front.next.items old.pending.inboxes.items current index → IsSourcePassed links new.front.next.items (Meet index) → IsReady links new.front.next.items current
+  ready_after old new index ahead inboxes lt alone passed =
+      let same = ahead.still current (inl refl) in
+      let odd = alone.0 in
+      let call : ℕ = slice_index old.front.next.items current / 2 in
+      let at : slice_index new.front.next.items current ≡ 2 * call + 1 = omega arith in
+      let one : sources_of (slice_index_or new.pending.inboxes.items current []) call ≡ Meet index ∷ [] = ap (λ v. sources_of (slice_index_or v.items current []) call) inboxes ∙ alone.1 in
+      ready_gathered lens links new.front.next.items ahead.walk.run ahead.walk.front.ranks current call at (slice_index_or new.pending.inboxes.items current [])
+      (ahead.walk.pending.inboxes current (in_ranks lens current 0 (omega arith))) index one passed
 
 -- the line stays as it is
 module _ (lens : List ℕ) (links : Links) (old new : Search) (rank current : ℕ) (is : IsSearch lens links old rank current) (ahead : IsAhead lens links current old new) where

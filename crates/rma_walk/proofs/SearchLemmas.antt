@@ -10,15 +10,14 @@ use Rattle.rma_walk.specs.inside.Front.{IsFront, IsKept, HasAdvanced}
 use Rattle.rma_walk.specs.inside.Pending.{IsPending}
 use Rattle.rma_walk.specs.inside.Search.{IsStack, IsSearch, work}
 use Rattle.rma_walk.specs.declared.front.Front.{Front}
-use Rattle.rma_walk.specs.declared.pending.Pending.{Pending}
 use Rattle.rma_walk.specs.declared.search.Search.{Search}
 use Rattle.rma_walk.proofs.FrontLemmas.{passed_kept}
 use Rattle.rma_walk.proofs.BlockerLemmas.{pending_later}
 use Rattle.rma_walk.proofs.StackLemmas.{followed_other, stopped_all, passed_alone, passed_for}
 use Rattle.rma_walk.proofs.WorkLemmas.{less_by_passing, less_by_returning}
 
-module _ (lens : List ℕ) (links : Links) (old new : Search) (pending : Pending) (rank current : ℕ) (is : IsSearch lens links old rank current)
-    (is_free : slice_index_or old.free.items current true ≡ true) (pends : IsPending lens links old.front.next.items pending) (pending_is : new.pending ≡ pending) where
+module _ (lens : List ℕ) (links : Links) (old new : Search) (rank current : ℕ) (is : IsSearch lens links old rank current)
+    (is_free : slice_index_or old.free.items current true ≡ true) (pending_is : new.pending ≡ old.pending) where
   -- the rank that is followed waits
   module _ (other to : ℕ) (blocked : IsBlocked lens links old.front.next.items current other) (front : new.front ≡ old.front) (taken : new.free.items ≡ set old.free.items current false)
       (follows : slice_index_or (set old.free.items current false) other true ≡ true → (new.waiting.items ≡ old.waiting.items ++ current ∷ []) × (to ≡ other))
@@ -43,7 +42,7 @@ module _ (lens : List ℕ) (links : Links) (old new : Search) (pending : Pending
             order = is.walk.order;
             front = subst P (sym front) is.walk.front;
             kept = subst K (sym front) is.walk.kept;
-            pending = subst Q (sym front) (subst (IsPending lens links old.front.next.items) (sym pending_is) pends);
+            pending = subst Q (sym front) (subst (IsPending lens links old.front.next.items) (sym pending_is) is.walk.pending);
             size = ap length taken ∙ length-set old.free.items current false ∙ is.walk.size;
           };
           stack = ⊎_elim
@@ -90,8 +89,8 @@ module _ (lens : List ℕ) (links : Links) (old new : Search) (pending : Pending
     search_passes =
         let R : List ℕ → Type 0 = λ next. IsPending lens links next new.pending in
         let S : List ℕ → Type 0 = λ next. IsStack lens links next new.free.items new.waiting.items rank to in
-        let pending_is_later : IsPending lens links (set old.front.next.items current advanced.pos) pending =
-        pending_later links old.front.next.items (set old.front.next.items current advanced.pos) (passed_kept old.front.next.items current advanced.pos there advanced.more) lens pending pends in
+        let pending_is_later : IsPending lens links (set old.front.next.items current advanced.pos) old.pending =
+        pending_later links old.front.next.items (set old.front.next.items current advanced.pos) (passed_kept old.front.next.items current advanced.pos there advanced.more) lens old.pending is.walk.pending in
         record {
           walk = record {
             run = is.walk.run;

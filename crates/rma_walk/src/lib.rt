@@ -6,8 +6,11 @@
 //!
 //! It passes the points of one rank until a return has to wait for an entry of another rank, and then follows that rank up
 //! to a point that it can pass. The ranks that are followed stand in a line, so a cycle is found where the line comes back to
-//! itself. An [`Inbox`] has what the returns of one rank wait for, each a [`Source`], and [`inboxes_of`] makes those of a run. A
-//! call that waits for one meet alone takes 8 bytes there. A meet remembers how many of its first members are entered, so that
+//! itself. Where a return waits for a meet alone, the other members are first passed up to their entries, each as far as
+//! nothing is known to block it, so that only one that is blocked is followed.
+//!
+//! An [`Inbox`] has what the returns of one rank wait for, each a [`Source`], and [`inboxes_of`] makes those of a run. A call
+//! that waits for one meet alone takes 8 bytes there. A meet remembers how many of its first members are entered, so that
 //! each member is looked at once.
 #![tactic(auto)]
 

@@ -8,7 +8,7 @@ ghost use Rattle.rma_walk.specs.declared.source.Source.{Source};
 ghost use Rattle.rma_walk.specs.declared.source.Source.TheVariants.{Meet};
 ghost use Rattle.rma_walk.specs.inside.Run.{IsRun, AreReadable, IsPassed, IsReady, IsBlocked};
 ghost use Rattle.rma_walk.specs.Source.{AreSources, IsEdgeSource, IsMemberSource, IsMeetSource, sources_of};
-ghost use Rattle.rma_walk.specs.inside.Pending.{IsSource, IsSourcePassed, IsMissing, IsKnown, IsReduced, AreAdded, IsPending, no_meet};
+ghost use Rattle.rma_walk.specs.inside.Pending.{IsSource, IsSourcePassed, IsMissing, IsKnown, IsReduced, AreAdded, IsPending, IsAlone, no_meet};
 
 use crate::front::is_passed;
 use crate::inbox::Inbox;
@@ -96,7 +96,8 @@ impl Pending {
         requires pending { IsPending run.now.lens.now run.now.links.now next.now self.now }
         requires size { length next.now ≡ length run.now.lens.now }
         requires rank { slice_index next.now rank < 2 * slice_index run.now.lens.now rank }
-        ensures { IfSome result (λ index. index < length run.now.links.now.meets) }
+        ensures meet { IfSome result (λ index. index < length run.now.links.now.meets) }
+        ensures alone { IfSome result (IsAlone next.now self.now.inboxes.items rank) }
     {
         let pos = next[rank as usize];
         if pos % 2 == 0 {

@@ -1,8 +1,10 @@
 //! A walk on its way.
-ghost use Rattle.std.specs.Prelude.{◌≡◌, ◌<◌, ◌≤◌, ◌+◌, ◌*◌, ◌^◌, ◌++◌, ◌⊎◌, [], ◌∷◌, true, false, length, slice_index, slice_index_or, slice_set, is_some, All, IfOk, IfSome, OnOk};
+ghost use Rattle.std.specs.Prelude.{◌≡◌, ◌<◌, ◌≤◌, ◌+◌, ◌*◌, ◌^◌, ◌++◌, ◌⊎◌, [], ◌∷◌, true, false, length, slice_index, slice_index_or, slice_set, is_some, All, IfOk, IfSome, IfNone, OnOk};
 ghost use Rattle.rma_link.specs.Point.{IsPoint};
-ghost use Rattle.rma_walk.specs.inside.Run.{IsRun, IsPassed, IsReady};
+ghost use Rattle.rma_walk.specs.inside.Run.{IsRun, IsPassed, IsReady, IsBlocked};
+ghost use Rattle.rma_walk.specs.declared.source.Source.TheVariants.{Meet};
 ghost use Rattle.rma_walk.specs.inside.Front.{HasAdvanced};
+ghost use Rattle.rma_walk.specs.inside.Pending.{IsSourcePassed};
 ghost use Rattle.rma_walk.specs.inside.Search.{IsWalk, IsAhead, IsSearch, IsIdle, work};
 
 use crate::front::{Front, is_passed};
@@ -96,53 +98,62 @@ impl Search {
         ensures less { OnOk result (work run.now.lens.now self.new.front.next.items self.new.free.items < work run.now.lens.now self.old.front.next.items self.old.free.items) }
         ensures keeps { OnOk result (is_some self.new.front.order ≡ is_some self.old.front.order) }
     {
-        self.gather(run, current)?;
-        self.follow(run, rank, current)
-    }
-
-    /// Passes the next point of the rank, or waits for one of another rank.
-    #[inline]
-    fn follow(&mut self, run: &Run<'_>, rank: u32, current: u32) -> Result<u32, Memory>
-        requires search { IsSearch run.now.lens.now run.now.links.now self.old rank current }
-        requires next { slice_index self.old.front.next.items current < 2 * slice_index run.now.lens.now current }
-        requires free { slice_index_or self.old.free.items current true ≡ true }
-        ensures search { IfOk result (λ to. IsSearch run.now.lens.now run.now.links.now self.new rank to) }
-        ensures less { OnOk result (work run.now.lens.now self.new.front.next.items self.new.free.items < work run.now.lens.now self.old.front.next.items self.old.free.items) }
-        ensures keeps { OnOk result (is_some self.new.front.order ≡ is_some self.old.front.order) }
-    {
-        match self.pending.blocker(run, &self.front.next, current) {
+        match self.blocker(run, current)? {
             Some(other) => self.wait(rank, current, other),
             None => self.pass(run, current),
         }
     }
 
-    /// Where the rank is to return from a meet, other members are passed up to their entries, as far as nothing blocks them.
+    /// A rank that has to pass a point before the rank that is followed can pass its next one, if there is one. Other members of
+    /// a meet that it waits for are passed up to their entries first, as far as nothing blocks them.
     #[inline]
-    fn gather(&mut self, run: &Run<'_>, current: u32) -> Result<(), Memory>
+    fn blocker(&mut self, run: &Run<'_>, current: u32) -> Result<Option<u32>, Memory>
         requires walk { IsWalk run.now.lens.now run.now.links.now self.old }
         requires next { slice_index self.old.front.next.items current < 2 * slice_index run.now.lens.now current }
-        ensures { OnOk result (IsAhead run.now.lens.now run.now.links.now current self.old self.new) }
+        ensures ahead { OnOk result (IsAhead run.now.lens.now run.now.links.now current self.old self.new) }
+        ensures none { IfOk result (λ blocker. IfNone blocker (IsReady run.now.links.now self.new.front.next.items current)) }
+        ensures some { IfOk result (λ blocker. IfSome blocker (IsBlocked run.now.lens.now run.now.links.now self.new.front.next.items current)) }
+    {
+        if self.gather(run, current)? {
+            return Ok(None);
+        }
+        Ok(self.pending.blocker(run, &self.front.next, current))
+    }
+
+    /// Where the rank is to return from a meet, and waits for nothing else, other members are passed up to their entries, as far
+    /// as nothing blocks them. Answers whether nothing blocks the rank then.
+    #[inline]
+    fn gather(&mut self, run: &Run<'_>, current: u32) -> Result<bool, Memory>
+        requires walk { IsWalk run.now.lens.now run.now.links.now self.old }
+        requires next { slice_index self.old.front.next.items current < 2 * slice_index run.now.lens.now current }
+        ensures ahead { OnOk result (IsAhead run.now.lens.now run.now.links.now current self.old self.new) }
+        ensures ready { IfOk result (λ ready. ready ≡ true → IsReady run.now.links.now self.new.front.next.items current) }
     {
         match self.pending.meet(run, &self.front.next, current) {
             Some(index) => self.gather_members(run, current, index),
-            None => Ok(()),
+            None => Ok(false),
         }
     }
 
-    /// Passes the entries of the members of the meet, up to the first one that is blocked.
-    fn gather_members(&mut self, run: &Run<'_>, current: u32, index: usize) -> Result<(), Memory>
+    /// Passes the entries of the members of the meet, up to the first one that is blocked. Answers whether all are passed.
+    ///
+    /// It stands apart, since messages take longer where it is a part of each step.
+    #[inline(never)]
+    fn gather_members(&mut self, run: &Run<'_>, current: u32, index: usize) -> Result<bool, Memory>
         requires walk { IsWalk run.now.lens.now run.now.links.now self.old }
         requires index { index < length run.now.links.now.meets }
-        ensures { OnOk result (IsAhead run.now.lens.now run.now.links.now current self.old self.new) }
+        ensures ahead { OnOk result (IsAhead run.now.lens.now run.now.links.now current self.old self.new) }
+        ensures inboxes { self.new.pending.inboxes ≡ self.old.pending.inboxes }
+        ensures passed { IfOk result (λ all. all ≡ true → IsSourcePassed run.now.links.now self.new.front.next.items (Meet index)) }
     {
         let members = run.links.meets.get(index).calls.as_slice();
         for member in self.pending.known[index]..members.len() as u32 {
             if !self.reach(run, current, members[member as usize].entry())? {
-                return Ok(());
+                return Ok(false);
             }
             self.pending.known[index] = member + 1;
         }
-        Ok(())
+        Ok(true)
     }
 
     /// Passes points of a rank up to this one, as long as nothing blocks them. Answers whether it is passed. The rank that is

@@ -1,5 +1,5 @@
 -- What returns still wait for.
-use Rattle.std.specs.Prelude.{ℕ, ◌≡◌, ◌<◌, ◌≤◌, ◌⊎◌, List, [], Some, length, slice_get, slice_index, slice_index_or, Contains}
+use Rattle.std.specs.Prelude.{ℕ, ◌≡◌, ◌<◌, ◌≤◌, ◌/◌, ◌%◌, ◌⊎◌, List, [], ◌∷◌, Some, length, slice_get, slice_index, slice_index_or, Contains}
 use Rattle.std.specs.List.{AllWithin}
 use Rattle.rma_base.specs.declared.point.Point.{Point}
 use Rattle.rma_link.specs.declared.meet.Meet as meet
@@ -67,3 +67,7 @@ pub record IsPending (lens : List ℕ) (links : Links) (next : List ℕ) (pendin
   pub sizes : (rank : ℕ) → length (slice_index_or pending.inboxes.items rank []) ≡ slice_index lens rank
   pub inboxes : (rank : ℕ) → rank < length lens → IsInbox links next rank (slice_index_or pending.inboxes.items rank [])
   pub known : IsKnown links next pending.known.items
+
+-- the next point of a rank is a return that waits for this meet alone
+abbrev pub IsAlone : List ℕ → List (List (List Source)) → ℕ → ℕ → Type 0
+IsAlone next inboxes rank index = (slice_index next rank % 2 ≡ 1) × (sources_of (slice_index_or inboxes rank []) (slice_index next rank / 2) ≡ Meet index ∷ [])

@@ -1,14 +1,11 @@
-use Rattle.std.proofs.Common.{◌≡◌, ◌<◌, ◌++◌, ℕ, List, [], ◌∷◌, length, set, take, sym, subst, ap, ◌∙◌, arith}
-use Rattle.std.specs.Prelude.{All, slice_index, slice_index_or}
+use Rattle.std.proofs.Common.{◌≡◌, ◌<◌, ◌++◌, List, [], ◌∷◌, length, set, take, sym, subst, ap, ◌∙◌, arith}
+use Rattle.std.specs.Prelude.{slice_index, slice_index_or}
 use Rattle.std.proofs.lemmas.List.{get_or_read, take_more}
 use Rattle.rma_link.specs.declared.meet.Member.{Member}
-use Rattle.rma_link.specs.declared.meet.Meet as meet
-use Rattle.rma_link.specs.declared.links.Links.{Links}
-use Rattle.rma_link.specs.Within.{IsMemberWithin, AreWithin}
 use Rattle.rma_walk.specs.declared.source.Source.{Source}
 use Rattle.rma_walk.specs.declared.source.Source.TheVariants.{Meet}
 use Rattle.rma_walk.specs.Source.{IsMemberSource, sources_of}
-use Rattle.rma_walk.specs.inside.Pending.{AreAdded, no_meet}
+use Rattle.rma_walk.specs.inside.Pending.{AreAdded}
 use Rattle.rma_walk.proofs.PendingLemmas.{no_member, in_ranks, member_within, added_member}
 use Rattle.rma_walk.proofs.pending.add_members.Goals as goal
 

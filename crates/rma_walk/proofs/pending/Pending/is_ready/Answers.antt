@@ -1,6 +1,5 @@
 use Rattle.std.proofs.Common.{◌≡◌, ◌+◌, ◌*◌, ◌/◌, ◌<◌, ℕ, length, subst, arith}
 use Rattle.std.specs.Prelude.{slice_index}
-use Rattle.rma_link.specs.declared.links.Links.{Links}
 use Rattle.rma_walk.specs.declared.waits.Waits.{Waits}
 use Rattle.rma_walk.specs.Source.{sources_of}
 use Rattle.rma_walk.specs.inside.Inbox.{AreKept}

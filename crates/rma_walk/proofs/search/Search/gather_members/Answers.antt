@@ -1,4 +1,4 @@
-use Rattle.std.proofs.Common.{◌≡◌, ◌+◌, ◌*◌, ◌<◌, ◌^◌, List, length, set, Some, sym, subst, refl, ap, ◌∙◌, arith}
+use Rattle.std.proofs.Common.{◌≡◌, ◌+◌, ◌<◌, ◌^◌, List, length, Some, sym, subst, refl, ap, ◌∙◌, arith}
 use Rattle.std.specs.Prelude.{slice_get, slice_index, slice_index_or}
 use Rattle.std.proofs.lemmas.List.{get_or_read, get_or-set_same}
 use Rattle.std.proofs.lemmas.Option.{slice_get_read}
@@ -64,5 +64,6 @@ loop-member-preserved c =
     record {
       ahead = ahead_then lens links c.args.current c.args.self.now now _ one
           (known_ahead lens links c.args.current now _ index member c.get.result.now one.walk at lt known passed refl refl refl refl refl);
+      inboxes = ap (λ pending. pending.inboxes) c.in_ok-reach.ensures.pending ∙ c.loop-member.invariant.inboxes;
       known = get_or-set_same now.pending.known.items index (member + 1) 0 there;
     }

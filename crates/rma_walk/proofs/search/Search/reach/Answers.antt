@@ -1,4 +1,4 @@
-use Rattle.std.proofs.Common.{rules, ◌≡◌, ◌<◌, ◌*◌, refl, arith}
+use Rattle.std.proofs.Common.{rules, ◌<◌, ◌*◌, refl}
 use Rattle.std.specs.Prelude.{slice_index}
 use Rattle.rma_walk.proofs.AheadLemmas.{ahead_then, advanced_ahead, advanced_less}
 use Rattle.rma_walk.proofs.search.Search.reach.Goals as goal
