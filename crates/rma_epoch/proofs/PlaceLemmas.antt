@@ -1,5 +1,5 @@
 -- The places of windows.
-use Rattle.std.proofs.Common.{◌≡◌, ℕ, zero, suc, ◌<◌, cond, Bool, true, false, ◌∷◌, ◌++◌, List, [], length, Option, Some, None, nat_eq, position, get_or, slice_get, refl, sym, ap, subst, ◌∙◌, arith}
+use Rattle.std.proofs.Common.{◌≡◌, ℕ, zero, suc, ◌<◌, cond, Bool, true, false, ◌∷◌, ◌++◌, List, [], length, Option, Some, None, nat_eq, position, get_or, slice_get, take, length-take, refl, sym, ap, subst, ◌∙◌, arith}
 use Rattle.std.specs.Prelude.{is_some, option_map}
 use Rattle.std.proofs.lemmas.Bool.{false≢true}
 use Rattle.std.specs.Map.{keys_of, lookup, values_of}
@@ -9,7 +9,7 @@ use Rattle.std.proofs.lemmas.Cmp.{nat_list_eq_equiv}
 use Rattle.std.proofs.lemmas.List.{map-append}
 use Rattle.std.proofs.lemmas.List.Quantifiers.{position-Some}
 use Rattle.std.proofs.lemmas.Map.Entries.{lookup_from_place}
-use Rattle.std.proofs.lemmas.Option.{slice_get-get_or, slice_get-map}
+use Rattle.std.proofs.lemmas.Option.{slice_get-get_or, slice_get-map, slice_get_within}
 use Rattle.indexmap.specs.IndexMap.{IndexMap, IsUnique, keys, values, get, insert_entry, with_value_at}
 use Rattle.indexmap.proofs.CallerLemmas.{insert_entry-new, updates-with_value_at}
 use Rattle.rma_base.specs.declared.epoch_reason.EpochReason.{EpochReason}
@@ -61,7 +61,7 @@ found_at names name place is =
 -- a place stays that of what calls do
 stays_place : (windows : List Window) (old new : List (List ℕ)) (what : What) (place : Option Place) → StayThere old new → IsPlaceOf windows old what place → IsPlaceOf windows new what place
 stays_place windows old new what None stay none = none
-stays_place windows old new what (Some place) stay (name, at, is, number) = (name, stay place.index name at, is, number)
+stays_place windows old new what (Some place) stay (name, at, is, settled, does) = (name, stay place.index name at, is, settled, does)
 
 -- the places with one more
 pub places_more : (windows : List Window) (old new : List (List ℕ)) (whats : List What) (places : List (Option Place)) (what : What) (place : Option Place) → StayThere old new →
@@ -71,11 +71,16 @@ places_more windows old new whats places what place stay there is are number oth
     (λ before. stays_place windows old new other found stay (are number other found at before))
     (λ last same. let one : what ≡ other = (let here = ap (slice_get whats) last in cc) in subst (IsPlaceOf windows new other) same (subst (λ w. IsPlaceOf windows new w place) one is))
 
--- the place of the window of a call, by the number of what it does
-pub place_here : (windows : List Window) (names : List (List ℕ)) (whats : List What) (places : List (Option Place)) (calls : List Call) (i number : ℕ) (call : Call) → ArePlaces windows names whats places → number < length places →
-    slice_get calls i ≡ Some call → slice_get whats number ≡ option_map (λ c. c.what) (slice_get calls i) → IsPlaceOf windows names call.what (get_or places number None)
-place_here windows names whats places calls i number call are within there what =
-    are number call.what (get_or places number None) (what ∙ ap (option_map (λ (c : Call). c.what)) there) (slice_get-get_or places number None within)
+-- the place of the window of a call, by the number of what it does, where these names are there now
+pub place_here : (windows : List Window) (names now : List (List ℕ)) (whats : List What) (places : List (Option Place)) (calls : List Call) (i number : ℕ) (call : Call) (place : Option Place) → ArePlaces windows names whats places
+    → number < length places → place ≡ get_or places number place → slice_get calls i ≡ Some call → slice_get whats number ≡ option_map (λ c. c.what) (slice_get calls i) → now ≡ names → IsPlaceOf windows now call.what place
+place_here windows names now whats places calls i number call place are within read there what same =
+    subst (λ names. IsPlaceOf windows names call.what place) (sym same)
+    (are number call.what place (what ∙ ap (option_map (λ (c : Call). c.what)) there) (slice_get-get_or places number place within ∙ ap Some (sym read)))
+
+-- as many calls as come before one
+pub counted : (calls : List Call) (i : ℕ) (call : Call) → slice_get calls i ≡ Some call → i ≡ length (take i calls)
+counted calls i call there = let before = slice_get_within calls i call there in omega (arith, length-take i calls)
 
 -- a place past the end has no name
 pub no_value : {V : Type 0} {P : Type 0} (es : List (List ℕ × V)) (i : ℕ) (name : List ℕ) → slice_get (keys_of es) i ≡ Some name → None ≡ slice_get (values_of es) i → P

@@ -73,10 +73,10 @@ abbrev made : (ℕ → Option ℕ) → List (Option Opening) → ℕ → List Lo
 made close openings sound locks = record { sound = sound; epochs = map (option_map (epoch_with close)) openings; locks = locks }
 
 -- a table of what is kept is that of the calls
-pub table_is : (windows : List Window) (calls : List Call) (live : LiveEpochs) (sound : ℕ) (locks : List LockEpoch) → sound ≡ length calls → Represents calls live → HasLocks windows calls live → locks ≡ map (lock_with (close_in live.placements)) live.locks.items
-    → made (close_in live.placements) live.placements.openings.items sound locks ≡ table_of windows calls
-table_is windows calls live sound locks counted are has closed =
-    ap (made (close_in live.placements) live.placements.openings.items sound) (closed ∙ ap (map (lock_with (close_in live.placements))) has.locks_are)
-    ∙ ap (λ close. made close live.placements.openings.items sound (map (lock_with close) (locks_opened windows 0 calls))) (fun_ext are.closes_are)
-    ∙ ap (λ openings. made (close_of calls) openings sound (locks_of windows calls)) are.openings_are
-    ∙ ap (λ count. made (close_of calls) (openings_from [] calls) count (locks_of windows calls)) counted
+pub table_is : (windows : List Window) (calls : List Call) (live : LiveEpochs) (locks : List LockEpoch) → Represents calls live → HasLocks windows calls live → locks ≡ map (lock_with (close_in live.placements)) live.locks.items
+    → made (close_in live.placements) live.placements.openings.items live.taken locks ≡ table_of windows calls
+table_is windows calls live locks are has closed =
+    ap (made (close_in live.placements) live.placements.openings.items live.taken) (closed ∙ ap (map (lock_with (close_in live.placements))) has.locks_are)
+    ∙ ap (λ close. made close live.placements.openings.items live.taken (map (lock_with close) (locks_opened windows 0 calls))) (fun_ext are.closes_are)
+    ∙ ap (λ openings. made (close_of calls) openings live.taken (locks_of windows calls)) are.openings_are
+    ∙ ap (λ count. made (close_of calls) (openings_from [] calls) count (locks_of windows calls)) are.taken_are

@@ -7,9 +7,9 @@
 //! [`EpochTable`] of its sound calls beside the first fault.
 //!
 //! A call takes constant work, whatever is open and however many runs it touches, but for the ranks of its own group. So does
-//! each question. The window of a call that is taken alone is looked up by its name twice: among those of the rank, and among
-//! those of the run. In a whole log that is done once for all calls that do the same, and then a call finds its window by an
-//! index.
+//! each question. The window of a call that is taken alone is compared with that of the call before, and looked up by its name
+//! among those of the rank where it is another. In a whole log that is done once for all calls that do the same, and so is what
+//! no other call changes: then a call finds its window by an index, and no part is looked up.
 #![tactic(auto)]
 
 mod fault;

@@ -25,6 +25,8 @@ pub struct LiveEpochs {
     alloc: Global,
     /// What the calls taken leave open on each window.
     windows: OpenWindows,
+    /// How many calls are taken.
+    taken: u32,
     /// The epochs in which they stand.
     placements: Placements,
     /// The lock epochs that they open, in the order of their opening, without the calls that close them.
@@ -50,6 +52,7 @@ impl LiveEpochs {
         LiveEpochs {
             alloc,
             windows,
+            taken: 0,
             placements: Placements::new(alloc),
             locks: Vec::new(alloc),
         }
@@ -78,7 +81,7 @@ impl LiveEpochs {
     pub(crate) fn take_at(
         &mut self,
         windows: &Windows,
-        place: Option<Place>,
+        place: Option<Place<'_>>,
         call: CallRef<'_>,
     ) -> Result<Option<EpochReason>, Memory>
         requires { IsPlaceOf windows.now (names_in self.old.windows) (call_of call).what place }
@@ -87,14 +90,18 @@ impl LiveEpochs {
         ensures locks { IfOk result (λ reason. (calls : List Call) → Represents calls self.old → HasLocks windows.now calls self.old → HasLocks windows.now (taken_with reason (call_of call.entry) calls) self.new) }
         ensures names { OnOk result (names_in self.new.windows ≡ names_in self.old.windows) }
     {
-        let number = self.windows.taken();
+        let number = self.taken;
+        let Some(next) = number.checked_add(1) else {
+            return Err(Memory);
+        };
         let placement = self.windows.placement(place, call);
-        let reason = self.windows.take(windows, place, call)?;
+        let reason = self.windows.take(place, number, call)?;
         if reason.is_some() {
             return Ok(reason);
         }
         add_lock(&mut self.locks, windows, number, call.what)?;
         self.placements.add(number, placement)?;
+        self.taken = next;
         Ok(None)
     }
 
@@ -102,7 +109,7 @@ impl LiveEpochs {
     pub fn taken(&self) -> u32
         ensures { (calls : List Call) → Represents calls self.now → result ≡ length calls }
     {
-        self.windows.taken()
+        self.taken
     }
 
     /// The epoch in which the call of this number stands, where it is taken and is an access to a target.
@@ -134,7 +141,7 @@ impl LiveEpochs {
         ensures { IfOk result (λ table. (windows : List Window) (calls : List Call) → Represents calls self → HasLocks windows calls self → table ≡ table_of windows calls) }
     {
         let locks = self.placements.locks(self.alloc, &self.locks)?;
-        Ok(EpochTable::new(self.windows.taken(), self.placements, locks))
+        Ok(EpochTable::new(self.taken, self.placements, locks))
     }
 
     /// Whether an epoch has to be closed yet on a window that is not freed.

@@ -4,10 +4,8 @@ ghost use Rattle.std.specs.Map.{keys_of, lookup};
 ghost use Rattle.std.specs.List.{list_any};
 ghost use Rattle.std.specs.Cmp.Lexicographic.{pointwise};
 ghost use Rattle.rma_call.specs.Call.{Call, call_of, what_of};
-ghost use Rattle.rma_window.specs.Windows.{Window};
+ghost use Rattle.rma_window.specs.Windows.{Window, number_of};
 ghost use Rattle.rma_open.specs.Open.{open_on, is_unclosed};
-ghost use Rattle.rma_open.specs.Reason.{reason_at};
-ghost use Rattle.rma_epoch.specs.Table.{taken_with};
 ghost use Rattle.rma_epoch.specs.Fault.{leaves_open};
 ghost use Rattle.rma_open.specs.declared.open_epochs.OpenEpochs.{OpenEpochs};
 ghost use Rattle.rma_open.specs.inside.Held.{open_of};
@@ -17,7 +15,7 @@ use crate::placements::Placement;
 use indexmap::IndexMap;
 use rma_base::{EpochReason, Memory, Name};
 use rma_call::{CallList, CallRef, WhatRef};
-use rma_open::{OpenEpochs, window_on};
+use rma_open::{OpenEpochs, Settled, window_on};
 use rma_window::{WindowId, Windows};
 use std::alloc::Global;
 
@@ -29,17 +27,21 @@ pub(crate) struct OpenWindows {
     alloc: Global,
     /// What is open on each window that has a place.
     windows: IndexMap<Name, OpenEpochs>,
-    /// How many calls are taken.
-    taken: u32,
+    /// Under which number each of them was found among those of the run, by their indices.
+    numbers: Vec<Option<WindowId>>,
+    /// The index that was found last: the next call is mostly on the same window.
+    last: usize,
 }
 
 /// Where the window of a call is found.
 #[derive(Clone, Copy, Debug)]
-pub(crate) struct Place {
+pub(crate) struct Place<'a> {
     /// Its index among the windows on which something may be open.
     pub index: usize,
-    /// Its number among the windows of the run, if it is one of them.
-    pub window: Option<WindowId>,
+    /// What is settled of the call, whatever is open there.
+    pub settled: Settled,
+    /// What the call does.
+    pub what: WhatRef<'a>,
 }
 
 impl OpenWindows {
@@ -50,16 +52,17 @@ impl OpenWindows {
         OpenWindows {
             alloc,
             windows: IndexMap::new(alloc),
-            taken: 0,
+            numbers: Vec::new(alloc),
+            last: 0,
         }
     }
 
     /// The places of the windows that calls are on, by the numbers of what calls do.
-    pub(crate) fn places(
+    pub(crate) fn places<'a>(
         &mut self,
         windows: &Windows,
-        calls: &CallList,
-    ) -> Result<Vec<Option<Place>>, Memory>
+        calls: &'a CallList,
+    ) -> Result<Vec<Option<Place<'a>>>, Memory>
         ensures len { IfOk result (λ places. length places.items ≡ length calls.now.whats) }
         ensures places { IfOk result (λ places. ArePlaces windows.now (names_in self.new) calls.now.whats places.items) }
         ensures same { OnOk result ((before : List Call) → IsOpenAfter before self.old → IsOpenAfter before self.new) }
@@ -73,63 +76,91 @@ impl OpenWindows {
     }
 
     /// The place of the window that calls are on which do this, where they are on one.
-    pub(crate) fn place(
+    pub(crate) fn place<'a>(
         &mut self,
         windows: &Windows,
-        what: WhatRef<'_>,
-    ) -> Result<Option<Place>, Memory>
+        what: WhatRef<'a>,
+    ) -> Result<Option<Place<'a>>, Memory>
         ensures place { IfOk result (IsPlaceOf windows.now (names_in self.new) (what_of what.entry)) }
         ensures names { OnOk result (StayThere (names_in self.old) (names_in self.new)) }
         ensures same { OnOk result ((before : List Call) → IsOpenAfter before self.old → IsOpenAfter before self.new) }
     {
         match window_on(what) {
             Some(name) => {
-                let index = index_of(self.alloc, &mut self.windows, name)?;
-                let window = windows.find(name);
-                Ok(Some(Place { index, window }))
+                let index = self.index_of(name)?;
+                let window = self.number_of(windows, index, name)?;
+                let settled = Settled::of(windows, window, what);
+                Ok(Some(Place {
+                    index,
+                    settled,
+                    what,
+                }))
             }
             None => Ok(None),
         }
     }
 
-    /// Takes the next call, whose window has this place, unless it stands in no epoch that allows it: then it answers why, and
-    /// the call is not taken.
+    /// The index of a window. Nothing is open on one that is new.
+    fn index_of(&mut self, name: &Name) -> Result<usize, Memory>
+        ensures index { IfOk result (λ index. slice_get (names_in self.new) index ≡ Some name.now) }
+        ensures names { OnOk result (StayThere (names_in self.old) (names_in self.new)) }
+        ensures same { OnOk result ((other : List ℕ) → kept self.new.windows.entries other ≡ kept self.old.windows.entries other) }
+    {
+        if is_at(&self.windows, self.last, name) {
+            return Ok(self.last);
+        }
+        let index = index_of(self.alloc, &mut self.windows, name)?;
+        self.last = index;
+        Ok(index)
+    }
+
+    /// The number of the window at the index among those of the run, if it is one of them. It has this name.
+    fn number_of(
+        &mut self,
+        windows: &Windows,
+        index: usize,
+        name: &Name,
+    ) -> Result<Option<WindowId>, Memory>
+        ensures number { IfOk result (λ number. number ≡ number_of windows.now name.now) }
+        ensures same { OnOk result (self.new.windows.entries ≡ self.old.windows.entries) }
+    {
+        if let Some(number) = known_number(&self.numbers, index) {
+            if is_number(windows, number, name) {
+                return Ok(Some(number));
+            }
+        }
+        let number = windows.find(name);
+        if index == self.numbers.len() {
+            self.numbers.push(number)?;
+        }
+        Ok(number)
+    }
+
+    /// Takes the call of this number, which is the next one and whose window has this place, unless it stands in no epoch that
+    /// allows it: then it answers why, and the call is not taken.
     ///
     /// # Errors
     ///
-    /// `Memory` also where there are 2^32 calls or more.
+    /// `Memory`, and then nothing is said of what is kept.
     pub(crate) fn take(
         &mut self,
-        windows: &Windows,
-        place: Option<Place>,
+        place: Option<Place<'_>>,
+        number: u32,
         call: CallRef<'_>,
     ) -> Result<Option<EpochReason>, Memory>
-        requires { IsPlaceOf windows.now (names_in self.old) (call_of call).what place }
-        ensures reason { IfOk result (λ reason. (calls : List Call) → IsOpenAfter calls self.old → reason ≡ reason_at windows.now calls (call_of call.entry)) }
-        ensures taken { IfOk result (λ reason. (calls : List Call) → IsOpenAfter calls self.old → IsOpenAfter (taken_with reason (call_of call.entry) calls) self.new) }
         ensures names { OnOk result (names_in self.new ≡ names_in self.old) }
+        ensures taken { IfOk result (λ reason. (windows : List Window) (calls : List Call) → IsPlaceOf windows (names_in self.old) (call_of call.entry).what place.entry → number ≡ length calls → IsOpenAfter calls self.old
+            → IsTaken windows calls (call_of call.entry) reason self.new.windows.entries) }
     {
-        let Some(next) = self.taken.checked_add(1) else {
-            return Err(Memory);
-        };
-        let reason = take_in(&mut self.windows, windows, place, self.taken, call)?;
-        if reason.is_some() {
-            return Ok(reason);
+        match place {
+            Some(place) => take_at(&mut self.windows, place, number, call),
+            None => Ok(None),
         }
-        self.taken = next;
-        Ok(None)
-    }
-
-    /// How many calls are taken.
-    pub(crate) fn taken(&self) -> u32
-        ensures { (calls : List Call) → IsOpenAfter calls self.now → result ≡ length calls }
-    {
-        self.taken
     }
 
     /// In which epoch the call would stand that comes next, and what it would close. Its window has this place.
-    pub(crate) fn placement(&self, place: Option<Place>, call: CallRef<'_>) -> Placement
-        ensures { (windows : List Window) (calls : List Call) → IsOpenAfter calls self.now → IsPlaceOf windows (names_in self.now) (call_of call.entry).what place → result ≡ placed_at calls (call_of call.entry) }
+    pub(crate) fn placement(&self, place: Option<Place<'_>>, call: CallRef<'_>) -> Placement
+        ensures { (windows : List Window) (calls : List Call) → IsOpenAfter calls self.now → IsPlaceOf windows (names_in self.now) (call_of call.entry).what place.entry → result ≡ placed_at calls (call_of call.entry) }
     {
         match place {
             Some(place) => placement_in(&self.windows, place.index, call.what),
@@ -163,40 +194,50 @@ fn index_of(
     Ok(index)
 }
 
-/// Takes the call of this number, which is the next one, on the window at the place, unless it has a reason, which it answers.
-fn take_in(
-    table: &mut IndexMap<Name, OpenEpochs>,
-    windows: &Windows,
-    place: Option<Place>,
-    number: u32,
-    call: CallRef<'_>,
-) -> Result<Option<EpochReason>, Memory>
-    requires { IsPlaceOf windows.now (keys_of table.old.entries) (call_of call).what place }
-    ensures names { OnOk result (keys_of table.new.entries ≡ keys_of table.old.entries) }
-    ensures taken { IfOk result (λ reason. (calls : List Call) → number ≡ length calls → ((window : List ℕ) → kept table.old.entries window ≡ open_on calls window)
-        → IsTaken windows.now calls (call_of call.entry) reason table.new.entries) }
+/// Whether the window at the index has this name.
+fn is_at(table: &IndexMap<Name, OpenEpochs>, index: usize, name: &Name) -> bool
+    ensures { result ≡ true → slice_get (keys_of table.now.entries) index ≡ Some name.now }
 {
-    match place {
-        Some(place) => take_at(table, windows, place, number, call),
-        None => Ok(None),
+    match table.get_index(index) {
+        Some((key, _)) => key == name,
+        None => false,
     }
 }
 
-/// The same where it is on a window.
+/// The number at the index, if there is one.
+fn known_number(numbers: &[Option<WindowId>], index: usize) -> Option<WindowId> {
+    match numbers.get(index) {
+        Some(number) => *number,
+        None => None,
+    }
+}
+
+/// Whether it is the number of the window of this name.
+fn is_number(windows: &Windows, number: WindowId, name: &Name) -> bool
+    ensures { result ≡ true → Some number ≡ number_of windows.now name.now }
+{
+    if number.0 as usize >= windows.len() {
+        return false;
+    }
+    windows.name(number) == name
+}
+
+/// Takes the call of this number, which is the next one, on the window at the place, unless it has a reason, which it answers.
 fn take_at(
     table: &mut IndexMap<Name, OpenEpochs>,
-    windows: &Windows,
-    place: Place,
+    place: Place<'_>,
     number: u32,
     call: CallRef<'_>,
 ) -> Result<Option<EpochReason>, Memory>
-    requires { IsPlaceOf windows.now (keys_of table.old.entries) (call_of call).what (Some place) }
     ensures names { OnOk result (keys_of table.new.entries ≡ keys_of table.old.entries) }
-    ensures taken { IfOk result (λ reason. (calls : List Call) → number ≡ length calls → ((window : List ℕ) → kept table.old.entries window ≡ open_on calls window)
-        → IsTaken windows.now calls (call_of call.entry) reason table.new.entries) }
+    ensures taken { IfOk result (λ reason. (windows : List Window) (calls : List Call) → IsPlaceOf windows (keys_of table.old.entries) (call_of call.entry).what (Some place.entry) → number ≡ length calls
+        → ((window : List ℕ) → kept table.old.entries window ≡ open_on calls window) → IsTaken windows calls (call_of call.entry) reason table.new.entries) }
 {
     match table.get_index_mut(place.index) {
-        Some(own) => own.take_allowed(windows, place.window, number, call),
+        Some(own) => {
+            let what = place.what;
+            own.take_allowed(place.settled, number, CallRef { what, ..call })
+        }
         None => Ok(None),
     }
 }

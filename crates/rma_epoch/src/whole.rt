@@ -58,32 +58,26 @@ pub fn epoch_fault(
     }
     let mut opened = OpenWindows::new(alloc);
     let places = opened.places(windows, calls)?;
-    first_fault(&mut opened, windows, calls, places.as_slice(), own.end())
-}
-
-/// The first fault among the calls of a rank, none of which is taken yet, and the end of its log. These are the places of their
-/// windows, by the numbers of what calls do.
-fn first_fault(
-    opened: &mut OpenWindows,
-    windows: &Windows,
-    calls: &CallList,
-    places: &[Option<Place>],
-    end: LineNo,
-) -> Result<Option<EpochFault>, Memory>
-    requires nothing { IsOpenAfter [] opened.old }
-    requires each { length places.now ≡ length calls.now.whats }
-    requires places { ArePlaces windows.now (names_in opened.old) calls.now.whats places.now }
-    ensures { IfOk result (λ fault. fault ≡ fault_from windows.now [] calls.now.calls end) }
-{
-    for i in 0..calls.len() {
-        let call = calls.get(i);
-        let place = places[calls.what_number(i) as usize];
-        if let Some(reason) = opened.take(windows, place, call)? {
+    for number in 0..count(calls)? {
+        let index = number as usize;
+        let place = places[calls.what_number(index) as usize];
+        let call = calls.get(index);
+        if let Some(reason) = opened.take(place, number, call)? {
             let line = call.line;
             return Ok(Some(EpochFault { line, reason }));
         }
     }
-    Ok(fault_at_end(opened.is_unclosed(), end))
+    Ok(fault_at_end(opened.is_unclosed(), own.end()))
+}
+
+/// How many calls there are, if a number tells.
+fn count(calls: &CallList) -> Result<u32, Memory>
+    ensures { IfOk result (λ count. count ≡ length calls.now.calls) }
+{
+    match u32::try_from(calls.len()) {
+        Ok(count) => Ok(count),
+        Err(_) => Err(Memory),
+    }
 }
 
 /// The fault of the line that ends a log, where an epoch is left open.
@@ -115,7 +109,7 @@ fn take_sound(
     live: &mut LiveEpochs,
     windows: &Windows,
     calls: &CallList,
-    places: &[Option<Place>],
+    places: &[Option<Place<'_>>],
     end: LineNo,
 ) -> Result<Option<EpochFault>, Memory>
     requires nothing { Represents [] live.old }

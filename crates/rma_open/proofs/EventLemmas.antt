@@ -11,6 +11,12 @@ use Rattle.std.specs.Map.{lookup}
 use Rattle.std.specs.List.{list_any}
 use Rattle.std.specs.Prelude.{option_map, unwrap_or, is_some}
 use Rattle.std.specs.Option.{option_and_then, option_map_or, option_or}
+use denote.Bor.{Bor}
+use Rattle.rma_call.specs.Call.{what_of}
+use Rattle.rma_call.specs.declared.what.WhatRef.{WhatRef}
+use Rattle.rma_call.specs.declared.what.WhatRef.TheVariants as ref
+use Rattle.rma_call.specs.declared.rma.RmaCall.{RmaCall}
+use Rattle.rma_call.specs.declared.window.WindowCall.{WindowCall}
 use Rattle.rma_call.specs.declared.what.What.{What}
 use Rattle.rma_call.specs.declared.what.What.TheVariants.{Sync, Rma, Local}
 use Rattle.rma_call.specs.declared.what.SyncCall.TheVariants.{Frame, Message, Window, Epoch, Moving}
@@ -167,7 +173,17 @@ pub next_epoch : (n : ℕ) (call known : EpochCall) → call ≡ known → (past
     → open_of new ≡ open_after ((n, Sync (Epoch call)) ∷ past)
 next_epoch n call known same past old new is next = subst (λ (own : EpochCall). open_of new ≡ open_after ((n, Sync (Epoch own)) ∷ past)) (sym same) (next_is n (Sync (Epoch known)) past old new is next)
 
--- and of any other
-pub next_what : (n : ℕ) (what known : What) → what ≡ known → (past : List (ℕ × What)) (old new : OpenEpochs) → open_of old ≡ open_after past → IsNext n known (open_of old) (open_of new)
-    → open_of new ≡ open_after ((n, what) ∷ past)
-next_what n what known same past old new is next = subst (λ (own : What). open_of new ≡ open_after ((n, own) ∷ past)) (sym same) (next_is n known past old new is next)
+-- and of one that is on no window, which leaves all as it is
+pub next_other : (n : ℕ) (what : WhatRef) → ((call : Bor EpochCall) → what ≡ ref.Epoch call → ⊥) → ((call : Bor RmaCall) → what ≡ ref.Rma call → ⊥) → ((call : Bor WindowCall) → what ≡ ref.Window call → ⊥)
+    → (past : List (ℕ × What)) (own : OpenEpochs) → open_of own ≡ open_after past → open_of own ≡ open_after ((n, what_of what) ∷ past)
+next_other n (ref.Epoch call) epoch rma window past own is = absurd (epoch call refl)
+next_other n (ref.Rma call) epoch rma window past own is = absurd (rma call refl)
+next_other n (ref.Window call) epoch rma window past own is = absurd (window call refl)
+next_other n (ref.Frame call) epoch rma window past own is =
+    next_is n (Sync (Frame call.now)) past own own is (record { start = refl; post = refl; lock_all = refl; lock_on = λ t. refl; phase = refl; freed = refl })
+next_other n (ref.Message call) epoch rma window past own is =
+    next_is n (Sync (Message call.now)) past own own is (record { start = refl; post = refl; lock_all = refl; lock_on = λ t. refl; phase = refl; freed = refl })
+next_other n (ref.Moving call) epoch rma window past own is =
+    next_is n (Sync (Moving call.now)) past own own is (record { start = refl; post = refl; lock_all = refl; lock_on = λ t. refl; phase = refl; freed = refl })
+next_other n (ref.Local call) epoch rma window past own is =
+    next_is n (Local call.now) past own own is (record { start = refl; post = refl; lock_all = refl; lock_on = λ t. refl; phase = refl; freed = refl })

@@ -6,8 +6,8 @@
 //! in which an access stands, and the call that opened what it closes. [`window_on`] tells the window that a call is on.
 //!
 //! A call takes constant work, whatever is open and however many runs it touches, but for the ranks of its own group. So does
-//! each question. No name is looked up: a call comes with the number of its window among those of the run, and each part that
-//! it asks for is one look-up by that number and a rank.
+//! each question. No name and no part is looked up: what no other call changes is [`Settled`] before a call comes, by one look-up
+//! of each part that it asks for.
 #![tactic(auto)]
 
 mod call;
@@ -16,7 +16,9 @@ mod open_epochs;
 mod opening;
 mod range;
 mod reason;
+mod settled;
 
 pub use call::window_on;
 pub use open_epochs::OpenEpochs;
 pub use opening::{EpochKind, FencePhase, HeldLock, OpenStart, Opening};
+pub use settled::Settled;

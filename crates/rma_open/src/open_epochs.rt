@@ -1,25 +1,29 @@
 //! What is open on one window.
-ghost use Rattle.std.specs.Prelude.{◌≡◌, ◌||◌, ◌∷◌, [], ℕ, List, IfOk, OnOk, is_some};
+ghost use Rattle.std.specs.Prelude.{◌≡◌, ◌||◌, ◌∷◌, [], ℕ, List, Option, IfOk, OnOk, is_some};
 ghost use Rattle.std.specs.Option.{option_or};
 ghost use Rattle.rma_call.specs.Call.{call_of, what_of};
 ghost use Rattle.rma_call.specs.declared.what.What.{What};
-ghost use Rattle.rma_call.specs.declared.what.What.TheVariants.{Sync};
+ghost use Rattle.rma_call.specs.declared.what.What.TheVariants.{Rma, Sync};
 ghost use Rattle.rma_call.specs.declared.what.SyncCall.TheVariants.{Epoch, Window};
-ghost use Rattle.rma_open.specs.Calls.{number_on};
+ghost use Rattle.rma_call.specs.declared.epoch.EpochCall.TheVariants.{Fence};
+ghost use Rattle.rma_window.specs.Windows.{Window as RunWindow};
+ghost use Rattle.rma_open.specs.declared.settled.Settled.{Settled};
 ghost use Rattle.rma_open.specs.Open.{frees, is_exclusive, is_left, is_used, open_after, is_unclosed};
 ghost use Rattle.rma_open.specs.Reason.{reason_in, start_reaches};
 ghost use Rattle.rma_open.specs.Reaching.{by_phase, by_start, closed_by, opening_in, reaching};
 ghost use Rattle.rma_open.specs.inside.Held.{open_of};
+ghost use Rattle.rma_open.specs.inside.Member.{member_reason};
 ghost use Rattle.rma_open.specs.inside.Next.{past_with};
+ghost use Rattle.rma_open.specs.inside.Settled.{reason_among, settled_by};
 
 use crate::opening::{
     EpochKind, FencePhase, HeldLock, OpenStart, Opening, is_used, opened_phase, opening_of_phase,
     phase_if_used, used_phase,
 };
+use crate::settled::Settled;
 use indexmap::IndexMap;
 use rma_base::{EpochReason, Memory, Rank};
-use rma_call::{CallRef, EpochCall, LockKind, WhatRef, WindowCall};
-use rma_window::{WindowId, Windows};
+use rma_call::{Assertions, CallRef, EpochCall, LockKind, RmaCall, WhatRef, WindowCall};
 use std::alloc::Global;
 
 /// What a rank has open on one window.
@@ -55,49 +59,112 @@ impl OpenEpochs {
     }
 
     /// Takes the call of this number, which is the next one on the window, unless it stands in no epoch that allows it: then it
-    /// answers why, and nothing changes. The window has this number among those of the run, if it is one of them.
+    /// answers why, and nothing changes. This is settled of the call.
     ///
     /// # Errors
     ///
     /// `Memory`, and then nothing is said of what is open.
     pub fn take_allowed(
         &mut self,
-        windows: &Windows,
-        window: Option<WindowId>,
+        settled: Settled,
         number: u32,
         call: CallRef<'_>,
     ) -> Result<Option<EpochReason>, Memory>
-        requires { window ≡ number_on windows.now (what_of call.what) }
-        ensures reason { IfOk result (λ reason. reason ≡ reason_in windows.now (open_of self.old) (call_of call.entry).what call.entry.request) }
+        ensures reason { IfOk result (λ reason. (windows : List RunWindow) → settled ≡ settled_by windows (call_of call.entry).what
+            → reason ≡ reason_in windows (open_of self.old) (call_of call.entry).what call.entry.request) }
         ensures taken { IfOk result (λ reason. (past : List (ℕ × What)) → open_of self.old ≡ open_after past
             → open_of self.new ≡ open_after (past_with reason (number, (call_of call.entry).what) past)) }
     {
-        let reason = self.reason(windows, window, call);
+        if settled.not_member {
+            return Ok(Some(EpochReason::NotMember));
+        }
+        self.take_among(settled, number, call)
+    }
+
+    /// The same where all ranks that the call names have a part of the window.
+    fn take_among(
+        &mut self,
+        settled: Settled,
+        number: u32,
+        call: CallRef<'_>,
+    ) -> Result<Option<EpochReason>, Memory>
+        ensures reason { IfOk result (λ reason. reason ≡ reason_among settled (open_of self.old) (call_of call.entry).what call.entry.request) }
+        ensures taken { IfOk result (λ reason. (past : List (ℕ × What)) → open_of self.old ≡ open_after past
+            → open_of self.new ≡ open_after (past_with reason (number, (call_of call.entry).what) past)) }
+    {
+        match call.what {
+            WhatRef::Epoch(epoch) => self.take_epoch(number, epoch),
+            WhatRef::Rma(access) => Ok(self.take_access(settled, access, call.request)),
+            WhatRef::Window(window) => Ok(self.take_window(window)),
+            _ => Ok(None),
+        }
+    }
+
+    /// Takes an access to a target, unless it has a reason.
+    fn take_access(
+        &mut self,
+        settled: Settled,
+        access: &RmaCall,
+        request: Option<u32>,
+    ) -> Option<EpochReason>
+        ensures reason { result ≡ reason_among settled (open_of self.old) (Rma access.now) request }
+        ensures taken { (number : ℕ) (past : List (ℕ × What)) → open_of self.old ≡ open_after past
+            → open_of self.new ≡ open_after (past_with result (number, Rma access.now) past) }
+    {
+        let reason = self.access_reason(settled, access, request);
+        if reason.is_some() {
+            return reason;
+        }
+        self.phase = used_phase(self.phase);
+        None
+    }
+
+    /// Takes a call that frees the window, unless it has a reason. Any other call on windows is on none.
+    fn take_window(&mut self, call: &WindowCall) -> Option<EpochReason>
+        ensures reason { (settled : Settled) (request : Option ℕ) → result ≡ reason_among settled (open_of self.old) (Sync (Window call.now)) request }
+        ensures taken { (number : ℕ) (past : List (ℕ × What)) → open_of self.old ≡ open_after past
+            → open_of self.new ≡ open_after (past_with result (number, Sync (Window call.now)) past) }
+    {
+        if matches!(call, WindowCall::Free { .. }) && self.is_left() {
+            return Some(EpochReason::EpochLeftOpen);
+        }
+        self.freed = freed_after(self.freed, call);
+        None
+    }
+
+    /// Takes a call that opens, completes or closes an epoch, unless it has a reason.
+    fn take_epoch(&mut self, number: u32, call: &EpochCall) -> Result<Option<EpochReason>, Memory>
+        ensures reason { IfOk result (λ reason. reason ≡ member_reason (open_of self.old) call.now) }
+        ensures taken { IfOk result (λ reason. (past : List (ℕ × What)) → open_of self.old ≡ open_after past
+            → open_of self.new ≡ open_after (past_with reason (number, Sync (Epoch call.now)) past)) }
+    {
+        if let EpochCall::Fence { assertions, .. } = call {
+            return Ok(self.take_fence(number, *assertions));
+        }
+        let reason = self.member_reason(call);
         if reason.is_some() {
             return Ok(reason);
         }
-        self.take(number, call.what)?;
+        self.turn(number, call)?;
         Ok(None)
     }
 
-    /// Takes the call of this number, which is the next one on the window.
-    fn take(&mut self, number: u32, what: WhatRef<'_>) -> Result<(), Memory>
-        ensures { OnOk result ((past : List (ℕ × What)) → open_of self.old ≡ open_after past → open_of self.new ≡ open_after ((number, what_of what.entry) ∷ past)) }
+    /// Takes a fence, unless it has a reason.
+    fn take_fence(&mut self, number: u32, assertions: Assertions) -> Option<EpochReason>
+        ensures reason { (window : List ℕ) → result ≡ member_reason (open_of self.old) (Fence window assertions) }
+        ensures taken { (window : List ℕ) (past : List (ℕ × What)) → open_of self.old ≡ open_after past
+            → open_of self.new ≡ open_after (past_with result (number, Sync (Epoch (Fence window assertions))) past) }
     {
-        match what {
-            WhatRef::Epoch(call) => return self.take_epoch(number, call),
-            WhatRef::Rma(_) => self.phase = used_phase(self.phase),
-            WhatRef::Window(call) => self.freed = freed_after(self.freed, call),
-            WhatRef::Frame(_) => {}
-            WhatRef::Message(_) => {}
-            WhatRef::Moving(_) => {}
-            WhatRef::Local(_) => {}
+        let reason = self.fence_reason(assertions);
+        if reason.is_some() {
+            return reason;
         }
-        Ok(())
+        self.phase = opened_phase(number, assertions.nosucceed);
+        None
     }
 
-    /// Takes a call that opens, completes or closes an epoch.
-    fn take_epoch(&mut self, number: u32, call: &EpochCall) -> Result<(), Memory>
+    /// Opens or closes what the call opens or closes.
+    fn turn(&mut self, number: u32, call: &EpochCall) -> Result<(), Memory>
         ensures { OnOk result ((past : List (ℕ × What)) → open_of self.old ≡ open_after past → open_of self.new ≡ open_after ((number, Sync (Epoch call.now)) ∷ past)) }
     {
         match call {

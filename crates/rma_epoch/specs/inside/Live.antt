@@ -1,5 +1,5 @@
 -- What is kept of the epochs of a rank.
-use Rattle.std.specs.Prelude.{◌≡◌, ℕ, List, []}
+use Rattle.std.specs.Prelude.{◌≡◌, ℕ, List, [], length}
 use Rattle.rma_call.specs.Call.{Call}
 use Rattle.rma_window.specs.Windows.{Window}
 use Rattle.rma_epoch.specs.declared.live.LiveEpochs.{LiveEpochs}
@@ -10,6 +10,7 @@ use Rattle.rma_epoch.specs.inside.Windows.{IsOpenAfter}
 -- what is kept represents what these calls of a rank leave open, and the epochs in which they stand
 pub record Represents (calls : List Call) (live : LiveEpochs) : Type 0 where
   pub open_is : IsOpenAfter calls live.windows
+  pub taken_are : live.taken ≡ length calls
   pub openings_are : live.placements.openings.items ≡ openings_from [] calls
   pub closes_are : (opener : ℕ) → close_in live.placements opener ≡ close_of calls opener
 

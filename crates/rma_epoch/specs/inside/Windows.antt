@@ -1,12 +1,12 @@
 -- What is kept of what is open on the windows of a rank.
-use Rattle.std.specs.Prelude.{◌≡◌, ℕ, List, [], length, nat_eq, Option, Some, None, slice_get}
+use Rattle.std.specs.Prelude.{◌≡◌, ℕ, List, [], nat_eq, Option, Some, None, slice_get}
 use Rattle.std.specs.Map.{keys_of, lookup}
 use Rattle.std.specs.Option.{option_map_or}
 use Rattle.std.specs.Cmp.Lexicographic.{pointwise}
 use Rattle.rma_base.specs.declared.epoch_reason.EpochReason.{EpochReason}
-use Rattle.rma_call.specs.Call.{Call}
+use Rattle.rma_call.specs.Call.{Call, what_of}
 use Rattle.rma_call.specs.declared.what.What.{What}
-use Rattle.rma_window.specs.Windows.{Window, number_of}
+use Rattle.rma_window.specs.Windows.{Window}
 use Rattle.rma_open.specs.declared.open_epochs.OpenEpochs.{OpenEpochs}
 use Rattle.rma_epoch.specs.declared.open_windows.OpenWindows.{OpenWindows}
 use Rattle.rma_epoch.specs.declared.open_windows.Place.{Place}
@@ -17,6 +17,7 @@ use Rattle.rma_open.specs.Reason.{reason_at}
 use Rattle.rma_open.specs.Reaching.{closed_by, opening_in}
 use Rattle.rma_epoch.specs.Table.{closed_at, opening_at, taken_with}
 use Rattle.rma_open.specs.inside.Held.{open_of}
+use Rattle.rma_open.specs.inside.Settled.{settled_by}
 
 -- what is kept of a window: nothing is open where nothing is kept
 abbrev pub kept : List (List ℕ × OpenEpochs) → List ℕ → Open
@@ -25,16 +26,17 @@ kept windows window = option_map_or open_of (lookup (pointwise nat_eq window) wi
 -- what is kept represents what these calls of a rank leave open
 pub record IsOpenAfter (calls : List Call) (own : OpenWindows) : Type 0 where
   pub windows_are : (window : List ℕ) → kept own.windows.entries window ≡ open_on calls window
-  pub taken_are : own.taken ≡ length calls
 
 -- the windows that have a place, in the order of their places
 abbrev pub names_in : OpenWindows → List (List ℕ)
 names_in own = keys_of own.windows.entries
 
--- a place is that of the window which calls are on that do this, with its number among those of the run, and there is none where they are on no window
+-- a place is that of the window which calls are on that do this, with what is settled of them and what they do, and there is none where they are on no window
 abbrev pub IsPlaceOf : List Window → List (List ℕ) → What → Option Place → Type 0
 IsPlaceOf windows names what None = window_on what ≡ None
-IsPlaceOf windows names what (Some place) = (name : List ℕ) × (slice_get names place.index ≡ Some name) × (window_on what ≡ Some name) × (place.window ≡ number_of windows name)
+IsPlaceOf windows names what (Some place) = (name : List ℕ) × (slice_get names place.index ≡ Some name) × (window_on what ≡ Some name)
+    × (place.settled ≡ settled_by windows what)
+    × (what_of place.what ≡ what)
 
 -- the places are those of what calls do, by number
 abbrev pub ArePlaces : List Window → List (List ℕ) → List What → List (Option Place) → Type 0

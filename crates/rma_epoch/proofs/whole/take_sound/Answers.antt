@@ -1,9 +1,8 @@
-use Rattle.std.proofs.Common.{◌≡◌, Some, None, get_or, take, sym, subst, ◌∙◌, arith}
+use Rattle.std.proofs.Common.{◌≡◌, Some, None, take, sym, subst, ◌∙◌, arith}
 use Rattle.rma_call.specs.Call.{call_of}
 use Rattle.rma_open.specs.Reason.{reason_at}
 use Rattle.rma_epoch.specs.Table.{taken_with}
 use Rattle.rma_epoch.specs.inside.Live.{HasLocks, Represents}
-use Rattle.rma_epoch.specs.inside.Windows.{IsPlaceOf}
 use Rattle.rma_epoch.proofs.LiveLemmas.{fault_on, taken_there}
 use Rattle.rma_epoch.proofs.PlaceLemmas.{place_here}
 use Rattle.rma_epoch.proofs.SoundLemmas.{sound_more, sound_until}
@@ -70,5 +69,5 @@ take_at-requires c =
     let places = c.args.places.now in
     let call = call_of c.get-call.result in
     let number = c.what_number.result in
-    subst (λ names. IsPlaceOf windows names call.what (get_or places number None)) (sym c.loop-i.invariant.names)
-    (place_here windows _ calls.whats places calls.calls c.loop-i.i number call c.requires.places (omega (arith, c.what_number.ensures.within, c.requires.each)) c.get-call.ensures c.what_number.ensures.what)
+    place_here windows _ _ calls.whats places calls.calls c.loop-i.i number call c.index-places-what_number.result c.requires.places (omega (arith, c.what_number.ensures.within, c.requires.each)) c.index-places-what_number.is
+    c.get-call.ensures c.what_number.ensures.what c.loop-i.invariant.names

@@ -5,5 +5,5 @@ use Rattle.rma_epoch.proofs.TableLemmas.{table_is}
 use Rattle.rma_epoch.proofs.live.LiveEpochs.into_table.Goals as goal
 
 pub returns : goal.returns
-returns c = λ windows calls are has. c.new.ensures ∙ table_is windows calls c.args.self c.taken.result c.in_ok-locks.locks.items (c.taken.ensures calls are.open_is) are has
+returns c = λ windows calls are has. c.new.ensures ∙ table_is windows calls c.args.self c.in_ok-locks.locks.items are has
     (c.in_ok-locks.ensures ∙ ap (map (lock_with (close_in c.args.self.placements))) c.deref.ensures.value)
