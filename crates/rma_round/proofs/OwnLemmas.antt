@@ -2,6 +2,7 @@
 use Rattle.std.proofs.Common.{◌≡◌, ℕ, zero, suc, ◌+◌, ◌<◌, Bool, true, false, cond, ◌∷◌, ◌++◌, List, [], length, Option, Some, None, nat_eq, take, get_or, slice_get, position, is_some, refl, sym, ap, subst, ◌∙◌, arith, append-nil}
 use Rattle.std.specs.Prelude.{All, unwrap_or}
 use Rattle.std.specs.List.{IsDistinct}
+use Rattle.std.specs.Option.{option_map_or}
 use Rattle.std.specs.Map.{lookup, keys_of, values_of}
 use Rattle.std.specs.Cmp.Lexicographic.{pointwise, same_text}
 use Rattle.std.proofs.lemmas.Bool.{eqb-true}
@@ -20,11 +21,13 @@ use Rattle.rma_run.proofs.CallLemmas.{itself}
 use Rattle.rma_run.proofs.ContainLemmas.{all_from_contains}
 use Rattle.rma_run.proofs.WalkLemmas.{taken_there, taken_length}
 use Rattle.rma_round.specs.declared.kind.Kind.{Kind}
+use Rattle.rma_round.specs.declared.kind.Kind.TheVariants.{Collective, Free, Fence, Moving}
 use Rattle.rma_round.specs.declared.kind_rounds.KindRounds.{KindRounds}
 use Rattle.rma_round.specs.Kind.{named, is_on}
 use Rattle.rma_round.specs.Round.{numbers}
 use Rattle.rma_round.specs.inside.Rounds.{kept, numbers_in, AreOfKind}
-use Rattle.rma_round.specs.inside.Lists.{list_of, HasNumbers, IsPlaceOf, ArePlaces, StayThere}
+use Rattle.rma_round.specs.inside.Lists.{list_of, index_in, HasNumbers, IsPlaceOf, ArePlaces, StayThere, IsPushed}
+use Rattle.rma_round.specs.declared.own_calls.Place.{Place}
 use Rattle.rma_round.proofs.NumberLemmas.{numbers_push, call_at}
 
 pub some_at : {X : Type 0} (xs : List X) (i : ℕ) → i < length xs → (x : X) × (slice_get xs i ≡ Some x)
@@ -106,12 +109,26 @@ IsPlaceOf_stays kind old new what None stay none = none
 IsPlaceOf_stays kind old new what (Some place) stay (name, at, is) = (name, stay place name at, is)
 
 -- the places with one more
-pub ArePlaces_more : (kind : Kind) (old new : List (List ℕ)) (whats : List What) (places : List (Option ℕ)) (what : What) (place : Option ℕ) → StayThere old new →
-    slice_get whats (length places) ≡ Some what → IsPlaceOf kind new what place → ArePlaces kind old whats places → ArePlaces kind new whats (places ++ place ∷ [])
+pub ArePlaces_more : (kind : Kind) (old new : List (List ℕ)) (whats : List What) (places : List Place) (what : What) (place : Place) → StayThere old new →
+    slice_get whats (length places) ≡ Some what → IsPlaceOf kind new what (index_in kind place) → ArePlaces kind old whats places → ArePlaces kind new whats (places ++ place ∷ [])
 ArePlaces_more kind old new whats places what place stay there is are number other found at in_places =
-    in_push (IsPlaceOf kind new other found) places place found number in_places
-    (λ before. IsPlaceOf_stays kind old new other found stay (are number other found at before))
-    (λ last same. let one : what ≡ other = (let here = ap (slice_get whats) last in cc) in subst (IsPlaceOf kind new other) same (subst (λ w. IsPlaceOf kind new w place) one is))
+    in_push (IsPlaceOf kind new other (index_in kind found)) places place found number in_places
+    (λ before. IsPlaceOf_stays kind old new other (index_in kind found) stay (are number other found at before))
+    (λ last same. let one : what ≡ other = (let here = ap (slice_get whats) last in cc) in subst (λ p. IsPlaceOf kind new other (index_in kind p)) same (subst (λ w. IsPlaceOf kind new w (index_in kind place)) one is))
+
+-- what holds of each kind
+pub each_kind : (P : Kind → Type 0) → P Collective → P Free → P Fence → P Moving → (kind : Kind) → P kind
+each_kind P collective free fence moving Collective = collective
+each_kind P collective free fence moving Free = free
+each_kind P collective free fence moving Fence = fence
+each_kind P collective free fence moving Moving = moving
+
+-- a call that is on no name of the kind is in no list of it
+pub nothing_pushed : (kind : Kind) (number : ℕ) (lists : List (List ℕ × List ℕ)) → IsPushed kind None number lists lists
+nothing_pushed kind number lists = record {
+  names_stay = refl;
+  lists_are = λ call none name. sym (append-nil (list_of lists name)) ∙ ap (λ o. list_of lists name ++ cond (option_map_or (λ own. pointwise nat_eq own name) o false) (number ∷ []) []) (sym none);
+}
 
 -- ---- the numbers of the calls
 
@@ -123,16 +140,12 @@ numbers_taken kind name calls i call there =
     ∙ sym (numbers_push kind name (take i calls) call)
     ∙ ap (numbers kind name) (sym (taken_there calls i call there))
 
-pub no_entries : {X : Type 0} (xs : List X) → length xs ≡ 0 → xs ≡ []
-no_entries [] none = refl
-no_entries (x ∷ xs) none = absurd (omega (arith, none))
-
 no_element : {X : Type 0} (xs : List X) → ((i : ℕ) (x : X) → slice_get xs i ≡ Some x → ⊥) → [] ≡ xs
 no_element [] none = refl
 no_element (x ∷ xs) none = absurd (none 0 x refl)
 
 -- where no name has a place there are no numbers
-pub no_numbers : (kind : Kind) (names : List (List ℕ)) (whats : List What) (places : List (Option ℕ)) (calls : List Call) → names ≡ [] → length places ≡ length whats → HasNumbers whats calls → ArePlaces kind names whats places
+pub no_numbers : (kind : Kind) (names : List (List ℕ)) (whats : List What) (places : List Place) (calls : List Call) → names ≡ [] → length places ≡ length whats → HasNumbers whats calls → ArePlaces kind names whats places
     → (name : List ℕ) → [] ≡ numbers kind name calls
 no_numbers kind names whats places calls empty long each are name =
     no_element (numbers kind name calls)
@@ -141,7 +154,7 @@ no_numbers kind names whats places calls empty long each are name =
     let has = each number one.0 one.1 in
     let below = slice_get_within whats has.0 one.0.what has.1 in
     let place = some_at places has.0 (omega arith) in
-    by one.0.what place.0 one.2 (are has.0 one.0.what place.0 has.1 place.1))
+    by one.0.what (index_in kind place.0) one.2 (are has.0 one.0.what place.0 has.1 place.1))
   where
     by : (what : What) (place : Option ℕ) → named kind what ≡ Some name → IsPlaceOf kind names what place → ⊥
     by what None is none = none-some name (sym none ∙ is)

@@ -1,22 +1,21 @@
 //! The rounds of one kind.
-ghost use Rattle.std.specs.Prelude.{◌≡◌, ◌<◌, ◌≤◌, ◌++◌, Contains, Some, slice_get, ◌∷◌, [], ℕ, List, true, false, length, nat_eq, OnOk, option_copied, if◌then◌else◌};
+ghost use Rattle.std.specs.Prelude.{◌≡◌, ◌<◌, ◌++◌, Contains, Some, slice_get, ◌∷◌, [], ℕ, List, true, false, length, nat_eq, OnOk, option_copied, if◌then◌else◌};
 ghost use Rattle.std.specs.List.{flat_map, IsDistinct};
 ghost use Rattle.std.specs.Cmp.Lexicographic.{pointwise};
-ghost use Rattle.rma_base.specs.Limits.{fed_limit};
 ghost use Rattle.rma_call.specs.Call.{Call, call_of, what_of};
 ghost use Rattle.rma_run.specs.Run.{IsRun, calls_of, with_calls};
 ghost use Rattle.rma_round.specs.declared.kind.Kind.{Kind};
 ghost use Rattle.rma_round.specs.Round.{numbers, place_in, match_of, matched_at};
 ghost use Rattle.rma_round.specs.Kind.{named};
 ghost use Rattle.rma_round.specs.inside.Rounds.{kept, numbers_in, names_in, AreOnName, AreFoundOnName, AreOfKind};
+ghost use Rattle.rma_round.specs.inside.Lists.{list_of};
 ghost use Rattle.rma_round.specs.inside.Met.{name_meets};
 
 use crate::kind::{Kind, named};
 use crate::name_rounds::{NameRounds, place_in};
-use crate::own_calls::calls_by_name;
 use indexmap::IndexMap;
 use rma_base::{Memory, Name, Rank, Sequence};
-use rma_call::{CallList, CallRef, RankCalls, WhatRef};
+use rma_call::{CallRef, RankCalls, WhatRef};
 use rma_link::Links;
 use std::alloc::Global;
 
@@ -97,18 +96,17 @@ impl KindRounds {
         add(alloc, &mut self.names, rank, number, name)
     }
 
-    /// Takes all calls of a rank, of which none is taken yet, that are of the kind.
+    /// Takes all calls of a rank, of which none is taken yet, that are of the kind: their numbers by their names.
     pub(crate) fn take_all(
         &mut self,
         alloc: Global,
         rank: Rank,
-        own: &CallList,
+        own: IndexMap<Name, Sequence<u32>>,
     ) -> Result<(), Memory>
-        requires { length own.now.calls ≤ fed_limit }
-        ensures { OnOk result ((kind : Kind) (calls : ℕ → List Call) → calls rank.0 ≡ [] → AreOfKind kind calls self.old
-            → AreOfKind kind (with_calls calls rank.0 own.now.calls) self.new) }
+        ensures { OnOk result ((kind : Kind) (calls : ℕ → List Call) (more : List Call) → calls rank.0 ≡ [] → ((name : List ℕ) → list_of own.entries name ≡ numbers kind name more)
+            → AreOfKind kind calls self.old → AreOfKind kind (with_calls calls rank.0 more) self.new) }
     {
-        for (name, numbers) in calls_by_name(alloc, self.kind, own)? {
+        for (name, numbers) in own {
             put(alloc, &mut self.names, rank, name, numbers)?;
         }
         Ok(())

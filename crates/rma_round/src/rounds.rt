@@ -8,6 +8,7 @@ ghost use Rattle.rma_round.specs.inside.Rounds.{AreOfKind, Represents};
 
 use crate::kind::Kind;
 use crate::kind_rounds::KindRounds;
+use crate::own_calls::OwnCalls;
 use rma_base::{Memory, Rank};
 use rma_call::{CallList, CallRef, RankCalls};
 use std::alloc::Global;
@@ -105,10 +106,16 @@ impl Rounds {
         ensures { OnOk result ((calls : ℕ → List Call) → calls rank.0 ≡ [] → Represents calls self.old
             → Represents (with_calls calls rank.0 own.now.calls) self.new) }
     {
-        self.collectives.take_all(self.alloc, rank, own)?;
-        self.frees.take_all(self.alloc, rank, own)?;
-        self.fences.take_all(self.alloc, rank, own)?;
-        self.movings.take_all(self.alloc, rank, own)?;
+        let OwnCalls {
+            collectives,
+            frees,
+            fences,
+            movings,
+        } = OwnCalls::of_calls(self.alloc, own)?;
+        self.collectives.take_all(self.alloc, rank, collectives)?;
+        self.frees.take_all(self.alloc, rank, frees)?;
+        self.fences.take_all(self.alloc, rank, fences)?;
+        self.movings.take_all(self.alloc, rank, movings)?;
         Ok(())
     }
 }
