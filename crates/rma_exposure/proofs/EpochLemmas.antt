@@ -1,5 +1,5 @@
 -- What is kept of the epochs of a rank, with one more call.
-use Rattle.std.proofs.Common.{◌≡◌, ℕ, suc, ◌+◌, Bool, true, false, cond, ◌&&◌, ◌∷◌, ◌++◌, List, [], length, Option, Some, None, Result, Ok, Err, nat_eq, refl, sym, ap, subst, ◌∙◌, arith, append-nil, append_assoc}
+use Rattle.std.proofs.Common.{◌≡◌, ℕ, ◌+◌, Bool, true, false, cond, ◌&&◌, ◌∷◌, ◌++◌, List, [], length, Option, Some, None, Result, Ok, Err, nat_eq, refl, sym, ap, subst, ◌∙◌, arith, append-nil}
 use Rattle.std.specs.Map.{lookup, keys_of}
 use Rattle.std.specs.Option.{option_map_or, option_and_then}
 use Rattle.std.proofs.lemmas.List.{map-append}
@@ -88,17 +88,6 @@ HaveNoEpochs_more side calls call opens closes have = record {
   none_opens = openers_same side calls call opens ∙ have.none_opens;
   closings_are = λ number. closing_at_same side 0 calls call number closes ∙ have.closings_are number;
   closed_are = λ number. opener_of_same side calls call number closes ∙ have.closed_are number;
-}
-
--- what represents no calls represents them too
-pub AreEpochs_none : (side : Side) (calls : List Call) (epochs : SideEpochs) → HaveNoEpochs side calls → AreEpochs side [] epochs → AreEpochs side calls epochs
-AreEpochs_none side calls epochs have are = record {
-  numbers_are = λ window other. are.numbers_are window other ∙ sym (have.numbers_are window other);
-  pending_are = λ window. are.pending_are window ∙ sym (have.pending_are window);
-  openers_are = λ number. are.openers_are number ∙ ap (option_map stated) (sym (have.openers_are number));
-  openers_come = are.openers_come ∙ sym have.none_opens;
-  closings_are = λ number. are.closings_are number ∙ sym (have.closings_are number);
-  closed_are = λ number. are.closed_are number ∙ sym (have.closed_are number);
 }
 
 -- no call that is to come opens an epoch yet

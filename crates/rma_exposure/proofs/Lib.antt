@@ -4,6 +4,7 @@ pub mod EpochLemmas
 pub mod PositionLemmas
 pub mod RunLemmas
 pub mod WalkLemmas
+pub mod CountLemmas
 pub mod EdgeLemmas
 pub mod ClosingLemmas
 pub mod OpenerLemmas

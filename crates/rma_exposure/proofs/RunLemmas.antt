@@ -78,11 +78,15 @@ pub Represents_next : (ranks : List RankCalls) (i : ℕ) (own : RankCalls) (expo
 Represents_next ranks i own exposures there is are =
     Represents_along (with_calls (calls_of (take i ranks)) own.rank.0 own.calls) (calls_of (take (i + 1) ranks)) exposures (next_calls ranks i own there is) are
 
+-- the calls of a rank of the run
+pub own_calls : (ranks : List RankCalls) (i : ℕ) (own : RankCalls) → slice_get ranks i ≡ Some own → own.rank.0 ≡ i → calls_of ranks own.rank.0 ≡ own.calls
+own_calls ranks i own there is = ap (calls_of ranks) is ∙ ap (λ o. option_map_or (λ (r : RankCalls). r.calls) o []) there
+
 -- what is kept of a rank of the run
 pub own_of_run : (ranks : List RankCalls) (i : ℕ) (own : RankCalls) (exposures : Exposures) → slice_get ranks i ≡ Some own → own.rank.0 ≡ i → Represents (calls_of ranks) exposures →
     IsOfRank own.calls (kept_of exposures.ranks.entries own.rank.0)
 own_of_run ranks i own exposures there is are =
-    subst (λ l. IsOfRank l (kept_of exposures.ranks.entries own.rank.0)) (ap (calls_of ranks) is ∙ ap (λ o. option_map_or (λ (r : RankCalls). r.calls) o []) there) (are own.rank.0)
+    subst (λ l. IsOfRank l (kept_of exposures.ranks.entries own.rank.0)) (own_calls ranks i own there is) (are own.rank.0)
 
 -- ---- closing calls are calls of the rank
 

@@ -124,7 +124,7 @@ impl Exposures {
     }
 
     /// The numbers of the calls of a rank that open an epoch of the side on the window with the other rank in their group.
-    fn numbers(&self, side: Side, window: &Name, rank: Rank, other: Rank) -> &[u32]
+    pub(crate) fn numbers(&self, side: Side, window: &Name, rank: Rank, other: Rank) -> &[u32]
         ensures { (calls : ℕ → List Call) → Represents calls self.now → result.now ≡ numbers side window.now other.0 (calls rank.0) }
     {
         match self.ranks.get(&rank) {

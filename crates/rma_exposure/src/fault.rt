@@ -1,12 +1,16 @@
 //! Posts and starts that have no match.
-ghost use Rattle.std.specs.Prelude.{◌≡◌, ◌++◌, ℕ, List, IfOk, OnOk};
+ghost use Rattle.std.specs.Prelude.{◌≡◌, ◌≤◌, ◌++◌, ℕ, List, Some, true, length, IfOk, OnOk};
 ghost use Rattle.rma_call.specs.Call.{Call, call_of};
 ghost use Rattle.rma_run.specs.Run.{IsRun, calls_of, by_number};
+ghost use Rattle.rma_exposure.specs.Opening.{opposite};
+ghost use Rattle.rma_exposure.specs.Matching.{numbers};
 ghost use Rattle.rma_exposure.specs.Fault.{reason_of, lacks_match, faults_at, faults_of, exposure_faults};
-ghost use Rattle.rma_exposure.specs.inside.Epochs.{kept_of, IsOfRank, Represents};
+ghost use Rattle.rma_exposure.specs.inside.Epochs.{HavePartners, numbers_in, kept_of, AreEpochs, IsOfRank, Represents};
 
 use crate::exposures::Exposures;
-use crate::side::{Side, opened};
+use crate::openings::Openings;
+use crate::side::{Side, opened, opposite};
+use crate::side_epochs::SideEpochs;
 use rma_base::{MatchReason, Memory, Name, Rank, RankSet, Sequence};
 use rma_call::{CallRef, MatchFault, RankCalls};
 use std::alloc::Global;
@@ -54,17 +58,48 @@ impl Exposures {
         faults: &mut Sequence<MatchFault>,
     ) -> Result<(), Memory>
         requires { IsOfRank rank.now.calls (kept_of self.now.ranks.entries rank.now.rank.0) }
-        ensures { OnOk result ((calls : ℕ → List Call) → Represents calls self.now
+        ensures { OnOk result ((calls : ℕ → List Call) → Represents calls self.now → calls rank.now.rank.0 ≡ rank.now.calls
             → faults.new ≡ faults.old ++ by_number (faults_at side calls rank.now.rank) 0 rank.now.calls) }
     {
         let Some(epochs) = self.ranks.get(&rank.rank()) else {
             return Ok(());
         };
-        for (number, _) in epochs.of(side).openers.iter() {
+        let epochs = epochs.of(side);
+        if self.have_partners(side, rank.rank(), epochs) {
+            return Ok(());
+        }
+        for (number, _) in epochs.openers.iter() {
             let call = rank.calls().get(*number as usize);
             self.judge(side, rank.rank(), *number, call, faults)?;
         }
         Ok(())
+    }
+
+    /// Whether each other rank opens as many epochs that match those of a rank, which are handed in: then all of them match.
+    fn have_partners(&self, side: Side, rank: Rank, epochs: &SideEpochs) -> bool
+        ensures { result ≡ true → (calls : ℕ → List Call) → Represents calls self.now → AreEpochs side (calls rank.0) epochs.now
+            → (window : List ℕ) → HavePartners side window calls rank.0 }
+    {
+        for (window, openings) in epochs.windows.iter() {
+            if !self.have_partners_on(side, window, rank, openings) {
+                return false;
+            }
+        }
+        true
+    }
+
+    /// Whether that is so of the epochs on one window.
+    fn have_partners_on(&self, side: Side, window: &Name, rank: Rank, openings: &Openings) -> bool
+        ensures { result ≡ true → (calls : ℕ → List Call) → Represents calls self.now
+            → (other : ℕ) → length (numbers_in (Some openings.now) other) ≤ length (numbers (opposite side) window.now rank.0 (calls other)) }
+    {
+        for (other, own) in openings.numbers.iter() {
+            let theirs = self.numbers(opposite(side), window, Rank(*other), rank);
+            if own.len() > theirs.len() {
+                return false;
+            }
+        }
+        true
     }
 
     /// Appends the fault of a call, if it opens an epoch of the side and lacks a match.

@@ -10,7 +10,7 @@ use std::alloc::Global;
 #[derive(Drop)]
 pub(crate) struct Openings {
     /// The numbers of those that have a rank in their group, ascending, by the number of the rank.
-    numbers: IndexMap<u32, Sequence<u32>>,
+    pub(crate) numbers: IndexMap<u32, Sequence<u32>>,
     /// The last of them, where no call has closed it.
     pub(crate) pending: Option<u32>,
 }

@@ -17,7 +17,7 @@ use std::alloc::Global;
 #[derive(Drop)]
 pub(crate) struct SideEpochs {
     /// The calls that open them, by their window.
-    windows: IndexMap<Name, Openings>,
+    pub(crate) windows: IndexMap<Name, Openings>,
     /// The window and the group of each, by the number of the call that opens it.
     pub(crate) openers: IndexMap<u32, (Name, RankSet)>,
     /// The number of the call that closes an epoch, by that of the one that opens it.

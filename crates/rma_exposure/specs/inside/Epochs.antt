@@ -1,5 +1,5 @@
 -- What is kept of the posts and starts of a run.
-use Rattle.std.specs.Prelude.{◌≡◌, ℕ, ◌==◌, List, [], ◌∷◌, ◌++◌, Bool, false, Option, Some, None, option_map, MatchOption, nat_eq, unwrap_or, if◌then◌else◌}
+use Rattle.std.specs.Prelude.{◌≡◌, ◌≤◌, length, ℕ, ◌==◌, List, [], ◌∷◌, ◌++◌, Bool, false, Option, Some, None, option_map, MatchOption, nat_eq, unwrap_or, if◌then◌else◌}
 use Rattle.std.specs.Option.{option_map_or}
 use Rattle.std.specs.Map.{lookup, keys_of}
 use Rattle.std.specs.Cmp.Lexicographic.{pointwise}
@@ -14,7 +14,7 @@ use Rattle.rma_exposure.specs.declared.openings.Openings.{Openings}
 use Rattle.rma_exposure.specs.declared.side_epochs.SideEpochs.{SideEpochs}
 use Rattle.rma_exposure.specs.declared.rank_epochs.RankEpochs.{RankEpochs}
 use Rattle.rma_exposure.specs.declared.exposures.Exposures.{Exposures}
-use Rattle.rma_exposure.specs.Opening.{Opening, opened, opening_at, posted, started, waited, completed}
+use Rattle.rma_exposure.specs.Opening.{Opening, opposite, opened, opening_at, posted, started, waited, completed}
 use Rattle.rma_exposure.specs.Closing.{pending_of, closing_of, opener_of}
 use Rattle.rma_exposure.specs.Matching.{numbers}
 
@@ -102,3 +102,7 @@ IsOfRank calls epochs = MatchOption epochs ((side : Side) → HaveNoEpochs side 
 -- what is kept represents these calls of the ranks
 abbrev pub Represents : (ℕ → List Call) → Exposures → Type 0
 Represents calls exposures = (rank : ℕ) → IsOfRank (calls rank) (kept_of exposures.ranks.entries rank)
+
+-- no rank opens fewer epochs of the other side on the window, with a rank in their group, than that rank opens with it
+abbrev pub HavePartners : Side → List ℕ → (ℕ → List Call) → ℕ → Type 0
+HavePartners side window calls rank = (other : ℕ) → length (numbers side window other (calls rank)) ≤ length (numbers (opposite side) window rank (calls other))

@@ -1,4 +1,4 @@
-use Rattle.std.proofs.Common.{◌≡◌, ℕ, List, ◌++◌, [], Some, None, slice_get, append-nil, append_assoc, refl, sym, ap, ◌∙◌}
+use Rattle.std.proofs.Common.{◌≡◌, ℕ, List, ◌++◌, [], Some, None, slice_get, append-nil, append_assoc, refl, sym, ap, subst, ◌∙◌}
 use Rattle.std.specs.List.{flat_map}
 use Rattle.std.specs.Option.{option_map_or}
 use Rattle.std.specs.Map.Iter.{deref_pair}
@@ -10,8 +10,9 @@ use Rattle.rma_call.specs.declared.match_fault.MatchFault.{MatchFault}
 use Rattle.rma_exposure.specs.declared.side.Side.{Side}
 use Rattle.rma_exposure.specs.Opening.{opened}
 use Rattle.rma_exposure.specs.Fault.{faults_at}
-use Rattle.rma_exposure.specs.inside.Epochs.{kept_of}
+use Rattle.rma_exposure.specs.inside.Epochs.{kept_of, AreEpochs, HavePartners}
 use Rattle.rma_exposure.proofs.EpochLemmas.{none_kept, some_kept, own_are}
+use Rattle.rma_exposure.proofs.CountLemmas.{no_faults, nothing_had}
 use Rattle.rma_exposure.proofs.WalkLemmas.{had_at, openers_walked, opening_within}
 use Rattle.rma_exposure.proofs.exposures.Exposures.push_rank_faults.Goals as goal
 
@@ -19,21 +20,33 @@ faults_none : (side : Side) (calls : ℕ → List Call) (rank : Rank) (number : 
 faults_none side calls rank number call none = rw none refl
 
 pub returns-in_default : goal.returns-in_default
-returns-in_default c = λ calls are.
+returns-in_default c = λ calls are same.
     let rank = c.args.rank.now in
     let found = kept_of c.args.self.now.ranks.entries c.rank.result.0 in
     let have = none_kept rank.calls found c.in_default.ensures.value (own_are c.args.self.now.ranks.entries rank.calls c.rank.result rank.rank c.rank.ensures c.requires) c.args.side in
     sym (append-nil c.args.faults.now)
     ∙ ap (λ l. c.args.faults.now ++ l) (openers_walked c.args.side (faults_at c.args.side calls rank.rank) rank.calls (faults_none c.args.side calls rank.rank) {V = List ℕ × List ℕ} [] (sym have.none_opens))
 
+pub returns-then-have_partners : goal.returns-then-have_partners
+returns-then-have_partners c = λ calls rep same.
+    let rank = c.args.rank.now in
+    let side = c.args.side in
+    let epochs = c.of-epochs.result.now in
+    let here : calls c.rank-2.result.0 ≡ rank.calls = ap (λ (r : Rank). calls r.0) c.rank-2.ensures ∙ same in
+    let kept = c.of-epochs.ensures rank.calls (some_kept rank.calls c.in-Some.epochs.now (kept_of c.args.self.now.ranks.entries c.rank.result.0) c.in-Some.ensures.value (own_are c.args.self.now.ranks.entries rank.calls c.rank.result rank.rank c.rank.ensures c.requires)) in
+    let are : AreEpochs side (calls c.rank-2.result.0) epochs = subst (λ l. AreEpochs side l epochs) (sym here) kept in
+    let have = subst (λ (r : Rank). (window : List ℕ) → HavePartners side window calls r.0) c.rank-2.ensures (c.have_partners.ensures c.if-have_partners.true calls rep are) in
+    let none = nothing_had (faults_at side calls rank.rank) rank.calls (λ i call at. no_faults side calls rank.rank i call have (ap (λ l. slice_get l i) same ∙ at)) in
+    sym (append-nil c.args.faults.now) ∙ ap (λ l. c.args.faults.now ++ l) (sym none)
+
 pub loop-number-init : goal.loop-number-init
 loop-number-init c = λ calls rep.
     let rank = c.args.rank.now in
     let start = c.into_iter-number-iterator.ensures.into_iter_gives ∙ c.iter-number-items.ensures.rest in
-    let are = c.of.ensures rank.calls (some_kept rank.calls c.in-Some.epochs.now (kept_of c.args.self.now.ranks.entries c.rank.result.0) c.in-Some.ensures.value (own_are c.args.self.now.ranks.entries rank.calls c.rank.result rank.rank c.rank.ensures c.requires)) in
+    let are = c.of-epochs.ensures rank.calls (some_kept rank.calls c.in-Some.epochs.now (kept_of c.args.self.now.ranks.entries c.rank.result.0) c.in-Some.ensures.value (own_are c.args.self.now.ranks.entries rank.calls c.rank.result rank.rank c.rank.ensures c.requires)) in
     let f = faults_at c.args.side calls rank.rank in
     ap (λ l. c.args.faults.now ++ flat_map (λ e. had_at f rank.calls e.0) l) start
-    ∙ ap (λ l. c.args.faults.now ++ l) (openers_walked c.args.side f rank.calls (faults_none c.args.side calls rank.rank) c.of.result.now.openers.entries are.openers_come)
+    ∙ ap (λ l. c.args.faults.now ++ l) (openers_walked c.args.side f rank.calls (faults_none c.args.side calls rank.rank) c.of-epochs.result.now.openers.entries are.openers_come)
 
 pub get-call-requires : goal.get-call-requires
 get-call-requires c =
@@ -41,8 +54,8 @@ get-call-requires c =
     let number = c.in-Some-2.number in
     let value = c.in-Some-2.field-0-1 in
     let start = c.into_iter-number-iterator.ensures.into_iter_gives ∙ c.iter-number-items.ensures.rest in
-    let found = hash_map_turn deref_pair c.loop-number.yielded c.into_iter-number-iterator.result c.loop-number.number-iterator c.next.new.self c.next.result (number, value) c.loop-number.yielded_by c.in-Some-2.is c.next.ensures.steps nat_eq_equiv c.of.result.now.openers start c.iter-number-items.ensures.unique in
-    let are = c.of.ensures own (some_kept own c.in-Some.epochs.now (kept_of c.args.self.now.ranks.entries c.rank.result.0) c.in-Some.ensures.value (own_are c.args.self.now.ranks.entries own c.rank.result c.args.rank.now.rank c.rank.ensures c.requires)) in
+    let found = hash_map_turn deref_pair c.loop-number.yielded c.into_iter-number-iterator.result c.loop-number.number-iterator c.next.new.self c.next.result (number, value) c.loop-number.yielded_by c.in-Some-2.is c.next.ensures.steps nat_eq_equiv c.of-epochs.result.now.openers start c.iter-number-items.ensures.unique in
+    let are = c.of-epochs.ensures own (some_kept own c.in-Some.epochs.now (kept_of c.args.self.now.ranks.entries c.rank.result.0) c.in-Some.ensures.value (own_are c.args.self.now.ranks.entries own c.rank.result c.args.rank.now.rank c.rank.ensures c.requires)) in
     rw c.calls.ensures (opening_within c.args.side own number.now value.now (sym found.1 ∙ are.openers_are number.now))
 
 pub loop-number-preserved : goal.loop-number-preserved
@@ -65,7 +78,7 @@ loop-number-preserved c = λ calls rep.
     ∙ c.loop-number.invariant calls rep
 
 pub returns : goal.returns
-returns c = λ calls rep.
+returns c = λ calls rep same.
     let own = c.args.rank.now.calls in
     let f = faults_at c.args.side calls c.args.rank.now.rank in
     let end = rest_all deref_pair c.loop-number.number-iterator c.next.new.self c.next.result c.in-None.is c.next.ensures.steps in
