@@ -11,3 +11,4 @@ pub mod AheadLemmas
 pub mod SearchLemmas
 pub mod OutcomeLemmas
 pub mod ExistenceLemmas
+pub mod StepLemmas
