@@ -28,18 +28,19 @@ fn check(
     edges: &[Edge],
 ) -> Result<(), Fail> {
     let run = run_of(alloc, ranks)?;
-    assert!(rt; is_run(run.as_slice()));
-    let exposures = Exposures::of_calls(alloc, run.as_slice())?;
+    let calls = run.as_slice();
+    assert!(rt; is_run(calls));
+    let exposures = Exposures::of_calls(alloc, calls)?;
     let (rank, call, other, partner) = asked.partner;
     assert!(rt; exposures.partner(Rank(rank), call, Rank(other)) == partner);
     let (rank, start, complete) = asked.complete;
     assert!(rt; exposures.complete_of(Rank(rank), start) == complete);
     let (rank, post, expwait) = asked.expwait;
     assert!(rt; exposures.expwait_of(Rank(rank), post) == expwait);
-    let found = exposures.faults(alloc, run.as_slice())?;
+    let found = exposures.faults(alloc, calls)?;
     assert!(rt; found.as_slice() == faults);
     let mut links = Links::new(alloc);
-    exposures.push_edges(run.as_slice(), &mut links)?;
+    exposures.push_edges(calls, &mut links)?;
     assert!(rt; links.edges.as_slice() == edges);
     Ok(())
 }
