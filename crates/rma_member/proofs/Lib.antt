@@ -1,1 +1,2 @@
 pub mod FirstIndexLemmas
+pub mod DeclarationLemmas

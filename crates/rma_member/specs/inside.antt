@@ -1,2 +1,3 @@
 pub mod FirstIndex
 pub mod Member
+pub mod Nothing

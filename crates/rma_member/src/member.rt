@@ -1,17 +1,17 @@
 //! Who has to make a call: the members of its communicator, or of the communicator of its window.
-ghost use Rattle.std.specs.Prelude.{◌≡◌, ◌++◌, [], List, None, false, IfOk, OnOk};
+ghost use Rattle.std.specs.Prelude.{◌≡◌, ◌++◌, [], ℕ, List, Some, false, slice_get, IfOk, OnOk};
 ghost use Rattle.std.specs.List.{cons_option};
-ghost use Rattle.rma_call.specs.Call.{call_of, what_of};
-ghost use Rattle.rma_call.specs.Call.{RankCalls};
+ghost use Rattle.rma_call.specs.Call.{Call, RankCalls, call_of, what_of};
 ghost use Rattle.rma_member.specs.Declaration.{declaration_of, declarations, declarations_of};
 ghost use Rattle.rma_member.specs.Attribute.{declared, created};
 ghost use Rattle.rma_member.specs.Member.{members_of_comm, members};
 ghost use Rattle.rma_member.specs.inside.Member.{AreMembers};
+ghost use Rattle.rma_member.specs.inside.Nothing.{DeclaresNothing};
 
 use crate::attribute::WindowAttributes;
 use crate::declaration::{Declaration, Declarations, push_declaration};
 use rma_base::{Memory, Name, Rank, RankSet, Sequence};
-use rma_call::{CallRef, FrameCall, RankCalls, WhatRef, WindowCall};
+use rma_call::{CallList, CallRef, FrameCall, RankCalls, WhatRef, WindowCall};
 use rma_round::Kind;
 use std::alloc::Global;
 
@@ -105,10 +105,25 @@ fn push_declared(
     ensures creations { OnOk result (creations.new ≡ creations.old ++ declarations_of created own.now.rank own.now.calls) }
 {
     let calls = own.calls();
+    if !may_declare(calls) {
+        return Ok(());
+    }
     for i in 0..calls.len() {
         push_call(own.rank(), calls.get(i), comms, creations)?;
     }
     Ok(())
+}
+
+/// Whether a call may declare something: where not, none does. What calls do is looked at, and not each call.
+fn may_declare(calls: &CallList) -> bool
+    ensures { result ≡ false → (i : ℕ) (call : Call) → slice_get calls.now.calls i ≡ Some call → DeclaresNothing call.what }
+{
+    for number in 0..calls.whats() {
+        if declares(calls.what(number)) {
+            return true;
+        }
+    }
+    false
 }
 
 /// Appends what a call declares, if it declares anything, as few do.
@@ -130,8 +145,7 @@ fn push_call(
 
 /// Whether a call declares a communicator or creates a window.
 fn declares(what: WhatRef<'_>) -> bool
-    ensures comm { result ≡ false → declared (what_of what.entry) ≡ None }
-    ensures window { result ≡ false → created (what_of what.entry) ≡ None }
+    ensures { result ≡ false → DeclaresNothing (what_of what.entry) }
 {
     match what {
         WhatRef::Frame(FrameCall::Comm { .. }) => true,
