@@ -213,9 +213,8 @@ closed_at_push side (x ∷ xs) call zero = rw next_zero refl
 closed_at_push side (x ∷ xs) call (suc i) = rw next_same (closed_at_push side xs call i)
 
 -- no call of this number is there yet
-pub opener_of_past : (side : Side) (calls : List Call) (i : ℕ) → nat_eq (length calls) i ≡ true → opener_of side calls i ≡ None
-opener_of_past side calls i same =
-    let le : length calls ≤ i = grind (arith, nat_tests) in
+pub opener_of_past : (side : Side) (calls : List Call) (i : ℕ) → length calls ≤ i → opener_of side calls i ≡ None
+opener_of_past side calls i le =
     ap (λ (o : Option Call). option_and_then (λ window. pending_of side window (take i calls)) (option_and_then (λ (call : Call). closed side call.what) o)) (slice_get_past calls i le)
 
 -- one more call opens what is pending on the window that it closes
@@ -250,7 +249,7 @@ opener_of_same side calls call i not =
     ∙ by (nat_eq (length calls) i) refl
   where
     by : (b : Bool) → nat_eq (length calls) i ≡ b → cond b None (opener_of side calls i) ≡ opener_of side calls i
-    by true same = sym (opener_of_past side calls i same)
+    by true same = sym (opener_of_past side calls i (grind (arith, nat_tests)))
     by false differ = refl
 
 -- a call that closes an epoch on this window is after what is pending there

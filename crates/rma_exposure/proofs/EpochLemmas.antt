@@ -1,7 +1,9 @@
 -- What is kept of the epochs of a rank, with one more call.
-use Rattle.std.proofs.Common.{◌≡◌, ℕ, ◌+◌, Bool, true, false, cond, ◌&&◌, ◌∷◌, ◌++◌, List, [], length, Option, Some, None, Result, Ok, Err, nat_eq, refl, sym, ap, subst, ◌∙◌, arith, append-nil}
+use Rattle.std.proofs.Common.{◌≡◌, ℕ, ◌+◌, Bool, true, false, cond, ◌&&◌, ◌∷◌, ◌++◌, List, [], length, Option, Some, None, Result, Ok, Err, nat_eq, refl, sym, ap, subst, ◌∙◌, arith, append-nil, ◌<◌, ◌≤◌, ⊎_elim}
 use Rattle.std.specs.Map.{lookup, keys_of}
 use Rattle.std.specs.Option.{option_map_or, option_and_then}
+use Rattle.std.proofs.lemmas.Bool.{eqb-true, cases_lt}
+use Rattle.std.proofs.lemmas.Bool.Decides.{nat_tests}
 use Rattle.std.proofs.lemmas.List.{map-append}
 use Rattle.std.proofs.lemmas.Option.{slice_get_past}
 use Rattle.indexmap.specs.IndexMap.{IndexMap, insert_entry}
@@ -14,12 +16,15 @@ use Rattle.rma_call.specs.Call.{Call}
 use Rattle.rma_run.proofs.WalkLemmas.{by_number_push}
 use Rattle.rma_exposure.specs.declared.side.Side.{Side}
 use Rattle.rma_exposure.specs.declared.side.Side.TheVariants.{Exposure, Access}
+use Rattle.rma_exposure.specs.declared.opened.Opened.{Opened}
 use Rattle.rma_exposure.specs.declared.side_epochs.SideEpochs.{SideEpochs}
 use Rattle.rma_exposure.specs.declared.rank_epochs.RankEpochs.{RankEpochs}
 use Rattle.rma_exposure.specs.Opening.{Opening, posted, started, waited, completed, opening_at, opened, closed, opens_on, opens_with, closes_on}
 use Rattle.rma_exposure.specs.Matching.{numbers}
-use Rattle.rma_exposure.specs.Closing.{pending_of}
-use Rattle.rma_exposure.specs.inside.Epochs.{IsNeither, number_of_opener, openers, kept, kept_of, numbers_in, pending_in, IsOpened, is_pending, stated, HaveNoEpochs, AreEpochs, AreOfRank, IsOfRank}
+use Rattle.rma_exposure.specs.Closing.{closing_of, pending_of}
+use Rattle.rma_exposure.specs.inside.Epochs.{IsNeither, number_of_opener, openers, kept, kept_of, numbers_in, pending_in, IsOpened, is_pending, stated, close_in, ended, close_at, AreInOrder, HaveNoEpochs, AreEpochs, AreOfRank, IsOfRank}
+use Rattle.rma_exposure.proofs.ClosedLemmas.{found_at}
+use Rattle.rma_exposure.proofs.ClosingLemmas.{closing_is}
 use Rattle.rma_exposure.proofs.CallLemmas.{numbers_from_push, next_pending, pending_after_push, closing_of_push, closing_at_same, opener_of_past, opener_of_same, opener_of_closed, opening_at_push, opening_at_same, closes_is, closes_none}
 
 numbers_push : (side : Side) (window : List ℕ) (other : ℕ) (calls : List Call) (call : Call) →
@@ -69,10 +74,11 @@ pub AreEpochs_same : (side : Side) (calls : List Call) (call : Call) (epochs : S
 AreEpochs_same side calls call epochs opens closes are = record {
   numbers_are = λ window other. are.numbers_are window other ∙ sym (numbers_same side window other calls call opens);
   pending_are = λ window. are.pending_are window ∙ sym (pending_same side window calls call opens closes);
-  openers_are = λ number. are.openers_are number ∙ ap (option_map stated) (sym (opening_at_same side calls call number opens));
+  openers_are = λ number. are.openers_are number ∙ sym (opening_at_same side calls call number opens);
   openers_come = are.openers_come ∙ sym (openers_same side calls call opens);
   closings_are = λ number. are.closings_are number ∙ sym (closing_at_same side 0 calls call number closes);
   closed_are = λ number. are.closed_are number ∙ sym (opener_of_same side calls call number closes);
+  closed_come = are.closed_come;
 }
 
 -- ---- calls that open and close nothing
@@ -90,11 +96,15 @@ HaveNoEpochs_more side calls call opens closes have = record {
   closed_are = λ number. opener_of_same side calls call number closes ∙ have.closed_are number;
 }
 
+none_stated : (epoch : Option Opened) → option_map stated epoch ≡ None → epoch ≡ None
+none_stated None is = refl
+none_stated (Some epoch) is = absurd (cc)
+
 -- no call that is to come opens an epoch yet
 pub no_opener_yet : (side : Side) (calls : List Call) (epochs : SideEpochs) → AreEpochs side calls epochs → lookup (nat_eq (length calls)) epochs.openers.entries ≡ None
 no_opener_yet side calls epochs are =
-    are.openers_are (length calls)
-    ∙ ap (λ (o : Option Call). option_map stated (option_and_then (λ (call : Call). opened side call.what) o)) (slice_get_past calls (length calls) (omega arith))
+    none_stated (lookup (nat_eq (length calls)) epochs.openers.entries)
+    (are.openers_are (length calls) ∙ ap (option_and_then (λ (call : Call). opened side call.what)) (slice_get_past calls (length calls) (omega arith)))
 
 -- a new key goes last
 pub keys_pushed : {V S : Type 0} (m : IndexMap ℕ V S) (key own : ℕ) (value : V) (new : List (ℕ × V)) → key ≡ own → lookup (nat_eq key) m.entries ≡ None → new ≡ insert_entry nat_eq m.entries own value →
@@ -103,22 +113,39 @@ keys_pushed m key own value new same none is =
     ap keys_of (is ∙ ap (λ k. insert_entry nat_eq m.entries k value) (sym same) ∙ insert_entry-new nat_eq m key value none)
     ∙ map-append (λ e. e.0) m.entries ((key, value) ∷ [])
 
+-- an opening that no call has closed
+abbrev pub unclosed : Opening → Opened
+unclosed opening = record { window = opening.window; group = opening.group; close = None }
+
 -- a call that opens an epoch
 module _ (side : Side) (calls : List Call) (call : Call) (opening : Opening) (old new : SideEpochs) (opens : opened side call.what ≡ Some opening) (closes : closed side call.what ≡ None)
     (own : (name : List ℕ) → pointwise nat_eq opening.window name ≡ true → IsOpened (length calls) opening.group (kept old.windows.entries name) (kept new.windows.entries name))
     (others : (name : List ℕ) → pointwise nat_eq opening.window name ≡ false → kept new.windows.entries name ≡ kept old.windows.entries name)
-    (noted : (number : ℕ) → lookup (nat_eq number) new.openers.entries ≡ cond (nat_eq (length calls) number) (Some (stated opening)) (lookup (nat_eq number) old.openers.entries))
+    (noted : (number : ℕ) → lookup (nat_eq number) new.openers.entries ≡ cond (nat_eq (length calls) number) (Some (unclosed opening)) (lookup (nat_eq number) old.openers.entries))
     (come : keys_of new.openers.entries ≡ keys_of old.openers.entries ++ length calls ∷ [])
     (are : AreEpochs side calls old) where
-  added_openers : (number : ℕ) → lookup (nat_eq number) new.openers.entries ≡ option_map stated (opening_at side (calls ++ call ∷ []) number)
+  added_openers : (number : ℕ) → option_map stated (lookup (nat_eq number) new.openers.entries) ≡ opening_at side (calls ++ call ∷ []) number
   added_openers number =
-      noted number
+      ap (option_map stated) (noted number)
       ∙ by (nat_eq (length calls) number)
-      ∙ ap (option_map stated) (sym (opening_at_push side calls call number))
+      ∙ sym (opening_at_push side calls call number)
     where
-      by : (b : Bool) → cond b (Some (stated opening)) (lookup (nat_eq number) old.openers.entries) ≡ option_map stated (cond b (opened side call.what) (opening_at side calls number))
-      by true = sym (ap (option_map stated) opens)
+      by : (b : Bool) → option_map stated (cond b (Some (unclosed opening)) (lookup (nat_eq number) old.openers.entries)) ≡ cond b (opened side call.what) (opening_at side calls number)
+      by true = sym opens
       by false = are.openers_are number
+
+  added_closings : (number : ℕ) → close_in (lookup (nat_eq number) new.openers.entries) ≡ closing_of side (calls ++ call ∷ []) number
+  added_closings number =
+      ap close_in (noted number)
+      ∙ by (nat_eq (length calls) number) refl
+      ∙ sym (closing_at_same side 0 calls call number closes)
+    where
+      by : (b : Bool) → nat_eq (length calls) number ≡ b → close_in (cond b (Some (unclosed opening)) (lookup (nat_eq number) old.openers.entries)) ≡ closing_of side calls number
+      by true same =
+          ap close_in (sym (no_opener_yet side calls old are))
+          ∙ ap (λ k. close_in (lookup (nat_eq k) old.openers.entries)) (eqb-true (length calls) number same)
+          ∙ are.closings_are number
+      by false differ = are.closings_are number
 
   with_is : (window : List ℕ) (other : ℕ) → opens_with side window other call ≡ (pointwise nat_eq opening.window window && has_number other opening.group)
   with_is window other = rw (opens, nat_list_eq_equiv.symm window opening.window) refl
@@ -163,39 +190,70 @@ module _ (side : Side) (calls : List Call) (call : Call) (opening : Opening) (ol
           ∙ ap (λ b. cond b None before) (closes_none side window call closes))
           ∙ sym (pending_push side window calls call)
 
-  pub AreEpochs_added : new.closings ≡ old.closings → new.closed ≡ old.closed → AreEpochs side (calls ++ call ∷ []) new
-  AreEpochs_added closings closed = record {
+  pub AreEpochs_added : new.closed ≡ old.closed → AreEpochs side (calls ++ call ∷ []) new
+  AreEpochs_added closed = record {
     numbers_are = added_numbers;
     pending_are = added_pending;
     openers_are = added_openers;
     openers_come = come ∙ ap (λ l. l ++ length calls ∷ []) are.openers_come ∙ sym (openers_push side calls call (Some opening) opens);
-    closings_are = λ number.
-        ap (λ c. lookup (nat_eq number) c.entries) closings
-        ∙ are.closings_are number
-        ∙ sym (closing_at_same side 0 calls call number closes);
+    closings_are = added_closings;
     closed_are = λ number.
-        ap (λ c. lookup (nat_eq number) c.entries) closed
+        ap (lookup (nat_eq number)) closed
         ∙ are.closed_are number
         ∙ sym (opener_of_same side calls call number closes);
+    closed_come = subst AreInOrder (sym closed) are.closed_come;
   }
+
+-- the calls that close an epoch are before those that are to come
+pub closes_before : (side : Side) (calls : List Call) (epochs : SideEpochs) → AreEpochs side calls epochs → (i : ℕ) → i < length epochs.closed → close_at epochs.closed i < length calls
+closes_before side calls epochs are i within = ⊎_elim
+    (λ (lt : close_at epochs.closed i < length calls). lt)
+    (λ (le : length calls ≤ close_at epochs.closed i).
+    let no = sym (found_at epochs.closed i are.closed_come within) ∙ are.closed_are (close_at epochs.closed i) ∙ opener_of_past side calls (close_at epochs.closed i) le in
+    absurd (cc))
+    (cases_lt (close_at epochs.closed i) (length calls))
 
 -- no call that is to come closes an epoch yet
 pub none_closes : (side : Side) (calls : List Call) (epochs : SideEpochs) → AreEpochs side calls epochs → (number : ℕ) →
-    lookup (nat_eq number) epochs.closed.entries ≡ cond (nat_eq (length calls) number) None (lookup (nat_eq number) epochs.closed.entries)
+    lookup (nat_eq number) epochs.closed ≡ cond (nat_eq (length calls) number) None (lookup (nat_eq number) epochs.closed)
 none_closes side calls epochs are number = by (nat_eq (length calls) number) refl
   where
-    by : (b : Bool) → nat_eq (length calls) number ≡ b → lookup (nat_eq number) epochs.closed.entries ≡ cond b None (lookup (nat_eq number) epochs.closed.entries)
-    by true same = are.closed_are number ∙ opener_of_past side calls number same
+    by : (b : Bool) → nat_eq (length calls) number ≡ b → lookup (nat_eq number) epochs.closed ≡ cond b None (lookup (nat_eq number) epochs.closed)
+    by true same = are.closed_are number ∙ opener_of_past side calls number (grind (arith, nat_tests))
     by false differ = refl
+
+ended_states : (b : Bool) (close : ℕ) (epoch : Option Opened) → option_map stated (option_map (λ e. cond b (ended close e) e) epoch) ≡ option_map stated epoch
+ended_states b close None = refl
+ended_states true close (Some epoch) = refl
+ended_states false close (Some epoch) = refl
+
+ended_closes : (b : Bool) (close : ℕ) (epoch : Option Opened) → (b ≡ true → (opening : Opening) × (option_map stated epoch ≡ Some opening)) →
+    close_in (option_map (λ e. cond b (ended close e) e) epoch) ≡ cond b (Some close) (close_in epoch)
+ended_closes true close None there = let one = there refl in let no = one.1 in absurd (cc)
+ended_closes true close (Some epoch) there = refl
+ended_closes false close None there = refl
+ended_closes false close (Some epoch) there = refl
 
 -- a call that closes an epoch, if one is open
 module _ (side : Side) (calls : List Call) (call : Call) (own : List ℕ) (old new : SideEpochs) (opens : opened side call.what ≡ None) (closes : closed side call.what ≡ Some own)
     (numbers_stay : (name : List ℕ) (other : ℕ) → numbers_in (kept new.windows.entries name) other ≡ numbers_in (kept old.windows.entries name) other)
     (closed_one : (name : List ℕ) → pending_in (kept new.windows.entries name) ≡ cond (pointwise nat_eq own name) None (pending_in (kept old.windows.entries name)))
-    (openers_stay : new.openers ≡ old.openers)
-    (noted : (number : ℕ) → lookup (nat_eq number) new.closings.entries ≡ cond (is_pending (pending_in (kept old.windows.entries own)) number) (Some (length calls)) (lookup (nat_eq number) old.closings.entries))
-    (undone : (number : ℕ) → lookup (nat_eq number) new.closed.entries ≡ cond (nat_eq (length calls) number) (pending_in (kept old.windows.entries own)) (lookup (nat_eq number) old.closed.entries))
+    (come : keys_of new.openers.entries ≡ keys_of old.openers.entries)
+    (noted : (number : ℕ) → lookup (nat_eq number) new.openers.entries ≡ option_map (λ epoch. cond (is_pending (pending_in (kept old.windows.entries own)) number) (ended (length calls) epoch) epoch) (lookup (nat_eq number) old.openers.entries))
+    (undone : (number : ℕ) → lookup (nat_eq number) new.closed ≡ cond (nat_eq (length calls) number) (pending_in (kept old.windows.entries own)) (lookup (nat_eq number) old.closed))
+    (in_order : AreInOrder new.closed)
     (are : AreEpochs side calls old) where
+  closing : (number : ℕ) → closing_of side (calls ++ call ∷ []) number ≡ cond (is_pending (pending_in (kept old.windows.entries own)) number) (Some (length calls)) (closing_of side calls number)
+  closing number =
+      closing_of_push side own call closes calls number
+      ∙ ap (λ p. cond (is_pending p number) (Some (length calls)) (closing_of side calls number)) (sym (are.pending_are own))
+
+  -- the epoch that is closed was opened
+  ends_one : (number : ℕ) → is_pending (pending_in (kept old.windows.entries own)) number ≡ true → (opening : Opening) × (option_map stated (lookup (nat_eq number) old.openers.entries) ≡ Some opening)
+  ends_one number pending =
+      let is = closing_is side (calls ++ call ∷ []) number (length calls) (closing number ∙ ap (λ b. cond b (Some (length calls)) (closing_of side calls number)) pending) in
+      (is.opening, are.openers_are number ∙ sym (opening_at_same side calls call number opens) ∙ is.opens)
+
   pub AreEpochs_closed : AreEpochs side (calls ++ call ∷ []) new
   AreEpochs_closed = record {
     numbers_are = λ window other.
@@ -210,18 +268,23 @@ module _ (side : Side) (calls : List Call) (call : Call) (own : List ℕ) (old n
         ∙ ap (cond (closes_on side window call) None) (are.pending_are window)
         ∙ sym (ap (λ b. cond b (Some (length calls)) (cond (closes_on side window call) None (pending_of side window calls))) (not_on side window call opens))
         ∙ sym (pending_push side window calls call);
-    openers_are = λ number. ap (λ o. lookup (nat_eq number) o.entries) openers_stay ∙ are.openers_are number ∙ ap (option_map stated) (sym (opening_at_same side calls call number opens));
-    openers_come = ap (λ o. keys_of o.entries) openers_stay ∙ are.openers_come ∙ sym (openers_same side calls call opens);
+    openers_are = λ number.
+        ap (option_map stated) (noted number)
+        ∙ ended_states (is_pending (pending_in (kept old.windows.entries own)) number) (length calls) (lookup (nat_eq number) old.openers.entries)
+        ∙ are.openers_are number
+        ∙ sym (opening_at_same side calls call number opens);
+    openers_come = come ∙ are.openers_come ∙ sym (openers_same side calls call opens);
     closings_are = λ number.
-        noted number
-        ∙ ap (λ p. cond (is_pending p number) (Some (length calls)) (lookup (nat_eq number) old.closings.entries)) (are.pending_are own)
-        ∙ ap (cond (is_pending (pending_of side own calls) number) (Some (length calls))) (are.closings_are number)
-        ∙ sym (closing_of_push side own call closes calls number);
+        ap close_in (noted number)
+        ∙ ended_closes (is_pending (pending_in (kept old.windows.entries own)) number) (length calls) (lookup (nat_eq number) old.openers.entries) (ends_one number)
+        ∙ ap (cond (is_pending (pending_in (kept old.windows.entries own)) number) (Some (length calls))) (are.closings_are number)
+        ∙ sym (closing number);
     closed_are = λ number.
         undone number
-        ∙ ap (λ p. cond (nat_eq (length calls) number) p (lookup (nat_eq number) old.closed.entries)) (are.pending_are own)
+        ∙ ap (λ p. cond (nat_eq (length calls) number) p (lookup (nat_eq number) old.closed)) (are.pending_are own)
         ∙ ap (cond (nat_eq (length calls) number) (pending_of side own calls)) (are.closed_are number)
         ∙ sym (opener_of_closed side calls call own number closes);
+    closed_come = in_order;
   }
 
 -- ---- both sides

@@ -6,5 +6,6 @@ pub mod RunLemmas
 pub mod WalkLemmas
 pub mod CountLemmas
 pub mod EdgeLemmas
+pub mod ClosedLemmas
 pub mod ClosingLemmas
 pub mod OpenerLemmas

@@ -1,6 +1,5 @@
 -- What is had of the calls of a rank that open epochs, by their numbers.
 use Rattle.std.proofs.Common.{◌≡◌, ℕ, suc, ◌+◌, ◌<◌, List, [], ◌∷◌, ◌++◌, Option, Some, None, slice_get, length, refl, sym, ap, subst, ◌∙◌, arith, append-nil}
-use Rattle.std.specs.Prelude.{option_map}
 use Rattle.std.specs.List.{flat_map}
 use Rattle.std.specs.Map.{keys_of}
 use Rattle.std.specs.Option.{option_map_or, option_and_then}
@@ -11,7 +10,7 @@ use Rattle.rma_call.specs.Call.{Call}
 use Rattle.rma_run.specs.Run.{by_number}
 use Rattle.rma_exposure.specs.declared.side.Side.{Side}
 use Rattle.rma_exposure.specs.Opening.{Opening, opened, opening_at}
-use Rattle.rma_exposure.specs.inside.Epochs.{number_of_opener, openers, stated}
+use Rattle.rma_exposure.specs.inside.Epochs.{number_of_opener, openers}
 
 -- what is had of the call of a number
 abbrev pub had_at : {Y : Type 0} → (ℕ → Call → List Y) → List Call → ℕ → List Y
@@ -40,9 +39,9 @@ module _ {Y : Type 0} (side : Side) (f : ℕ → Call → List Y) (own : List Ca
       ∙ walked_from 0 own (λ i call at. subst (λ k. slice_get own k ≡ Some call) (let e : i ≡ 0 + i = omega arith in e) at)
 
 -- an opening is a call of the rank
-pub opening_within : (side : Side) (calls : List Call) (number : ℕ) (kept : List ℕ × List ℕ) → Some kept ≡ option_map stated (opening_at side calls number) → number < length calls
-opening_within side calls number kept is = by (slice_get calls number) refl
+pub opening_within : (side : Side) (calls : List Call) (number : ℕ) (opening : Opening) → Some opening ≡ opening_at side calls number → number < length calls
+opening_within side calls number opening is = by (slice_get calls number) refl
   where
     by : (o : Option Call) → slice_get calls number ≡ o → number < length calls
-    by None at = let no : Some kept ≡ None = is ∙ ap (λ (o : Option Call). option_map stated (option_and_then (λ (call : Call). opened side call.what) o)) at in absurd (cc)
+    by None at = let no : Some opening ≡ None = is ∙ ap (option_and_then (λ (call : Call). opened side call.what)) at in absurd (cc)
     by (Some call) at = slice_get_within calls number call at

@@ -14,6 +14,7 @@ mod edge;
 mod exposures;
 mod fault;
 pub mod laws;
+mod opened;
 mod openings;
 mod rank_epochs;
 mod side;

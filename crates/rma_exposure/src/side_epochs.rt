@@ -1,16 +1,18 @@
 //! The exposure epochs of one rank, or its access epochs.
 ghost use Rattle.std.specs.Prelude.{◌≡◌, ◌++◌, ◌∷◌, [], ℕ, List, None, Some, length, nat_eq, true, false, OnOk, option_map, if◌then◌else◌};
+ghost use Rattle.std.specs.Map.{lookup, keys_of};
 ghost use Rattle.std.specs.Cmp.Lexicographic.{pointwise};
 ghost use Rattle.rma_call.specs.Call.{Call};
 ghost use Rattle.rma_exposure.specs.declared.side.Side.{Side};
 ghost use Rattle.rma_exposure.specs.Opening.{opened, closed, opening_at};
 ghost use Rattle.rma_exposure.specs.Matching.{numbers};
 ghost use Rattle.rma_exposure.specs.Closing.{closing_of, opener_of};
-ghost use Rattle.rma_exposure.specs.inside.Epochs.{kept, numbers_in, pending_in, IsOpened, HaveNoEpochs, AreEpochs};
+ghost use Rattle.rma_exposure.specs.inside.Epochs.{kept, numbers_in, pending_in, IsOpened, ended, AreInOrder, HaveNoEpochs, AreEpochs};
 
+use crate::opened::Opened;
 use crate::openings::Openings;
 use indexmap::IndexMap;
-use rma_base::{Memory, Name, RankSet};
+use rma_base::{Memory, Name, RankSet, Sequence};
 use std::alloc::Global;
 
 /// The exposure epochs of one rank, or its access epochs.
@@ -18,12 +20,10 @@ use std::alloc::Global;
 pub(crate) struct SideEpochs {
     /// The calls that open them, by their window.
     pub(crate) windows: IndexMap<Name, Openings>,
-    /// The window and the group of each, by the number of the call that opens it.
-    pub(crate) openers: IndexMap<u32, (Name, RankSet)>,
-    /// The number of the call that closes an epoch, by that of the one that opens it.
-    closings: IndexMap<u32, u32>,
-    /// The number of the call that opens an epoch, by that of the one that closes it.
-    closed: IndexMap<u32, u32>,
+    /// What is known of each, by the number of the call that opens it.
+    pub(crate) openers: IndexMap<u32, Opened>,
+    /// The numbers of the calls that close an epoch, ascending, each with that of the call that opened it.
+    closed: Sequence<(u32, u32)>,
 }
 
 impl SideEpochs {
@@ -34,8 +34,7 @@ impl SideEpochs {
         SideEpochs {
             windows: IndexMap::new(alloc),
             openers: IndexMap::new(alloc),
-            closings: IndexMap::new(alloc),
-            closed: IndexMap::new(alloc),
+            closed: Sequence::new(alloc),
         }
     }
 
@@ -52,9 +51,8 @@ impl SideEpochs {
             → AreEpochs side calls self.old → AreEpochs side (calls ++ call ∷ []) self.new) }
     {
         add(alloc, &mut self.windows, number, window, group)?;
-        let window = window.copy()?;
-        let group = group.copy()?;
-        self.openers.insert(number, (window, group))?;
+        let epoch = Opened::new(window, group)?;
+        self.openers.insert(number, epoch)?;
         Ok(())
     }
 
@@ -67,9 +65,8 @@ impl SideEpochs {
         let Some(opener) = close(&mut self.windows, window) else {
             return Ok(());
         };
-        self.closings.insert(opener, number)?;
-        self.closed.insert(number, opener)?;
-        Ok(())
+        end(&mut self.openers, opener, number);
+        self.closed.push((number, opener))
     }
 
     /// The numbers of the calls that open an epoch on the window with the other rank in their group.
@@ -88,7 +85,7 @@ impl SideEpochs {
             → option_map (λ p. record { window = p.0.now; group = p.1.now }) result ≡ opening_at side calls number }
     {
         match self.openers.get(&number) {
-            Some((window, group)) => Some((window, group)),
+            Some(epoch) => Some((&epoch.window, &epoch.group)),
             None => None,
         }
     }
@@ -97,14 +94,17 @@ impl SideEpochs {
     pub(crate) fn closing(&self, number: u32) -> Option<u32>
         ensures { (side : Side) (calls : List Call) → AreEpochs side calls self.now → result ≡ closing_of side calls number }
     {
-        self.closings.get(&number).copied()
+        match self.openers.get(&number) {
+            Some(epoch) => epoch.close,
+            None => None,
+        }
     }
 
     /// The call that opens the epoch which the call of this number closes, where there is one.
     pub(crate) fn opener(&self, number: u32) -> Option<u32>
         ensures { (side : Side) (calls : List Call) → AreEpochs side calls self.now → result ≡ opener_of side calls number }
     {
-        self.closed.get(&number).copied()
+        opener_in(self.closed.as_slice(), number)
     }
 }
 
@@ -138,5 +138,25 @@ fn close(windows: &mut IndexMap<Name, Openings>, window: &Name) -> Option<u32>
     match windows.get_mut(window) {
         Some(openings) => openings.pending.take(),
         None => None,
+    }
+}
+
+/// Notes by which call an epoch is closed.
+fn end(openers: &mut IndexMap<u32, Opened>, opener: u32, close: u32)
+    ensures keys { keys_of openers.new.entries ≡ keys_of openers.old.entries }
+    ensures notes { (number : ℕ) → lookup (nat_eq number) openers.new.entries ≡ option_map (λ epoch. if nat_eq opener number then ended close epoch else epoch) (lookup (nat_eq number) openers.old.entries) }
+{
+    if let Some(epoch) = openers.get_mut(&opener) {
+        epoch.close = Some(close);
+    }
+}
+
+/// The call that stands beside this close, where this stands in the list.
+fn opener_in(closed: &[(u32, u32)], close: u32) -> Option<u32>
+    ensures { AreInOrder closed.now → result ≡ lookup (nat_eq close) closed.now }
+{
+    match closed.binary_search_by_key(&close, |&(number, _)| number) {
+        Ok(place) => Some(closed[place].1),
+        Err(_) => None,
     }
 }

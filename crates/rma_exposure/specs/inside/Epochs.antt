@@ -1,5 +1,5 @@
 -- What is kept of the posts and starts of a run.
-use Rattle.std.specs.Prelude.{◌≡◌, ◌≤◌, length, ℕ, ◌==◌, List, [], ◌∷◌, ◌++◌, Bool, false, Option, Some, None, option_map, MatchOption, nat_eq, unwrap_or, if◌then◌else◌}
+use Rattle.std.specs.Prelude.{◌≡◌, ◌<◌, ◌≤◌, length, slice_index_or, ℕ, ◌==◌, List, [], ◌∷◌, ◌++◌, Bool, false, Option, Some, None, option_map, MatchOption, nat_eq, unwrap_or, if◌then◌else◌}
 use Rattle.std.specs.Option.{option_map_or}
 use Rattle.std.specs.Map.{lookup, keys_of}
 use Rattle.std.specs.Cmp.Lexicographic.{pointwise}
@@ -10,6 +10,7 @@ use Rattle.rma_call.specs.declared.what.What.{What}
 use Rattle.rma_run.specs.Run.{by_number}
 use Rattle.rma_exposure.specs.declared.side.Side.{Side}
 use Rattle.rma_exposure.specs.declared.side.Side.TheVariants.{Exposure, Access}
+use Rattle.rma_exposure.specs.declared.opened.Opened.{Opened}
 use Rattle.rma_exposure.specs.declared.openings.Openings.{Openings}
 use Rattle.rma_exposure.specs.declared.side_epochs.SideEpochs.{SideEpochs}
 use Rattle.rma_exposure.specs.declared.rank_epochs.RankEpochs.{RankEpochs}
@@ -45,9 +46,26 @@ pub record IsOpened (number : ℕ) (group : List ℕ) (old new : Option Openings
 abbrev pub is_pending : Option ℕ → ℕ → Bool
 is_pending found number = option_map_or (λ own. own == number) found false
 
--- what an opening states, as it is kept
-abbrev pub stated : Opening → List ℕ × List ℕ
-stated opening = (opening.window, opening.group)
+-- what the opening of an epoch states, as it is kept
+abbrev pub stated : Opened → Opening
+stated epoch = record { window = epoch.window; group = epoch.group }
+
+-- the call that closes an epoch, as it is kept
+abbrev pub close_in : Option Opened → Option ℕ
+close_in None = None
+close_in (Some epoch) = epoch.close
+
+-- an epoch, closed by a call
+abbrev pub ended : ℕ → Opened → Opened
+ended close epoch = record { window = epoch.window; group = epoch.group; close = Some close }
+
+-- the call that closes, in the pair at a place
+abbrev pub close_at : List (ℕ × ℕ) → ℕ → ℕ
+close_at pairs place = let pair = slice_index_or pairs place (0, 0) in pair.0
+
+-- pairs of a call that closes and the one that opens are in the order of the former
+abbrev pub AreInOrder : List (ℕ × ℕ) → Type 0
+AreInOrder pairs = (i j : ℕ) → i < j → j < length pairs → close_at pairs i < close_at pairs j
 
 -- the number of a call, where that opens an epoch of the side
 abbrev pub number_of_opener : Side → ℕ → Call → List ℕ
@@ -61,10 +79,11 @@ openers side calls = by_number (number_of_opener side) 0 calls
 pub record AreEpochs (side : Side) (calls : List Call) (epochs : SideEpochs) : Type 0 where
   pub numbers_are : (window : List ℕ) (other : ℕ) → numbers_in (kept epochs.windows.entries window) other ≡ numbers side window other calls
   pub pending_are : (window : List ℕ) → pending_in (kept epochs.windows.entries window) ≡ pending_of side window calls
-  pub openers_are : (number : ℕ) → lookup (nat_eq number) epochs.openers.entries ≡ option_map stated (opening_at side calls number)
+  pub openers_are : (number : ℕ) → option_map stated (lookup (nat_eq number) epochs.openers.entries) ≡ opening_at side calls number
   pub openers_come : keys_of epochs.openers.entries ≡ openers side calls
-  pub closings_are : (number : ℕ) → lookup (nat_eq number) epochs.closings.entries ≡ closing_of side calls number
-  pub closed_are : (number : ℕ) → lookup (nat_eq number) epochs.closed.entries ≡ opener_of side calls number
+  pub closings_are : (number : ℕ) → close_in (lookup (nat_eq number) epochs.openers.entries) ≡ closing_of side calls number
+  pub closed_are : (number : ℕ) → lookup (nat_eq number) epochs.closed ≡ opener_of side calls number
+  pub closed_come : AreInOrder epochs.closed
 
 -- what a call does opens and closes no epoch of either side
 pub record IsNeither (what : What) : Type 0 where

@@ -1,4 +1,5 @@
 use Rattle.std.proofs.Common.{◌≡◌, ℕ, List, ◌++◌, [], Some, None, slice_get, append-nil, append_assoc, refl, sym, ap, ◌∙◌}
+use Rattle.std.specs.Prelude.{option_map}
 use Rattle.std.specs.List.{flat_map}
 use Rattle.std.specs.Option.{option_map_or}
 use Rattle.std.specs.Map.Iter.{deref_pair}
@@ -8,10 +9,11 @@ use Rattle.rma_base.specs.declared.rank.Rank.{Rank}
 use Rattle.rma_call.specs.Call.{Call, call_of}
 use Rattle.rma_link.specs.declared.edge.Edge.{Edge}
 use Rattle.rma_run.specs.Run.{calls_of}
+use Rattle.rma_exposure.specs.declared.opened.Opened.{Opened}
 use Rattle.rma_exposure.specs.declared.side.Side.TheVariants.{Exposure}
 use Rattle.rma_exposure.specs.Opening.{opened}
 use Rattle.rma_exposure.specs.Edge.{edges_at}
-use Rattle.rma_exposure.specs.inside.Epochs.{kept_of}
+use Rattle.rma_exposure.specs.inside.Epochs.{stated, kept_of}
 use Rattle.rma_exposure.proofs.EpochLemmas.{none_kept, some_kept, own_are}
 use Rattle.rma_exposure.proofs.WalkLemmas.{had_at, openers_walked, opening_within}
 use Rattle.rma_exposure.proofs.exposures.Exposures.push_rank_edges.Goals as goal
@@ -26,7 +28,7 @@ returns-in_default-clause-edges c =
     let found = kept_of c.args.self.now.ranks.entries c.rank.result.0 in
     let have = none_kept rank.calls found c.in_default.ensures.value (own_are c.args.self.now.ranks.entries rank.calls c.rank.result rank.rank c.rank.ensures c.requires.own) Exposure in
     sym (append-nil c.args.links.now.edges)
-    ∙ ap (λ l. c.args.links.now.edges ++ l) (openers_walked Exposure (edges_at calls rank.rank) rank.calls (edges_none calls rank.rank) {V = List ℕ × List ℕ} [] (sym have.none_opens))
+    ∙ ap (λ l. c.args.links.now.edges ++ l) (openers_walked Exposure (edges_at calls rank.rank) rank.calls (edges_none calls rank.rank) {V = Opened} [] (sym have.none_opens))
 
 pub loop-number-init : goal.loop-number-init
 loop-number-init c =
@@ -49,7 +51,7 @@ get-call-requires c =
     let start = c.into_iter-number-iterator.ensures.into_iter_gives ∙ c.iter-number-items.ensures.rest in
     let found = hash_map_turn deref_pair c.loop-number.yielded c.into_iter-number-iterator.result c.loop-number.number-iterator c.next.new.self c.next.result (number, value) c.loop-number.yielded_by c.in-Some-2.is c.next.ensures.steps nat_eq_equiv c.of.result.now.openers start c.iter-number-items.ensures.unique in
     let are = c.of.ensures own (some_kept own c.in-Some.epochs.now (kept_of c.args.self.now.ranks.entries c.rank.result.0) c.in-Some.ensures.value (own_are c.args.self.now.ranks.entries own c.rank.result c.args.rank.now.rank c.rank.ensures c.requires.own)) in
-    rw c.calls.ensures (opening_within Exposure own number.now value.now (sym found.1 ∙ are.openers_are number.now))
+    rw c.calls.ensures (opening_within Exposure own number.now (stated value.now) (ap (option_map stated) (sym found.1) ∙ are.openers_are number.now))
 
 pub loop-number-preserved : goal.loop-number-preserved
 loop-number-preserved c =
@@ -60,7 +62,7 @@ loop-number-preserved c =
     let rest = c.next.new.self in
     let call = call_of c.get-call.result in
     let f = edges_at calls c.args.rank.now.rank in
-    let g : List (ℕ × (List ℕ × List ℕ)) → List Edge = flat_map (λ e. had_at f own e.0) in
+    let g : List (ℕ × Opened) → List Edge = flat_map (λ e. had_at f own e.0) in
     let there : slice_get own number.now ≡ Some call = rw (← c.calls.ensures) c.get-call.ensures in
     let step = rest_more deref_pair left rest c.next.result (number, c.in-Some-2.field-0-1) c.in-Some-2.is c.next.ensures.steps in
     record {

@@ -1,4 +1,5 @@
 use Rattle.std.proofs.Common.{◌≡◌, ℕ, List, ◌++◌, [], Some, None, slice_get, append-nil, append_assoc, refl, sym, ap, subst, ◌∙◌}
+use Rattle.std.specs.Prelude.{option_map}
 use Rattle.std.specs.List.{flat_map}
 use Rattle.std.specs.Option.{option_map_or}
 use Rattle.std.specs.Map.Iter.{deref_pair}
@@ -7,10 +8,11 @@ use Rattle.std.proofs.lemmas.Map.Iter.{rest_more, rest_all, hash_map_turn}
 use Rattle.rma_base.specs.declared.rank.Rank.{Rank}
 use Rattle.rma_call.specs.Call.{Call, call_of}
 use Rattle.rma_call.specs.declared.match_fault.MatchFault.{MatchFault}
+use Rattle.rma_exposure.specs.declared.opened.Opened.{Opened}
 use Rattle.rma_exposure.specs.declared.side.Side.{Side}
 use Rattle.rma_exposure.specs.Opening.{opened}
 use Rattle.rma_exposure.specs.Fault.{faults_at}
-use Rattle.rma_exposure.specs.inside.Epochs.{kept_of, AreEpochs, HavePartners}
+use Rattle.rma_exposure.specs.inside.Epochs.{stated, kept_of, AreEpochs, HavePartners}
 use Rattle.rma_exposure.proofs.EpochLemmas.{none_kept, some_kept, own_are}
 use Rattle.rma_exposure.proofs.CountLemmas.{no_faults, nothing_had}
 use Rattle.rma_exposure.proofs.WalkLemmas.{had_at, openers_walked, opening_within}
@@ -25,7 +27,7 @@ returns-in_default c = λ calls are same.
     let found = kept_of c.args.self.now.ranks.entries c.rank.result.0 in
     let have = none_kept rank.calls found c.in_default.ensures.value (own_are c.args.self.now.ranks.entries rank.calls c.rank.result rank.rank c.rank.ensures c.requires) c.args.side in
     sym (append-nil c.args.faults.now)
-    ∙ ap (λ l. c.args.faults.now ++ l) (openers_walked c.args.side (faults_at c.args.side calls rank.rank) rank.calls (faults_none c.args.side calls rank.rank) {V = List ℕ × List ℕ} [] (sym have.none_opens))
+    ∙ ap (λ l. c.args.faults.now ++ l) (openers_walked c.args.side (faults_at c.args.side calls rank.rank) rank.calls (faults_none c.args.side calls rank.rank) {V = Opened} [] (sym have.none_opens))
 
 pub returns-then-have_partners : goal.returns-then-have_partners
 returns-then-have_partners c = λ calls rep same.
@@ -56,7 +58,7 @@ get-call-requires c =
     let start = c.into_iter-number-iterator.ensures.into_iter_gives ∙ c.iter-number-items.ensures.rest in
     let found = hash_map_turn deref_pair c.loop-number.yielded c.into_iter-number-iterator.result c.loop-number.number-iterator c.next.new.self c.next.result (number, value) c.loop-number.yielded_by c.in-Some-2.is c.next.ensures.steps nat_eq_equiv c.of-epochs.result.now.openers start c.iter-number-items.ensures.unique in
     let are = c.of-epochs.ensures own (some_kept own c.in-Some.epochs.now (kept_of c.args.self.now.ranks.entries c.rank.result.0) c.in-Some.ensures.value (own_are c.args.self.now.ranks.entries own c.rank.result c.args.rank.now.rank c.rank.ensures c.requires)) in
-    rw c.calls.ensures (opening_within c.args.side own number.now value.now (sym found.1 ∙ are.openers_are number.now))
+    rw c.calls.ensures (opening_within c.args.side own number.now (stated value.now) (ap (option_map stated) (sym found.1) ∙ are.openers_are number.now))
 
 pub loop-number-preserved : goal.loop-number-preserved
 loop-number-preserved c = λ calls rep.
@@ -66,7 +68,7 @@ loop-number-preserved c = λ calls rep.
     let rest = c.next.new.self in
     let call = call_of c.get-call.result in
     let f = faults_at c.args.side calls c.args.rank.now.rank in
-    let g : List (ℕ × (List ℕ × List ℕ)) → List MatchFault = flat_map (λ e. had_at f own e.0) in
+    let g : List (ℕ × Opened) → List MatchFault = flat_map (λ e. had_at f own e.0) in
     let there : slice_get own number.now ≡ Some call = rw (← c.calls.ensures) c.get-call.ensures in
     let step = rest_more deref_pair left rest c.next.result (number, c.in-Some-2.field-0-1) c.in-Some-2.is c.next.ensures.steps in
     ap (λ l. l ++ g rest)

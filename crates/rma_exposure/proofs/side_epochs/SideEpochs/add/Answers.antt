@@ -2,8 +2,8 @@ use Rattle.std.proofs.Common.{Some, cond, ap, length, ◌∙◌, refl, subst, sy
 use Rattle.std.specs.Prelude.{nat_eq}
 use Rattle.std.specs.Map.{lookup}
 use Rattle.rma_exposure.specs.Opening.{Opening}
-use Rattle.rma_exposure.specs.inside.Epochs.{kept, stated, IsOpened}
-use Rattle.rma_exposure.proofs.EpochLemmas.{AreEpochs_added, keys_pushed, no_opener_yet}
+use Rattle.rma_exposure.specs.inside.Epochs.{kept, IsOpened}
+use Rattle.rma_exposure.proofs.EpochLemmas.{AreEpochs_added, unclosed, keys_pushed, no_opener_yet}
 use Rattle.rma_exposure.proofs.side_epochs.SideEpochs.add.Goals as goal
 
 pub returns : goal.returns
@@ -15,8 +15,7 @@ returns c = λ side calls call len opens closes are.
     c.in_ok-add.ensures.others
     (λ number.
     c.in_ok-insert.ensures.updates.0 number
-    ∙ ap (λ w. cond (nat_eq c.args.number number) (Some (w, c.in_ok-group.group)) (lookup (nat_eq number) old.openers.entries)) c.in_ok-window.ensures
-    ∙ ap (λ g. cond (nat_eq c.args.number number) (Some (opening.window, g)) (lookup (nat_eq number) old.openers.entries)) c.in_ok-group.ensures
-    ∙ ap (λ n. cond (nat_eq n number) (Some (stated opening)) (lookup (nat_eq number) old.openers.entries)) (sym len))
-    (keys_pushed old.openers (length calls) c.args.number (c.in_ok-window.window, c.in_ok-group.group) c.insert.new.self.entries len (no_opener_yet side calls old are) c.in_ok-insert.ensures.entries)
-    are refl refl
+    ∙ ap (λ epoch. cond (nat_eq c.args.number number) (Some epoch) (lookup (nat_eq number) old.openers.entries)) c.in_ok-epoch.ensures
+    ∙ ap (λ n. cond (nat_eq n number) (Some (unclosed opening)) (lookup (nat_eq number) old.openers.entries)) (sym len))
+    (keys_pushed old.openers (length calls) c.args.number c.in_ok-epoch.epoch c.insert.new.self.entries len (no_opener_yet side calls old are) c.in_ok-insert.ensures.entries)
+    are refl

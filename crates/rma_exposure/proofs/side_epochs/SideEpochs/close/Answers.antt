@@ -1,29 +1,45 @@
-use Rattle.std.proofs.Common.{◌≡◌, length, Some, None, cond, nat_eq, refl, sym, ap, ◌∙◌}
+use Rattle.std.proofs.Common.{◌≡◌, length, Some, None, cond, nat_eq, refl, sym, ap, ◌∙◌, ◌<◌, subst, arith}
+use Rattle.std.specs.Prelude.{Option, option_map}
 use Rattle.std.specs.Map.{lookup}
-use Rattle.rma_exposure.specs.inside.Epochs.{kept, pending_in, is_pending}
-use Rattle.rma_exposure.proofs.EpochLemmas.{AreEpochs_closed, none_closes}
+use Rattle.rma_exposure.specs.declared.opened.Opened.{Opened}
+use Rattle.rma_exposure.specs.inside.Epochs.{kept, pending_in, is_pending, ended, close_at, AreInOrder}
+use Rattle.rma_exposure.proofs.EpochLemmas.{AreEpochs_closed, none_closes, closes_before, OnOk_map}
+use Rattle.rma_exposure.proofs.CallLemmas.{opener_of_past}
+use Rattle.rma_exposure.proofs.ClosedLemmas.{found_pushed, in_order_pushed}
 use Rattle.rma_exposure.proofs.side_epochs.SideEpochs.close.Goals as goal
+
+not_ended : (epoch : Option Opened) → epoch ≡ option_map (λ e. e) epoch
+not_ended None = refl
+not_ended (Some epoch) = refl
 
 pub returns-in_default : goal.returns-in_default
 returns-in_default c = λ side calls call len opens closes are.
     let old = c.args.self.now in
     let none : pending_in (kept old.windows.entries c.args.window.now) ≡ None = sym c.close.ensures.opener ∙ c.in_default.is in
     AreEpochs_closed side calls call c.args.window.now old (record old { windows = c.close.new.windows }) opens closes c.close.ensures.numbers c.close.ensures.pending refl
-    (λ number. sym (ap (λ p. cond (is_pending p number) (Some (length calls)) (lookup (nat_eq number) old.closings.entries)) none))
-    (λ number. none_closes side calls old are number ∙ sym (ap (λ p. cond (nat_eq (length calls) number) p (lookup (nat_eq number) old.closed.entries)) none))
+    (λ number. not_ended (lookup (nat_eq number) old.openers.entries) ∙ ap (λ p. option_map (λ epoch. cond (is_pending p number) (ended (length calls) epoch) epoch) (lookup (nat_eq number) old.openers.entries)) (sym none))
+    (λ number. none_closes side calls old are number ∙ sym (ap (λ p. cond (nat_eq (length calls) number) p (lookup (nat_eq number) old.closed)) none))
+    are.closed_come
     are
 
 pub returns : goal.returns
-returns c = λ side calls call len opens closes are.
+returns c = OnOk_map c.push.result
+    (λ pushed side calls call len opens closes are.
     let old = c.args.self.now in
-    let some : pending_in (kept old.windows.entries c.args.window.now) ≡ Some c.in-Some.opener = sym c.close.ensures.opener ∙ c.in-Some.is in
-    AreEpochs_closed side calls call c.args.window.now old (record old { windows = c.close.new.windows; closings = c.insert.new.self; closed = c.insert-2.new.self }) opens closes c.close.ensures.numbers c.close.ensures.pending refl
+    let close = c.args.number in
+    let opener = c.in-Some.opener in
+    let some : pending_in (kept old.windows.entries c.args.window.now) ≡ Some opener = sym c.close.ensures.opener ∙ c.in-Some.is in
+    let to_come : lookup (nat_eq close) old.closed ≡ None = subst (λ n. lookup (nat_eq n) old.closed ≡ None) len (are.closed_are (length calls) ∙ opener_of_past side calls (length calls) (omega arith)) in
+    AreEpochs_closed side calls call c.args.window.now old (record old { windows = c.close.new.windows; openers = c.end.new.openers; closed = c.push.new.self }) opens closes c.close.ensures.numbers c.close.ensures.pending c.end.ensures.keys
     (λ number.
-    c.in_ok-insert.ensures.updates.0 number
-    ∙ ap (λ n. cond (nat_eq c.in-Some.opener number) (Some n) (lookup (nat_eq number) old.closings.entries)) (sym len)
-    ∙ sym (ap (λ p. cond (is_pending p number) (Some (length calls)) (lookup (nat_eq number) old.closings.entries)) some))
+    c.end.ensures.notes number
+    ∙ ap (λ n. option_map (λ epoch. cond (nat_eq opener number) (ended n epoch) epoch) (lookup (nat_eq number) old.openers.entries)) (sym len)
+    ∙ ap (λ p. option_map (λ epoch. cond (is_pending p number) (ended (length calls) epoch) epoch) (lookup (nat_eq number) old.openers.entries)) (sym some))
     (λ number.
-    c.in_ok-insert-2.ensures.updates.0 number
-    ∙ ap (λ n. cond (nat_eq n number) (Some c.in-Some.opener) (lookup (nat_eq number) old.closed.entries)) (sym len)
-    ∙ sym (ap (λ p. cond (nat_eq (length calls) number) p (lookup (nat_eq number) old.closed.entries)) some))
-    are
+    ap (lookup (nat_eq number)) pushed
+    ∙ found_pushed old.closed close opener number to_come
+    ∙ ap (λ n. cond (nat_eq n number) (Some opener) (lookup (nat_eq number) old.closed)) (sym len)
+    ∙ sym (ap (λ p. cond (nat_eq (length calls) number) p (lookup (nat_eq number) old.closed)) some))
+    (subst AreInOrder (sym pushed) (in_order_pushed old.closed close opener are.closed_come (λ i within. subst (λ n. close_at old.closed i < n) len (closes_before side calls old are i within))))
+    are)
+    c.push.ensures.ok
