@@ -1,5 +1,5 @@
 //! The table of the forms of lines. `specs/Forms.antt` has the same rows.
-ghost use Rattle.std.specs.Prelude.{◌≡◌, ◌+◌, ◌≤◌, length, find, option_map, is_some, true, None, IfSome};
+ghost use Rattle.std.specs.Prelude.{◌≡◌, ◌+◌, ◌≤◌, length, find, option_map, is_some, true, false, None, IfSome};
 ghost use Rattle.rma_form.specs.Forms.{form_at, forms, has_verb, has_words, is_in, is_since_two, kind_words};
 ghost use Rattle.rma_form.specs.Tails.{allowed_in};
 ghost use Rattle.rma_form.specs.inside.Kind.{IsKind};
@@ -237,6 +237,9 @@ impl LineForm {
         ensures fields { result.fields ≡ length (form_at self).kinds }
         ensures few { result.fields ≤ 14 }
     {
+        if self.is_since_two() {
+            return self.row_since_two();
+        }
         let (verb, kind, fields) = match self {
             LineForm::Header => ("rma", None, 3),
             LineForm::End => ("end", None, 0),
@@ -247,8 +250,6 @@ impl LineForm {
             LineForm::Isend => ("isend", None, 4),
             LineForm::Irecv => ("irecv", None, 2),
             LineForm::Wait => ("wait", None, 1),
-            LineForm::Create => ("win", Some("create"), 7),
-            LineForm::Free => ("win", Some("free"), 1),
             LineForm::Fence => ("fence", None, 1),
             LineForm::Post => ("post", None, 2),
             LineForm::Start => ("start", None, 2),
@@ -263,27 +264,6 @@ impl LineForm {
             LineForm::FlushLocal => ("flushlocal", None, 2),
             LineForm::FlushLocalAll => ("flushlocalall", None, 1),
             LineForm::Sync => ("sync", None, 1),
-            LineForm::Dynamic => ("win", Some("dynamic"), 3),
-            LineForm::Attach => ("attach", None, 3),
-            LineForm::Detach => ("detach", None, 2),
-            LineForm::Bcast => ("bcast", None, 3),
-            LineForm::Scatter => ("scatter", None, 3),
-            LineForm::Gather => ("gather", None, 3),
-            LineForm::Reduce => ("reduce", None, 3),
-            LineForm::Allreduce => ("allreduce", None, 2),
-            LineForm::Allgather => ("allgather", None, 2),
-            LineForm::Alltoall => ("alltoall", None, 2),
-            LineForm::Contiguous => ("type", Some("contiguous"), 3),
-            LineForm::Vector => ("type", Some("vector"), 5),
-            LineForm::Hvector => ("type", Some("hvector"), 5),
-            LineForm::Indexed => ("type", Some("indexed"), 2),
-            LineForm::Hindexed => ("type", Some("hindexed"), 2),
-            LineForm::IndexedBlock => ("type", Some("indexed_block"), 3),
-            LineForm::Struct => ("type", Some("struct"), 1),
-            LineForm::Resized => ("type", Some("resized"), 4),
-            LineForm::Subarray => ("type", Some("subarray"), 3),
-            LineForm::Commit => ("type", Some("commit"), 1),
-            LineForm::FreeType => ("type", Some("free"), 1),
             LineForm::Put => ("put", None, 8),
             LineForm::Get => ("get", None, 8),
             LineForm::Accumulate => ("acc", None, 9),
@@ -296,7 +276,60 @@ impl LineForm {
             LineForm::RgetAccumulate => ("rgetacc", None, 13),
             LineForm::Load => ("load", None, 3),
             LineForm::Store => ("store", None, 3),
+            _ => return self.row_of_kind(),
+        };
+        Row { verb, kind, fields }
+    }
+
+    // The row of a form with a word of its kind that logs of the first version have.
+    fn row_of_kind(self) -> Row
+        requires kind { is_some (form_at self).kind_word ≡ true }
+        requires since_one { is_since_two self ≡ false }
+        ensures verb { result.verb.now ≡ (form_at self).verb }
+        ensures kind { option_map (λ word. word.now) result.kind ≡ (form_at self).kind_word }
+        ensures fields { result.fields ≡ length (form_at self).kinds }
+        ensures few { result.fields ≤ 14 }
+    {
+        let (verb, kind, fields) = match self {
+            LineForm::Create => ("win", Some("create"), 7),
+            LineForm::Free => ("win", Some("free"), 1),
+            LineForm::Contiguous => ("type", Some("contiguous"), 3),
+            LineForm::Vector => ("type", Some("vector"), 5),
+            LineForm::Hvector => ("type", Some("hvector"), 5),
+            LineForm::Indexed => ("type", Some("indexed"), 2),
+            LineForm::Hindexed => ("type", Some("hindexed"), 2),
+            LineForm::IndexedBlock => ("type", Some("indexed_block"), 3),
+            LineForm::Struct => ("type", Some("struct"), 1),
+            LineForm::Resized => ("type", Some("resized"), 4),
+            LineForm::Subarray => ("type", Some("subarray"), 3),
+            LineForm::Commit => ("type", Some("commit"), 1),
+            LineForm::FreeType => ("type", Some("free"), 1),
+            _ => unreachable!(),
+        };
+        Row { verb, kind, fields }
+    }
+
+    // The row of a form that logs of the first version do not have.
+    fn row_since_two(self) -> Row
+        requires { is_since_two self ≡ true }
+        ensures verb { result.verb.now ≡ (form_at self).verb }
+        ensures kind { option_map (λ word. word.now) result.kind ≡ (form_at self).kind_word }
+        ensures fields { result.fields ≡ length (form_at self).kinds }
+        ensures few { result.fields ≤ 14 }
+    {
+        let (verb, kind, fields) = match self {
+            LineForm::Dynamic => ("win", Some("dynamic"), 3),
+            LineForm::Attach => ("attach", None, 3),
+            LineForm::Detach => ("detach", None, 2),
+            LineForm::Bcast => ("bcast", None, 3),
+            LineForm::Scatter => ("scatter", None, 3),
+            LineForm::Gather => ("gather", None, 3),
+            LineForm::Reduce => ("reduce", None, 3),
+            LineForm::Allreduce => ("allreduce", None, 2),
+            LineForm::Allgather => ("allgather", None, 2),
+            LineForm::Alltoall => ("alltoall", None, 2),
             LineForm::Poll => ("poll", None, 3),
+            _ => unreachable!(),
         };
         Row { verb, kind, fields }
     }
