@@ -1,11 +1,13 @@
 -- Reading a number back that was written in decimal digits.
-use Rattle.std.proofs.Common.{◌≡◌, ℕ, suc, ◌-◌, ◌^◌, ◌<◌, ◌≤◌, Bool, true, false, ◌&&◌, List, [], ◌∷◌, length, Some, Ok, refl, sym, ap, ◌∙◌, ⊎_elim, arith, eqb, leb, not}
+use Rattle.std.proofs.Common.{◌≡◌, ℕ, suc, ◌-◌, ◌^◌, ◌<◌, ◌≤◌, Bool, true, false, ◌&&◌, List, [], ◌∷◌, length, Some, Ok, refl, sym, ap, ◌∙◌, ⊎_elim, arith, lit≤, eqb, leb, not}
 use Rattle.std.specs.Prelude.{decimal, nat_eq, codes, pos, negsuc, option_map}
 use Rattle.std.specs.Char.{digit_value, is_ascii_digit, is_digit}
 use Rattle.std.specs.List.{list_all, starts_with}
 use Rattle.std.specs.Str.Parse.{digits_value, IsNumeral, AllDigits}
 use Rattle.std.proofs.lemmas.Bool.{lt-ltb, le-leb, ne_eqb, eqb-true, cases_Bool, false≢true}
 use Rattle.std.proofs.lemmas.Bool.Decides.{nat_tests}
+use Rattle.std.proofs.lemmas.Int.Digits.{digits_value-lt}
+use Rattle.std.proofs.Math.Nat.{pow-le-pow_right}
 use Rattle.std.proofs.lemmas.Fmt.{decimal_is_IsNumeral}
 use Rattle.rma_base.proofs.NameLemmas.{and_left, and_right}
 use Rattle.rma_field.specs.Numbers.{magnitude, number, natural, signed}
@@ -42,6 +44,10 @@ all_decimal (byte ∷ digits) all = rw (decimal_digit byte all.0, all_decimal di
 all_digits : (digits : List ℕ) → AllDigits 10 digits → list_all (λ c. is_digit c 10) digits ≡ true
 all_digits [] all = refl
 all_digits (byte ∷ digits) all = rw (lt-ltb (digit_value byte) 10 all.0, all_digits digits all.1)
+
+-- so many digits write a number below that power
+pub digits_below : (digits : List ℕ) (k : ℕ) → AllDigits 10 digits → length digits ≤ k → digits_value 10 digits < 10 ^ k
+digits_below digits k all few = omega (arith, digits_value-lt 10 digits all, pow-le-pow_right {n = 10} (lit≤ tt) few)
 
 -- decimal digits have no sign and no `0x` in front
 unsigned : (digits : List ℕ) → list_all is_decimal digits ≡ true → starts_with nat_eq digits (codes "-") ≡ false

@@ -13,8 +13,11 @@ use rma_base::{FormReason, Rank, Version};
 // Where magnitudes are cut off: above the range of every field.
 pub(crate) const CAP: u64 = 576_460_752_303_423_488;
 
-// Up to here one more decimal digit leaves a number below `CAP`.
-const SHORT: u64 = 50_000_000_000_000_000;
+// So many decimal digits write a number below `CAP`.
+const FEW: usize = 17;
+
+// Above every number that a field may be.
+const NO_NUMBER: u64 = u64::MAX;
 
 // A number, its magnitude cut off at `CAP`.
 #[derive(Clone, Copy)]
@@ -32,18 +35,35 @@ pub(crate) struct Parts<'a> {
 }
 
 /// The field as a number from `low` to `high`.
+#[inline(always)]
 pub fn natural(text: &[u8], low: u64, high: u64) -> Result<u64, ParseError>
     requires { high < CAP }
     ensures gives { Gives result (natural low high text.now) }
     ensures range { IfOk result (λ n. n ≤ high) }
 {
-    match number(text) {
+    let number = short_number(text);
+    if number >= low && number <= high {
+        return Ok(number);
+    }
+    any_natural(text, low, high)
+}
+
+// The same of any text.
+#[cold]
+#[inline(never)]
+fn any_natural(text: &[u8], low: u64, high: u64) -> Result<u64, ParseError>
+    requires { high < CAP }
+    ensures gives { Gives result (natural low high text.now) }
+    ensures range { IfOk result (λ n. n ≤ high) }
+{
+    match any_number(text) {
         Some(number) => natural_of(number, low, high),
         None => Err(refused(FormReason::BadNumber)),
     }
 }
 
 /// The field as a rank of a run.
+#[inline]
 pub fn rank_field(version: Version, text: &[u8]) -> Result<Rank, ParseError>
     ensures { Gives result (meaning version rank text.now) }
 {
@@ -89,31 +109,32 @@ pub fn refused(reason: FormReason) -> ParseError
 pub(crate) fn number(text: &[u8]) -> Option<Signed>
     ensures { MatchOption result (number text.now ≡ None) (λ n. (m : ℕ) × (number text.now ≡ Some (signed n.negative m)) × (n.magnitude ≡ min m CAP)) }
 {
-    match short_number(text) {
-        Some(magnitude) => Some(Signed {
+    let magnitude = short_number(text);
+    if magnitude < CAP {
+        return Some(Signed {
             negative: false,
             magnitude,
-        }),
-        None => any_number(text),
+        });
     }
+    any_number(text)
 }
 
-// The number that the text is, where it is decimal digits and far below `CAP`, as nearly all numbers of a log are.
-fn short_number(text: &[u8]) -> Option<u64>
-    ensures value { IfSome result (λ n. number text.now ≡ Some (pos n)) }
-    ensures bound { IfSome result (λ n. n ≤ CAP) }
+// The number that the text is, where it is some decimal digits and no more than `FEW`, as nearly all numbers of a log are;
+// else `NO_NUMBER`.
+fn short_number(text: &[u8]) -> u64
+    ensures { result < CAP → number text.now ≡ Some (pos result) }
 {
-    if text.is_empty() {
-        return None;
+    if text.is_empty() || text.len() > FEW {
+        return NO_NUMBER;
     }
     let mut value = 0u64;
     for byte in text {
-        if !byte.is_ascii_digit() || value > SHORT {
-            return None;
+        if !byte.is_ascii_digit() {
+            return NO_NUMBER;
         }
         value = value * 10 + u64::from(*byte - b'0');
     }
-    Some(value)
+    value
 }
 
 // The number that the text is, whatever it is.

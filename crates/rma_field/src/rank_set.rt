@@ -23,6 +23,7 @@ struct Listed {
 }
 
 /// The field as the target of an RMA call: a rank, or none for the word `null`.
+#[inline]
 pub fn target_field(version: Version, text: &[u8]) -> Result<Option<Rank>, ParseError>
     ensures { Gives result (meaning version target text.now) }
 {
