@@ -7,12 +7,14 @@ ghost use Rattle.rma_form.specs.inside.TailKinds.{HasWords, tail_kind};
 
 mod likely;
 mod lookup;
+mod row;
 mod tail;
 
 use likely::likely;
 pub use lookup::form_of;
 use rma_base::Version;
 use rma_call::Assertion;
+use row::ROWS;
 pub use tail::tail_counted;
 
 /// A form of a line, by its words.
@@ -201,14 +203,6 @@ const FORMS: [LineForm; 59] = [
     LineForm::Poll,
 ];
 
-// A row of the table: the verb, the word of its kind behind some verbs, and the number of further fields.
-#[derive(Clone, Copy)]
-struct Row {
-    verb: &'static str,
-    kind: Option<&'static str>,
-    fields: usize,
-}
-
 // What may stand behind the fields of a line.
 #[derive(Clone, Copy)]
 enum TailKind {
@@ -230,108 +224,29 @@ enum TailKind {
 }
 
 impl LineForm {
-    // The row of the form.
-    fn row(self) -> Row
-        ensures verb { result.verb.now ≡ (form_at self).verb }
-        ensures kind { option_map (λ word. word.now) result.kind ≡ (form_at self).kind_word }
-        ensures fields { result.fields ≡ length (form_at self).kinds }
-        ensures few { result.fields ≤ 14 }
+    // The verb.
+    #[inline]
+    fn verb(self) -> &'static str
+        ensures { result.now ≡ (form_at self).verb }
     {
-        if self.is_since_two() {
-            return self.row_since_two();
-        }
-        let (verb, kind, fields) = match self {
-            LineForm::Header => ("rma", None, 3),
-            LineForm::End => ("end", None, 0),
-            LineForm::Comm => ("comm", None, 2),
-            LineForm::Barrier => ("barrier", None, 1),
-            LineForm::Send => ("send", None, 3),
-            LineForm::Recv => ("recv", None, 3),
-            LineForm::Isend => ("isend", None, 4),
-            LineForm::Irecv => ("irecv", None, 2),
-            LineForm::Wait => ("wait", None, 1),
-            LineForm::Fence => ("fence", None, 1),
-            LineForm::Post => ("post", None, 2),
-            LineForm::Start => ("start", None, 2),
-            LineForm::Complete => ("complete", None, 1),
-            LineForm::Expwait => ("expwait", None, 1),
-            LineForm::Lock => ("lock", None, 3),
-            LineForm::Unlock => ("unlock", None, 2),
-            LineForm::LockAll => ("lockall", None, 1),
-            LineForm::UnlockAll => ("unlockall", None, 1),
-            LineForm::Flush => ("flush", None, 2),
-            LineForm::FlushAll => ("flushall", None, 1),
-            LineForm::FlushLocal => ("flushlocal", None, 2),
-            LineForm::FlushLocalAll => ("flushlocalall", None, 1),
-            LineForm::Sync => ("sync", None, 1),
-            LineForm::Put => ("put", None, 8),
-            LineForm::Get => ("get", None, 8),
-            LineForm::Accumulate => ("acc", None, 9),
-            LineForm::GetAccumulate => ("getacc", None, 12),
-            LineForm::FetchAndOp => ("fop", None, 7),
-            LineForm::CompareAndSwap => ("cas", None, 7),
-            LineForm::Rput => ("rput", None, 9),
-            LineForm::Rget => ("rget", None, 9),
-            LineForm::Raccumulate => ("racc", None, 10),
-            LineForm::RgetAccumulate => ("rgetacc", None, 13),
-            LineForm::Load => ("load", None, 3),
-            LineForm::Store => ("store", None, 3),
-            _ => return self.row_of_kind(),
-        };
-        Row { verb, kind, fields }
+        ROWS[self as usize].0
     }
 
-    // The row of a form with a word of its kind that logs of the first version have.
-    fn row_of_kind(self) -> Row
-        requires kind { is_some (form_at self).kind_word ≡ true }
-        requires since_one { is_since_two self ≡ false }
-        ensures verb { result.verb.now ≡ (form_at self).verb }
-        ensures kind { option_map (λ word. word.now) result.kind ≡ (form_at self).kind_word }
-        ensures fields { result.fields ≡ length (form_at self).kinds }
-        ensures few { result.fields ≤ 14 }
+    // The word of its kind behind the verb, if there is one.
+    #[inline]
+    fn kind(self) -> Option<&'static str>
+        ensures { option_map (λ word. word.now) result ≡ (form_at self).kind_word }
     {
-        let (verb, kind, fields) = match self {
-            LineForm::Create => ("win", Some("create"), 7),
-            LineForm::Free => ("win", Some("free"), 1),
-            LineForm::Contiguous => ("type", Some("contiguous"), 3),
-            LineForm::Vector => ("type", Some("vector"), 5),
-            LineForm::Hvector => ("type", Some("hvector"), 5),
-            LineForm::Indexed => ("type", Some("indexed"), 2),
-            LineForm::Hindexed => ("type", Some("hindexed"), 2),
-            LineForm::IndexedBlock => ("type", Some("indexed_block"), 3),
-            LineForm::Struct => ("type", Some("struct"), 1),
-            LineForm::Resized => ("type", Some("resized"), 4),
-            LineForm::Subarray => ("type", Some("subarray"), 3),
-            LineForm::Commit => ("type", Some("commit"), 1),
-            LineForm::FreeType => ("type", Some("free"), 1),
-            _ => unreachable!(),
-        };
-        Row { verb, kind, fields }
+        ROWS[self as usize].1
     }
 
-    // The row of a form that logs of the first version do not have.
-    fn row_since_two(self) -> Row
-        requires { is_since_two self ≡ true }
-        ensures verb { result.verb.now ≡ (form_at self).verb }
-        ensures kind { option_map (λ word. word.now) result.kind ≡ (form_at self).kind_word }
-        ensures fields { result.fields ≡ length (form_at self).kinds }
-        ensures few { result.fields ≤ 14 }
+    // The number of further fields.
+    #[inline]
+    fn fields(self) -> usize
+        ensures is { result ≡ length (form_at self).kinds }
+        ensures few { result ≤ 14 }
     {
-        let (verb, kind, fields) = match self {
-            LineForm::Dynamic => ("win", Some("dynamic"), 3),
-            LineForm::Attach => ("attach", None, 3),
-            LineForm::Detach => ("detach", None, 2),
-            LineForm::Bcast => ("bcast", None, 3),
-            LineForm::Scatter => ("scatter", None, 3),
-            LineForm::Gather => ("gather", None, 3),
-            LineForm::Reduce => ("reduce", None, 3),
-            LineForm::Allreduce => ("allreduce", None, 2),
-            LineForm::Allgather => ("allgather", None, 2),
-            LineForm::Alltoall => ("alltoall", None, 2),
-            LineForm::Poll => ("poll", None, 3),
-            _ => unreachable!(),
-        };
-        Row { verb, kind, fields }
+        ROWS[self as usize].2
     }
 
     // Whether logs of the first version do not have the form.
@@ -429,30 +344,26 @@ impl LineForm {
         ensures further { result.1 ≡ length (form_at self).kinds }
         ensures few { result.0 + result.1 ≤ 15 }
     {
-        let row = self.row();
-        match row.kind {
-            Some(_) => (1, row.fields),
-            None => (0, row.fields),
-        }
+        (usize::from(self.has_kind()), self.fields())
     }
 
     // Whether a word of its kind stands behind the verb.
     fn has_kind(self) -> bool
         ensures { result ≡ is_some (form_at self).kind_word }
     {
-        self.row().kind.is_some()
+        self.kind().is_some()
     }
 
     fn has_verb(self, version: Version, verb: &[u8]) -> bool
         ensures { result ≡ has_verb version verb.now self }
     {
-        verb == self.row().verb.as_bytes() && self.is_in(version)
+        verb == self.verb().as_bytes() && self.is_in(version)
     }
 
     fn has_words(self, version: Version, verb: &[u8], kind: &[u8]) -> bool
         ensures { result ≡ has_words version verb.now kind.now self }
     {
-        match self.row().kind {
+        match self.kind() {
             Some(word) => self.has_verb(version, verb) && kind == word.as_bytes(),
             None => false,
         }
@@ -472,7 +383,7 @@ impl LineForm {
     fn has_kind_word(self, kind: Option<&[u8]>) -> bool
         ensures { result ≡ true → IsKind (form_at self).kind_word (option_map (λ text. text.now) kind.entry) }
     {
-        match (self.row().kind, kind) {
+        match (self.kind(), kind) {
             (None, _) => true,
             (Some(word), Some(kind)) => kind == word.as_bytes(),
             (Some(_), None) => false,
