@@ -2,6 +2,7 @@
 use Rattle.std.proofs.Common.{◌≡◌, ℕ, suc, ◌-◌, ◌^◌, ◌<◌, ◌≤◌, Bool, true, false, ◌&&◌, List, [], ◌∷◌, length, Some, Ok, refl, sym, ap, ◌∙◌, ⊎_elim, arith, lit≤, eqb, leb, not}
 use Rattle.std.specs.Prelude.{decimal, nat_eq, codes, pos, negsuc, option_map}
 use Rattle.std.specs.Char.{digit_value, is_ascii_digit, is_digit}
+use Rattle.std.specs.Int.{IsInRange}
 use Rattle.std.specs.List.{list_all, starts_with}
 use Rattle.std.specs.Str.Parse.{digits_value, IsNumeral, AllDigits}
 use Rattle.std.proofs.lemmas.Bool.{lt-ltb, le-leb, ne_eqb, eqb-true, cases_Bool, false≢true}
@@ -36,6 +37,9 @@ decimal_value byte is = grind (arith, nat_tests)
 
 pub decimal_value_low : (byte : ℕ) → is_ascii_digit byte ≡ true → digit_value byte < 10
 decimal_value_low byte is = grind (arith, nat_tests)
+
+pub value_in_range : (byte : ℕ) → IsInRange 48 57 byte → digit_value byte ≡ byte - 48
+value_in_range byte inside = grind (arith, nat_tests)
 
 all_decimal : (digits : List ℕ) → AllDigits 10 digits → list_all is_decimal digits ≡ true
 all_decimal [] all = refl

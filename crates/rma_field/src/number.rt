@@ -1,8 +1,8 @@
 //! Fields that are numbers.
-ghost use Rattle.std.specs.Prelude.{◌≡◌, ◌<◌, ◌≤◌, length, min, MatchOption, option_map, IfOk, IfSome, Some, None, pos, true, false, ℕ, ◌*◌, ◌+◌};
+ghost use Rattle.std.specs.Prelude.{◌≡◌, ◌<◌, ◌≤◌, length, take, min, MatchOption, option_map, IfOk, IfSome, Some, None, pos, true, false, ℕ, ◌*◌, ◌+◌};
 ghost use Rattle.std.specs.List.{list_all};
 ghost use Rattle.std.specs.Char.{digit_value, is_digit};
-ghost use Rattle.std.specs.Str.Parse.{digits_value};
+ghost use Rattle.std.specs.Str.Parse.{digits_value, AllDigits};
 ghost use Rattle.rma_field.specs.Numbers.{numeral, number, signed, natural, natural_within};
 ghost use Rattle.rma_field.specs.Kinds.{meaning, rank, size};
 ghost use Rattle.rma_field.specs.Steps.{Gives};
@@ -15,6 +15,9 @@ pub(crate) const CAP: u64 = 576_460_752_303_423_488;
 
 // So many decimal digits write a number below `CAP`.
 const FEW: usize = 17;
+
+// So many digits at the front of a number are read together.
+const FRONT: usize = 8;
 
 // Above every number that a field may be.
 const NO_NUMBER: u64 = u64::MAX;
@@ -127,11 +130,57 @@ fn short_number(text: &[u8]) -> u64
     if text.is_empty() || text.len() > FEW {
         return NO_NUMBER;
     }
-    let mut value = 0u64;
-    for byte in text {
+    if text.len() < FRONT {
+        return with_rest(0, text, 0);
+    }
+    let front = &text[..FRONT];
+    if !are_decimal(front) {
+        return NO_NUMBER;
+    }
+    with_rest(decimal(front), text, FRONT)
+}
+
+// The number that the text is, of which the digits before a place write the number `before`; or `NO_NUMBER`, where a byte
+// behind them is no digit.
+#[inline]
+fn with_rest(before: u64, text: &[u8], place: usize) -> u64
+    requires few { length text.now ≤ FEW }
+    requires place { place ≤ length text.now }
+    requires before { before ≡ digits_value 10 (take place text.now) }
+    requires digits { AllDigits 10 (take place text.now) }
+    ensures { result < CAP → AllDigits 10 text.now × (result ≡ digits_value 10 text.now) }
+{
+    let mut value = before;
+    for byte in &text[place..] {
         if !byte.is_ascii_digit() {
             return NO_NUMBER;
         }
+        value = value * 10 + u64::from(*byte - b'0');
+    }
+    value
+}
+
+// Whether each byte is a decimal digit. It looks at all of them in any case, so that it can look at some at once.
+#[inline(always)]
+fn are_decimal(text: &[u8]) -> bool
+    ensures { result ≡ true → AllDigits 10 text.now }
+{
+    let mut all = true;
+    for byte in text {
+        all &= byte.is_ascii_digit();
+    }
+    all
+}
+
+// The number that decimal digits write.
+#[inline(always)]
+fn decimal(text: &[u8]) -> u64
+    requires few { length text.now ≤ FEW }
+    requires digits { AllDigits 10 text.now }
+    ensures { result ≡ digits_value 10 text.now }
+{
+    let mut value = 0;
+    for byte in text {
         value = value * 10 + u64::from(*byte - b'0');
     }
     value

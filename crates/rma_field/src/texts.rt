@@ -50,7 +50,7 @@ impl Texts {
     }
 
     /// The field as a name.
-    #[inline(always)]
+    #[inline]
     pub fn name(&mut self, text: &[u8]) -> Result<Name, ParseError>
         ensures { Gives result (name_of text.now) }
     {
@@ -62,7 +62,7 @@ impl Texts {
     }
 
     /// The field as the name of a request.
-    #[inline(always)]
+    #[inline]
     pub fn request(&mut self, text: &[u8]) -> Result<Name, ParseError>
         ensures { Gives result (name_of text.now) }
     {
