@@ -3,6 +3,7 @@ ghost use Rattle.std.specs.Prelude.{◌≡◌, ℕ, ◌+◌, ◌%◌, ◌^◌, �
 ghost use Rattle.std.specs.Int.{bit_at};
 ghost use Rattle.rma_lex.specs.inside.Edge.{is_edge, IsNextEdge};
 ghost use Rattle.rma_lex.specs.inside.Mask.{Marks};
+ghost use Rattle.rma_lex.specs.inside.Reached.{Reaches};
 
 use crate::blank::{blanks_of_block, blanks_of_short_line, is_blank};
 use crate::mask::{lowest, without_lowest};
@@ -21,8 +22,6 @@ pub(crate) struct Edges<'a> {
 }
 
 impl<'a> Edges<'a> {
-    ghost use Rattle.rma_lex.specs.inside.Reached.{Reaches};
-
     /// At the beginning of the line.
     #[inline]
     pub(crate) fn new(line: &'a [u8]) -> Edges<'a>
@@ -52,15 +51,30 @@ impl<'a> Edges<'a> {
         ensures next { IsNextEdge self.old.line.now self.old.place self.new.place }
         ensures reaches { Reaches self.new }
     {
-        while self.mask == 0 {
-            if self.line.len() - self.base <= 64 {
-                self.place = self.line.len();
-                return;
-            }
-            self.search();
+        self.look_ahead();
+        if self.mask == 0 {
+            self.place = self.line.len();
+            return;
         }
         self.place = self.base + lowest(self.mask);
         self.mask = without_lowest(self.mask);
+    }
+
+    /// Where no edge is at hand, searches on, up to a block that has edges or else to the end of the line.
+    #[inline]
+    fn look_ahead(&mut self)
+        requires { Reaches self.old }
+        ensures line { self.new.line.now ≡ self.old.line.now }
+        ensures place { self.new.place ≡ self.old.place }
+        ensures reaches { Reaches self.new }
+        ensures ended { self.new.mask ≡ 0 → length self.new.line.now ≤ self.new.base + 64 }
+    {
+        if self.mask != 0 || self.line.len() - self.base <= 64 {
+            return;
+        }
+        let (base, mask) = further_edges(self.line, self.place, self.base);
+        self.base = base;
+        self.mask = mask;
     }
 
     /// Searches the next bytes, up to 64 of them.
@@ -78,6 +92,25 @@ impl<'a> Edges<'a> {
         self.base = seen.min(self.line.len() - 64);
         self.mask = edges_of_block(self.line, self.base, seen - self.base);
     }
+}
+
+/// The base and the mask of the next block that has edges, or of the last one, where the line was searched up to a base.
+#[inline(never)]
+fn further_edges(line: &[u8], place: usize, base: usize) -> (usize, u64)
+    requires { Reaches (record { line = line; place = place; base = base; mask = 0 }) }
+    ensures reaches { Reaches (record { line = line.entry; place = place; base = result.0; mask = result.1 }) }
+    ensures ended { result.1 ≡ 0 → length line.now ≤ result.0 + 64 }
+{
+    let mut edges = Edges {
+        line,
+        place,
+        base,
+        mask: 0,
+    };
+    while edges.mask == 0 && edges.line.len() - edges.base > 64 {
+        edges.search();
+    }
+    (edges.base, edges.mask)
 }
 
 /// The edges among the 64 positions from one on, but for the first `skipped`: bit k is for the position `from + k`.

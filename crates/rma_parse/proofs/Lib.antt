@@ -1,2 +1,2 @@
-pub mod SeenLemmas
+pub mod WordLemmas
 pub mod FieldLemmas

@@ -1,5 +1,5 @@
 //! Reading a line.
-ghost use Rattle.std.specs.Prelude.{◌≡◌, ◌<◌, ◌≤◌, ◌^◌, drop, length, option_map, IfOk};
+ghost use Rattle.std.specs.Prelude.{◌≡◌, ◌≤◌, drop, length, option_map, IfOk};
 ghost use Rattle.rma_lex.specs.Field.{fields, texts};
 ghost use Rattle.rma_field.specs.Steps.{Gives, Passes};
 ghost use Rattle.rma_field.specs.Texts.{texts_at};
@@ -8,7 +8,8 @@ ghost use Rattle.rma_form.specs.Lines.{counted, reading, site_of, stated_by, sta
 ghost use Rattle.rma_parse.specs.inside.Words.{as_found};
 
 use crate::form::read_fields;
-use crate::words::{Seen, Words, begins_with};
+use crate::words::{begins_with, fields_and_site, words_of};
+use arrayvec::ArrayVec;
 use rma_base::{FormReason, Site, Version};
 use rma_field::{ParseError, Texts, refused};
 use rma_form::{LineForm, Stated, behind, form_of, tail_counted};
@@ -30,15 +31,15 @@ pub fn parse_line(
     let mut rest = tokens(line);
     match rest.next() {
         Some(verb) if !begins_with(verb.text, b'#') => {
-            read_words(kept, version, line, verb.text, rest)
+            return read_words(kept, version, line, verb.text, rest);
         }
-        _ => Ok(None),
+        _ => {}
     }
+    Ok(None)
 }
 
-// What the line states, of which these are the words behind the verb. It stands apart, so that comments do not pay for
-// the room that it takes.
-#[inline(never)]
+// What the line states, of which these are the words behind the verb.
+#[inline(always)]
 fn read_words<'a>(
     kept: &mut Texts,
     version: Version,
@@ -46,53 +47,51 @@ fn read_words<'a>(
     verb: &'a [u8],
     rest: TokenIter<'a>,
 ) -> Result<Option<Stated>, ParseError>
-    requires words { texts rest ≡ drop 1 (texts (fields line.now)) }
-    requires bound { length (texts rest) < 2 ^ 64 }
+    requires { texts rest ≡ drop 1 (texts (fields line.now)) }
     ensures { Gives result (as_found (stated_by version verb.now (drop 1 (texts (fields line.now))))) }
 {
-    let mut seen = Seen::new();
-    seen.survey(rest);
-    let words = Words::new(line, &seen);
-    match stated_by(kept, version, verb, &words) {
-        Ok(stated) => Ok(Some(stated)),
-        Err(error) => Err(error),
-    }
+    let mut few = ArrayVec::new();
+    let mut many = Vec::new(kept.allocator());
+    let words = match words_of(line, rest, &mut few, &mut many) {
+        Ok(words) => words,
+        Err(_) => return Err(ParseError::Memory),
+    };
+    stated_by(kept, version, verb, words)
 }
 
+// What a line with this verb states, and these words behind it.
+#[inline(always)]
 fn stated_by(
     kept: &mut Texts,
     version: Version,
     verb: &[u8],
-    words: &Words<'_, '_>,
-) -> Result<Stated, ParseError>
-    ensures { Gives result (stated_by version verb.now words.now) }
+    words: &[&[u8]],
+) -> Result<Option<Stated>, ParseError>
+    ensures { Gives result (as_found (stated_by version verb.now (texts_at words.now))) }
 {
-    let form = form_of(version, verb, words.kind())?;
-    if words.count() <= 16 {
-        return stated_in(kept, version, form, words.fields(), words.site());
-    }
-    match words.all(kept.allocator()) {
-        Ok(all) => stated_in(kept, version, form, all.as_slice(), words.site()),
-        Err(_) => Err(ParseError::Memory),
-    }
+    let (fields, site) = fields_and_site(words);
+    let form = form_of(version, verb, fields.first().copied())?;
+    stated_in(kept, version, form, fields, site)
 }
 
 // What a line of the form states that has these fields and perhaps this site.
+#[inline(always)]
 fn stated_in(
     kept: &mut Texts,
     version: Version,
     form: LineForm,
     fields: &[&[u8]],
     site: Option<&[u8]>,
-) -> Result<Stated, ParseError>
-    ensures { Gives result (stated_in version form (texts_at fields.now) (option_map (λ text. text.now) site.entry)) }
+) -> Result<Option<Stated>, ParseError>
+    ensures { Gives result (as_found (stated_in version form (texts_at fields.now) (option_map (λ text. text.now) site.entry))) }
 {
     let further = counted(version, form, fields)?;
     let site = site_field(kept, site)?;
-    match read_fields(kept, version, form, further) {
-        Ok(event) => Ok(Stated { event, site }),
-        Err(error) => Err(error),
-    }
+    let event = match read_fields(kept, version, form, further) {
+        Ok(event) => event,
+        Err(error) => return Err(error),
+    };
+    Ok(Some(Stated { event, site }))
 }
 
 // The fields behind the word of its kind, where there are as many as the form has, and words of assertions are good.

@@ -199,6 +199,7 @@ pub(crate) fn compare_and_swap(
 }
 
 // The transfer whose fields begin at this place.
+#[inline(always)]
 fn transfer_at(
     texts: &mut Texts,
     version: Version,

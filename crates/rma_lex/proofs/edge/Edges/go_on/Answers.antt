@@ -4,10 +4,10 @@ use Rattle.rma_lex.proofs.edge.Edges.go_on.Goals as goal
 pub returns-clause-next : goal.returns-clause-next
 returns-clause-next c =
     let low = c.lowest.result in
-    rw (← c.loop-self.invariant.line, ← c.loop-self.invariant.place)
-    (IsNextEdge_lowest c.loop-self.self c.loop-self.invariant.reaches low _ c.lowest.ensures.bound c.lowest.ensures.lowest (c.without_lowest-self.ensures low c.lowest.ensures.lowest))
+    rw (← c.look_ahead.ensures.line, ← c.look_ahead.ensures.place)
+    (IsNextEdge_lowest c.look_ahead.new.self c.look_ahead.ensures.reaches low _ c.lowest.ensures.bound c.lowest.ensures.lowest (c.without_lowest-self.ensures low c.lowest.ensures.lowest))
 
 pub returns-clause-reaches : goal.returns-clause-reaches
 returns-clause-reaches c =
     let low = c.lowest.result in
-    Reaches_next c.loop-self.self c.loop-self.invariant.reaches low _ c.lowest.ensures.bound c.lowest.ensures.lowest (c.without_lowest-self.ensures low c.lowest.ensures.lowest)
+    Reaches_next c.look_ahead.new.self c.look_ahead.ensures.reaches low _ c.lowest.ensures.bound c.lowest.ensures.lowest (c.without_lowest-self.ensures low c.lowest.ensures.lowest)
