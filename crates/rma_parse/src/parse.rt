@@ -3,8 +3,8 @@ ghost use Rattle.std.specs.Prelude.{◌≡◌, ◌≤◌, drop, length, option_m
 ghost use Rattle.rma_lex.specs.Field.{fields, texts};
 ghost use Rattle.rma_field.specs.Steps.{Gives, Passes};
 ghost use Rattle.rma_field.specs.Texts.{texts_at};
-ghost use Rattle.rma_form.specs.Forms.{form_at, kind_words};
-ghost use Rattle.rma_form.specs.Lines.{counted, reading, site_of, stated_by, stated_in};
+ghost use Rattle.rma_form.specs.Forms.{form_at, form_of, kind_words};
+ghost use Rattle.rma_form.specs.Lines.{counted, reading, site_of, stated_by};
 ghost use Rattle.rma_parse.specs.inside.Words.{as_found};
 
 use crate::form::read_fields;
@@ -39,7 +39,6 @@ pub fn parse_line(
 }
 
 // What the line states, of which these are the words behind the verb.
-#[inline(always)]
 fn read_words<'a>(
     kept: &mut Texts,
     version: Version,
@@ -56,35 +55,8 @@ fn read_words<'a>(
         Ok(words) => words,
         Err(_) => return Err(ParseError::Memory),
     };
-    stated_by(kept, version, verb, words)
-}
-
-// What a line with this verb states, and these words behind it.
-#[inline(always)]
-fn stated_by(
-    kept: &mut Texts,
-    version: Version,
-    verb: &[u8],
-    words: &[&[u8]],
-) -> Result<Option<Stated>, ParseError>
-    ensures { Gives result (as_found (stated_by version verb.now (texts_at words.now))) }
-{
     let (fields, site) = fields_and_site(words);
-    let form = form_of(version, verb, fields.first().copied())?;
-    stated_in(kept, version, form, fields, site)
-}
-
-// What a line of the form states that has these fields and perhaps this site.
-#[inline(always)]
-fn stated_in(
-    kept: &mut Texts,
-    version: Version,
-    form: LineForm,
-    fields: &[&[u8]],
-    site: Option<&[u8]>,
-) -> Result<Option<Stated>, ParseError>
-    ensures { Gives result (as_found (stated_in version form (texts_at fields.now) (option_map (λ text. text.now) site.entry))) }
-{
+    let form = form_of_line(version, verb, fields)?;
     let further = counted(version, form, fields)?;
     let site = site_field(kept, site)?;
     let event = match read_fields(kept, version, form, further) {
@@ -92,6 +64,13 @@ fn stated_in(
         Err(error) => return Err(error),
     };
     Ok(Some(Stated { event, site }))
+}
+
+// The form of a line that has this verb, and these fields behind it.
+fn form_of_line(version: Version, verb: &[u8], fields: &[&[u8]]) -> Result<LineForm, ParseError>
+    ensures { Gives result (form_of version verb.now (texts_at fields.now)) }
+{
+    form_of(version, verb, fields.first().copied())
 }
 
 // The fields behind the word of its kind, where there are as many as the form has, and words of assertions are good.
