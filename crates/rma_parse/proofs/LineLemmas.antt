@@ -1,5 +1,5 @@
 -- What a line states, step by step: where each step so far went well, the next one decides.
-use Rattle.std.proofs.Common.{◌≡◌, ℕ, List, Option, drop, Some, Ok, refl, sym, ap, ◌∙◌}
+use Rattle.std.proofs.Common.{◌≡◌, ℕ, List, Option, drop, Some, Ok, refl}
 use Rattle.rma_base.specs.declared.version.Version.{Version}
 use Rattle.rma_field.specs.declared.parse_error.ParseError.{ParseError}
 use Rattle.rma_field.specs.declared.parse_error.ParseError.TheVariants.{Fault, Memory}
