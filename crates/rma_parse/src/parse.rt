@@ -31,11 +31,10 @@ pub fn parse_line(
     let mut rest = tokens(line);
     match rest.next() {
         Some(verb) if !begins_with(verb.text, b'#') => {
-            return read_words(kept, version, line, verb.text, rest);
+            read_words(kept, version, line, verb.text, rest)
         }
-        _ => {}
+        _ => Ok(None),
     }
-    Ok(None)
 }
 
 // What the line states, of which these are the words behind the verb.
