@@ -190,6 +190,15 @@ impl TypeTable {
         self.summary(id).made()
     }
 
+    /// The number of elements of the datatype.
+    pub fn entries(&self, id: TypeId) -> u64
+        requires { id.0 < length self.now.origins }
+        ensures count { result ≡ entry_count (typemap_in (typemaps self.now.origins) id) }
+        ensures few { result ≤ element_limit }
+    {
+        self.summary(id).entries
+    }
+
     /// The elements of the datatype in order, as blocks.
     pub fn blocks(&self, id: TypeId) -> Option<Blocks>
         requires { id.0 < length self.now.origins }
