@@ -1,13 +1,14 @@
 -- A layout that came before, moved to another address.
-use Rattle.std.proofs.Common.{◌≡◌, ℕ, ◌<◌, ◌≤◌, ◌+◌, ◌-◌, ◌^◌, fold, ℤ, pos, ◌+ℤ◌, ◌-ℤ◌, Bool, true, false, List, [], ◌∷◌, ◌++◌, map, length, get_or, Option, Some, None, Result, Ok, Err, IfOk, OnOk, IfErr, OnErr, ◌⊎◌, zero, suc, inl, inr, ◌↔◌, refl, sym, ap, subst, ◌∙◌, arith}
+use Rattle.std.proofs.Common.{◌≡◌, ℕ, ◌<◌, ◌≤◌, ◌+◌, ◌-◌, ◌^◌, fold, ℤ, pos, ◌+ℤ◌, ◌-ℤ◌, Bool, true, false, List, [], ◌∷◌, ◌++◌, map, length, get_or, slice_get, Option, Some, None, Result, Ok, Err, IfOk, OnOk, IfErr, OnErr, ◌⊎◌, zero, suc, inl, inr, ◌↔◌, refl, sym, ap, subst, ◌∙◌, arith}
 use Rattle.std.specs.Prelude.{nat_lt, not, neg_ℤ, ◌≤ℤ◌, ◌<ℤ◌}
 use Rattle.std.proofs.lemmas.Bool.Decides.{nat_tests}
 use Rattle.std.proofs.lemmas.List.{get_or_append_left}
+use Rattle.std.proofs.lemmas.Option.{get_or_from_slice_get}
 use Rattle.rma_base.specs.Limits.{element_limit, block_limit, address_limit}
 use Rattle.rma_bytes.specs.declared.run.Run.{Run}
 use Rattle.rma_bytes.specs.Layout.{Layout}
 use Rattle.rma_bytes.specs.Runs as run
-use Rattle.rma_bytes.proofs.RunLemmas.{no_run}
+use Rattle.rma_bytes.proofs.RunLemmas.{canonical_at, no_run}
 use Rattle.rma_bytes.proofs.RegionLemmas.{moved_by_zero}
 use Rattle.rma_bytes.proofs.IndexLemmas.{canonical_moved, moved_bytes, within}
 use Rattle.rma_type.specs.declared.id.TypeId.{TypeId}
@@ -20,10 +21,12 @@ use Rattle.rma_typemap.specs.Typemap.{Typemap}
 use Rattle.rma_layout.proofs.Words.{ints, Basic, LayoutError, Fault, Memory, OutOfSpace, length-append}
 use Rattle.rma_layout.specs.Layout.{IsLayoutOf}
 use Rattle.rma_layout.specs.Refusal.{IsErrorOf, refusal, first_fault, is_all_in, is_between, lowest}
-use Rattle.rma_layout.specs.inside.Known.{AreKnown, IsKnown, IsKnownIf, LieIn, touched_in}
+use Rattle.rma_layout.specs.inside.Known.{AreEnds, AreKnown, IsKnown, IsKnownIf, LieIn, touched_in}
 use Rattle.rma_layout.specs.declared.space.Space.{Space}
 use Rattle.rma_layout.specs.declared.space.Space.TheVariants.{Local, Target}
+use Rattle.rma_layout.specs.declared.ends.Ends.{Ends}
 use Rattle.rma_layout.specs.declared.known_layout.KnownLayout.{KnownLayout}
+use Rattle.rma_typemap.specs.inside.Near.{IsNear}
 use Rattle.rma_layout.proofs.TouchedLemmas.{between_is, elements_in, touches_are}
 use Rattle.rma_layout.proofs.PlaceLemmas.{not_refused, out_of_space}
 use Rattle.rma_layout.proofs.MovedLemmas.{moved_by, touched_moved, touches_moved, blocks_moved, layout_moved}
@@ -83,6 +86,43 @@ module _ (space : Space) (by : ℤ) (runs : List Run) where
       bounds Local p = let low = p.0 in let high = p.1 in (omega (arith, ints), omega (arith, ints))
       bounds Target p = let low = p.0 in let high = p.1 in (omega (arith, ints), omega (arith, ints))
 
+-- ---- the ends of its bytes
+
+some_run : (runs : List Run) (x : Run) → slice_get runs 0 ≡ Some x → 0 < length runs
+some_run [] x at = absurd (cc)
+some_run (y ∷ ys) x at = omega arith
+
+module _ (runs : List Run) (ends : Ends) (good : run.IsCanonical runs) (are : AreEnds runs (Some ends)) where
+  some : 0 < length runs
+  some = some_run runs are.0 are.2
+
+  is_first : are.0 ≡ get_or runs 0 no_run
+  is_first = sym (get_or_from_slice_get runs 0 are.0 no_run are.2)
+
+  is_last : are.1 ≡ get_or runs (length runs - 1) no_run
+  is_last = sym (get_or_from_slice_get runs (length runs - 1) are.1 no_run are.3)
+
+  pub start_near : IsNear (2 ^ 49) ends.start
+  start_near =
+      let there = some in
+      let bounds = rw (← is_first) at (canonical_at runs 0 no_run good some) in
+      let low = bounds.0.0 in
+      let high = bounds.0.1 in
+      let is = are.4 in
+      record { low = omega (arith, ints); high = omega (arith, ints) }
+
+  pub end_near : IsNear (2 ^ 49) ends.end
+  end_near =
+      let there = some in
+      let bounds = rw (← is_last) at (canonical_at runs (length runs - 1) no_run good (omega arith)) in
+      let low = bounds.0.0 in
+      let high = bounds.0.1 in
+      let is = are.5 in
+      record { low = omega (arith, ints); high = omega (arith, ints) }
+
+  pub moved_decide : (space : Space) (by : ℤ) → (is_between space (ends.start +ℤ by) (ends.end +ℤ by) ≡ true) ↔ LieIn space (map (run.moved by) runs)
+  moved_decide space by = rw (are.4, are.5) (ends_decide space by runs are.0 are.1 good some is_first is_last)
+
 -- ---- what a table knows
 
 -- as many typemaps as datatypes
@@ -110,6 +150,7 @@ known_grows os o known is =
       space = is.space;
       taken = rw stays is.taken;
       is = rw stays is.is;
+      ends = is.ends;
     }
   where
     length_more : (xs : List Origin) (x : Origin) (n : ℕ) → n < length xs → n < length (xs ++ x ∷ [])
@@ -195,14 +236,15 @@ may_stay (x ∷ xs) good b (inr there) = may_stay xs good.3 b there
 
 pub kept_known : (origins : List Origin) (known : KnownLayout) (layout : Layout) (address : ℤ) (space : Space) → known.datatype.0 < length origins → pos 0 ≤ℤ address → address ≤ℤ pos address_limit → known.address ≡ address
     → refusal space (touched_in origins known.datatype known.count address known.entries) known.entries ≡ None → IsLayoutOf (touched_in origins known.datatype known.count address known.entries) layout
-    → known.layout ≡ record layout { runs = map (run.moved (pos 0)) layout.runs } → IsKnown origins known
-kept_known origins known layout address space within low high at taken is same = record {
+    → known.layout ≡ record layout { runs = map (run.moved (pos 0)) layout.runs } → AreEnds known.layout.runs known.ends → IsKnown origins known
+kept_known origins known layout address space within low high at taken is same ends = record {
   within = within;
   low = rw at low;
   high = rw at high;
   space = space;
   taken = rw at taken;
   is = rw (at, same, moved_by_zero layout.runs) is;
+  ends = ends;
 }
 
 -- ---- a layout that is placed

@@ -1,12 +1,14 @@
 //! A layout that came before.
-ghost use Rattle.std.specs.Prelude.{◌≡◌, ◌⊎◌, ◌+ℤ◌, ◌-ℤ◌, ◌<◌, pos, ◌≤ℤ◌, map, length, IfOk, IfErr, OnOk, IsTrue, ◌↔◌};
+ghost use Rattle.std.specs.Prelude.{◌≡◌, ◌⊎◌, ◌-ℤ◌, pos, ◌≤ℤ◌, map, IfOk, IfErr, OnOk, IsTrue, ◌↔◌};
 ghost use Rattle.rma_base.specs.Limits.{address_limit};
-ghost use Rattle.rma_bytes.specs.Runs.{IsCanonical, end_of, moved};
-ghost use Rattle.rma_layout.specs.inside.Known.{LieIn};
+ghost use Rattle.rma_bytes.specs.Runs.{IsCanonical, moved};
+ghost use Rattle.rma_typemap.specs.inside.Near.{IsNear};
+ghost use Rattle.rma_layout.specs.inside.Known.{AreEnds, LieIn};
 
+use crate::ends::Ends;
 use crate::fault::{LayoutError, LayoutFault};
 use crate::space::Space;
-use rma_bytes::{Layout, Run};
+use rma_bytes::Layout;
 use rma_type::TypeId;
 use std::alloc::Global;
 
@@ -21,6 +23,8 @@ pub(crate) struct KnownLayout {
     pub(crate) entries: u64,
     /// The address.
     pub(crate) address: i64,
+    /// Between which addresses its bytes lie, where it has one.
+    pub(crate) ends: Option<Ends>,
     /// The layout.
     pub(crate) layout: Layout,
 }
@@ -39,12 +43,13 @@ impl KnownLayout {
         requires high { address ≤ℤ pos address_limit }
         requires own_low { pos 0 ≤ℤ self.now.address }
         requires own_high { self.now.address ≤ℤ pos address_limit }
+        requires ends { AreEnds self.now.layout.runs self.now.ends }
         ensures ok { IfOk result (λ layout. layout ≡ record self.now.layout { runs = map (moved (address -ℤ self.now.address)) self.now.layout.runs }) }
         ensures within { OnOk result (LieIn space (map (moved (address -ℤ self.now.address)) self.now.layout.runs)) }
         ensures fault { IfErr result (λ e. e ≡ LayoutError.Memory ⊎ ((e ≡ LayoutError.Fault LayoutFault.OutOfSpace) × (LieIn space (map (moved (address -ℤ self.now.address)) self.now.layout.runs) → ⊥))) }
     {
         let by = address - self.address;
-        if !lie_in(&self.layout, by, space) {
+        if !self.lies_in(by, space) {
             return Err(LayoutError::Fault(LayoutFault::OutOfSpace));
         }
         match self.layout.moved(alloc, by) {
@@ -52,32 +57,17 @@ impl KnownLayout {
             Err(_) => Err(LayoutError::Memory),
         }
     }
-}
 
-/// Whether the bytes of a layout lie in a space once they are moved.
-fn lie_in(layout: &Layout, by: i64, space: Space) -> bool
-    requires canonical { IsCanonical layout.now.runs }
-    ensures { IsTrue result ↔ LieIn space (map (moved by) layout.now.runs) }
-{
-    let runs = layout.len();
-    if runs == 0 {
-        return true;
+    /// Whether the bytes lie in a space once they are moved.
+    fn lies_in(&self, by: i64, space: Space) -> bool
+        requires canonical { IsCanonical self.now.layout.runs }
+        requires ends { AreEnds self.now.layout.runs self.now.ends }
+        requires near { IsNear address_limit by }
+        ensures { IsTrue result ↔ LieIn space (map (moved by) self.now.layout.runs) }
+    {
+        match self.ends {
+            Some(ends) => space.has(i128::from(ends.start + by), i128::from(ends.end + by)),
+            None => true,
+        }
     }
-    let start = start_after(layout.get(0), by);
-    let end = end_after(layout.get(runs - 1), by);
-    space.has(start, end)
-}
-
-/// Where a run starts once it is moved.
-fn start_after(run: Run, by: i64) -> i128
-    ensures { result ≡ run.start +ℤ by }
-{
-    i128::from(run.start) + i128::from(by)
-}
-
-/// Where a run ends once it is moved.
-fn end_after(run: Run, by: i64) -> i128
-    ensures { result ≡ end_of run +ℤ by }
-{
-    i128::from(run.start) + i128::from(run.len) + i128::from(by)
 }

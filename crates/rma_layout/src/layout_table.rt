@@ -12,6 +12,7 @@ ghost use Rattle.rma_layout.specs.Layout.{IsLayoutOf};
 ghost use Rattle.rma_layout.specs.Refusal.{refusal, IsErrorOf};
 ghost use Rattle.rma_layout.specs.inside.Known.{AreKnown, IsKnown};
 
+use crate::ends::ends_of;
 use crate::fault::LayoutError;
 use crate::known_layout::KnownLayout;
 use crate::placement::place;
@@ -116,7 +117,6 @@ impl LayoutTable {
     /// # Errors
     ///
     /// Those of [`place`].
-    #[inline]
     pub fn place(
         &mut self,
         datatype: TypeId,
@@ -134,10 +134,59 @@ impl LayoutTable {
         ensures fault { IfErr result (IsErrorOf (refusal space (touched (typemap_in (typemaps self.old.origins) datatype) count address entries) entries)) }
         ensures same { self.new ≡ self.old }
     {
+        match space {
+            Space::Local => self.place_local(datatype, count, address, entries),
+            Space::Target => self.place_at_target(datatype, count, address, entries),
+        }
+    }
+
+    /// The same, at an address of the caller.
+    #[inline]
+    pub fn place_local(
+        &mut self,
+        datatype: TypeId,
+        count: u32,
+        address: i64,
+        entries: u64,
+    ) -> Result<Layout, LayoutError>
+        requires within { datatype.0 < length self.old.origins }
+        requires low { pos 0 ≤ℤ address }
+        requires high { address ≤ℤ pos address_limit }
+        requires there { entries ≤ count * entry_count (typemap_in (typemaps self.old.origins) datatype) }
+        ensures ok { IfOk result (IsLayoutOf (touched (typemap_in (typemaps self.old.origins) datatype) count address entries)) }
+        ensures taken { OnOk result (refusal Space.Local (touched (typemap_in (typemaps self.old.origins) datatype) count address entries) entries ≡ None) }
+        ensures fault { IfErr result (IsErrorOf (refusal Space.Local (touched (typemap_in (typemaps self.old.origins) datatype) count address entries) entries)) }
+        ensures same { self.new ≡ self.old }
+    {
         let alloc = self.types.allocator();
         match self.known(datatype, count, entries) {
-            Some(known) => known.placed_at(alloc, address, space),
-            None => self.place_anew(datatype, count, address, entries, space),
+            Some(known) => known.placed_at(alloc, address, Space::Local),
+            None => self.place_anew(datatype, count, address, entries, Space::Local),
+        }
+    }
+
+    /// The same, at a displacement from where a target's part begins.
+    #[inline]
+    pub fn place_at_target(
+        &mut self,
+        datatype: TypeId,
+        count: u32,
+        address: i64,
+        entries: u64,
+    ) -> Result<Layout, LayoutError>
+        requires within { datatype.0 < length self.old.origins }
+        requires low { pos 0 ≤ℤ address }
+        requires high { address ≤ℤ pos address_limit }
+        requires there { entries ≤ count * entry_count (typemap_in (typemaps self.old.origins) datatype) }
+        ensures ok { IfOk result (IsLayoutOf (touched (typemap_in (typemaps self.old.origins) datatype) count address entries)) }
+        ensures taken { OnOk result (refusal Space.Target (touched (typemap_in (typemaps self.old.origins) datatype) count address entries) entries ≡ None) }
+        ensures fault { IfErr result (IsErrorOf (refusal Space.Target (touched (typemap_in (typemaps self.old.origins) datatype) count address entries) entries)) }
+        ensures same { self.new ≡ self.old }
+    {
+        let alloc = self.types.allocator();
+        match self.known(datatype, count, entries) {
+            Some(known) => known.placed_at(alloc, address, Space::Target),
+            None => self.place_anew(datatype, count, address, entries, Space::Target),
         }
     }
 
@@ -209,6 +258,7 @@ impl LayoutTable {
             count,
             entries,
             address,
+            ends: ends_of(&same),
             layout: same,
         };
         keep(&mut self.known, known);

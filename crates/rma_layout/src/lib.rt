@@ -9,6 +9,7 @@
 
 mod block;
 mod distance;
+mod ends;
 mod expand;
 mod fault;
 mod frame;

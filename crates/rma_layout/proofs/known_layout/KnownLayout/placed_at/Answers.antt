@@ -11,7 +11,7 @@ moved-requires c =
     let d : ℤ = c.args.address -ℤ own in
     let own_fits : SFits w64 own = omega (arith, ints, c.requires.own_low, c.requires.own_high) in
     let fits : SFits w64 d = omega (arith, ints, c.requires.low, c.requires.high, c.requires.own_low, c.requires.own_high) in
-    let lie = rw (to_z-of_z w64 own own_fits, to_z-of_z w64 c.args.address c.ranges.address, to_z-of_z w64 d fits) at c.if-not-lie_in.ensures.0 refl in
+    let lie = rw (to_z-of_z w64 own own_fits, to_z-of_z w64 c.args.address c.ranges.address, to_z-of_z w64 d fits) at c.if-not-lies_in.ensures.0 refl in
     rw (to_z-of_z w64 own own_fits, to_z-of_z w64 c.args.address c.ranges.address, to_z-of_z w64 d fits) (may_be_moved c.args.space d c.args.self.now.layout.runs lie)
 
 pub returns-in-Ok-clause-within : goal.returns-in-Ok-clause-within
@@ -20,4 +20,4 @@ returns-in-Ok-clause-within c =
     let d : ℤ = c.args.address -ℤ own in
     let own_fits : SFits w64 own = omega (arith, ints, c.requires.own_low, c.requires.own_high) in
     let fits : SFits w64 d = omega (arith, ints, c.requires.low, c.requires.high, c.requires.own_low, c.requires.own_high) in
-    rw (to_z-of_z w64 own own_fits, to_z-of_z w64 c.args.address c.ranges.address, to_z-of_z w64 d fits) at c.if-not-lie_in.ensures.0 refl
+    rw (to_z-of_z w64 own own_fits, to_z-of_z w64 c.args.address c.ranges.address, to_z-of_z w64 d fits) at c.if-not-lies_in.ensures.0 refl
