@@ -9,7 +9,7 @@ use Rattle.rma_buffer.proofs.Words.{Basic, is_same}
 
 -- ---- words
 
-same_words : (v w : List ℕ) → pointwise nat_eq v w ≡ true → v ≡ w
+pub same_words : (v w : List ℕ) → pointwise nat_eq v w ≡ true → v ≡ w
 same_words [] [] h = refl
 same_words [] (b ∷ w) h = absurd (false≢true h)
 same_words (a ∷ v) [] h = absurd (false≢true h)

@@ -9,4 +9,5 @@ pub mod ReasonLemmas
 pub mod EnoughLemmas
 pub mod CallLemmas
 pub mod FaultLemmas
+pub mod PlacedLemmas
 pub mod OverlapLemmas

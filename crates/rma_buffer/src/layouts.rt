@@ -1,5 +1,5 @@
 //! The buffers of a call, laid out.
-ghost use Rattle.std.specs.Prelude.{◌≡◌, ◌≤◌, length, IfOk, IfErr, OnOk, None, IfSome};
+ghost use Rattle.std.specs.Prelude.{◌≡◌, ◌≤◌, length, IfOk, IfErr, OnOk, None, IfSome, option_map, Ok};
 ghost use Rattle.std.specs.Option.{option_and_then};
 ghost use Rattle.rma_base.specs.Limits.{element_limit};
 ghost use Rattle.rma_base.specs.declared.form_reason.FormReason.TheVariants as FormReason;
@@ -11,12 +11,12 @@ ghost use Rattle.rma_buffer.specs.inside.Placed.{ArePlaced};
 
 use crate::fault::{BufferError, layout_reason};
 use crate::operand::{Operand, Operands};
-use crate::placed::{Placed, placed};
+use crate::placed::{Placed, place_at_target, place_local, placed};
 use crate::rule::uses_origin;
 use rma_base::{FormReason, Memory};
 use rma_bytes::Layout;
 use rma_call::RmaKind;
-use rma_layout::{LayoutFault, LayoutTable, Space};
+use rma_layout::{LayoutError, LayoutFault, LayoutTable, Space};
 
 /// The layouts of the buffers of a call.
 #[derive(Debug, Drop)]
@@ -46,14 +46,98 @@ pub(crate) fn lay_out(
     ensures fault { IfErr result (IsErrorOf (bytes_reason (typemaps table.old.origins) kind touched operands.now)) }
     ensures same { table.new ≡ table.old }
 {
-    let layouts = laid_out(table, kind, operands, touched)?;
+    let layouts = layouts_or_reason(table, kind, operands, touched)?;
     if overlap(kind, &layouts) {
         return Err(BufferError::Fault(FormReason::OverlappingType));
     }
     Ok(layouts)
 }
 
-// The layouts, or the first refusal in the order of the reasons.
+// The layouts, or the first refusal in the order of the reasons. Mostly there is none, and all buffers need not be asked for it.
+fn layouts_or_reason(
+    table: &mut LayoutTable,
+    kind: RmaKind,
+    operands: &Operands,
+    touched: u64,
+) -> Result<Layouts, BufferError>
+    requires within { AreOf (length table.old.origins) operands.now }
+    requires few { touched ≤ element_limit }
+    requires there { HaveEnough (typemaps table.old.origins) kind touched operands.now }
+    ensures ok { IfOk result (λ layouts. layouts ≡ layouts_in (typemaps table.old.origins) kind touched operands.now) }
+    ensures taken { OnOk result (space_reason (typemaps table.old.origins) kind touched operands.now ≡ None) }
+    ensures fault { IfErr result (IsErrorOf (space_reason (typemaps table.old.origins) kind touched operands.now)) }
+    ensures same { table.new ≡ table.old }
+{
+    match all_layouts(table, kind, operands, touched) {
+        Ok(layouts) => Ok(layouts),
+        Err(LayoutError::Fault(_)) => laid_out(table, kind, operands, touched),
+        Err(LayoutError::Memory) => Err(BufferError::Memory),
+    }
+}
+
+// The layouts, where no buffer is refused.
+fn all_layouts(
+    table: &mut LayoutTable,
+    kind: RmaKind,
+    operands: &Operands,
+    touched: u64,
+) -> Result<Layouts, LayoutError>
+    requires within { AreOf (length table.old.origins) operands.now }
+    requires few { touched ≤ element_limit }
+    requires there { HaveEnough (typemaps table.old.origins) kind touched operands.now }
+    ensures ok { IfOk result (λ layouts. layouts ≡ layouts_in (typemaps table.old.origins) kind touched operands.now) }
+    ensures taken { OnOk result (space_reason (typemaps table.old.origins) kind touched operands.now ≡ None) }
+    ensures same { table.new ≡ table.old }
+{
+    let target = place_at_target(table, &operands.target, touched)?;
+    let origin = place_origin(table, kind, operands, touched)?;
+    let result = place_if(table, operands.result, touched)?;
+    let compare = place_if(table, operands.compare, touched)?;
+    Ok(Layouts {
+        target,
+        origin,
+        result,
+        compare,
+    })
+}
+
+// The layout of the first elements of the origin, if it is touched.
+fn place_origin(
+    table: &mut LayoutTable,
+    kind: RmaKind,
+    operands: &Operands,
+    touched: u64,
+) -> Result<Option<Layout>, LayoutError>
+    requires within { AreOf (length table.old.origins) operands.now }
+    requires few { touched ≤ element_limit }
+    requires there { HaveEnough (typemaps table.old.origins) kind touched operands.now }
+    ensures placed { IfOk result (λ layout. ArePlaced (typemaps table.old.origins) touched (touched_origin kind operands.now) (option_map Ok layout)) }
+    ensures same { table.new ≡ table.old }
+{
+    if !uses_origin(kind) {
+        return Ok(None);
+    }
+    Ok(Some(place_local(table, &operands.origin, touched)?))
+}
+
+// The layout of the first elements of a buffer of the caller, if there is one.
+fn place_if(
+    table: &mut LayoutTable,
+    operand: Option<Operand>,
+    touched: u64,
+) -> Result<Option<Layout>, LayoutError>
+    requires within { IfSome operand (IsOf (length table.old.origins)) }
+    requires there { IfSome operand (HasEnough (typemaps table.old.origins) touched) }
+    ensures placed { IfOk result (λ layout. ArePlaced (typemaps table.old.origins) touched operand (option_map Ok layout)) }
+    ensures same { table.new ≡ table.old }
+{
+    match operand {
+        Some(operand) => Ok(Some(place_local(table, &operand, touched)?)),
+        None => Ok(None),
+    }
+}
+
+// The layouts, or the first refusal in the order of the reasons: each buffer is asked, since a later one may be refused first.
 fn laid_out(
     table: &mut LayoutTable,
     kind: RmaKind,

@@ -6,11 +6,10 @@ ghost use Rattle.rma_buffer.specs.Rules.{IsErrorOf, memory_reason};
 
 use crate::fault::{BufferError, layout_reason};
 use crate::operand::Operand;
-use crate::placed::placed;
+use crate::placed::place_local;
 use crate::rule::entries;
-use rma_base::Memory;
 use rma_call::{LocalAccess, LocalCall};
-use rma_layout::{LayoutTable, Space};
+use rma_layout::{LayoutError, LayoutTable};
 
 /// The local access of a line that does this with this memory.
 ///
@@ -29,9 +28,9 @@ pub fn local_call(
     ensures same { table.new ≡ table.old }
 {
     let touched = entries(table.types(), memory);
-    match placed(table, memory, touched, Space::Local) {
-        Ok(Ok(layout)) => Ok(LocalCall { access, layout }),
-        Ok(Err(fault)) => Err(BufferError::Fault(layout_reason(fault))),
-        Err(Memory) => Err(BufferError::Memory),
+    match place_local(table, memory, touched) {
+        Ok(layout) => Ok(LocalCall { access, layout }),
+        Err(LayoutError::Fault(fault)) => Err(BufferError::Fault(layout_reason(fault))),
+        Err(LayoutError::Memory) => Err(BufferError::Memory),
     }
 }

@@ -1,6 +1,7 @@
 //! The buffers of a line, with their datatypes.
-ghost use Rattle.std.specs.Prelude.{◌≡◌, length, min, option_map, IfSome, Some, None};
+ghost use Rattle.std.specs.Prelude.{◌≡◌, ◌<◌, length, min, option_map, IfSome, Some, None};
 ghost use Rattle.rma_base.specs.Limits.{address_limit};
+ghost use Rattle.rma_type.specs.Names.{id_of};
 ghost use Rattle.rma_buffer.specs.Operands.{AreOf, IsOf, kind_of, operand_at, operand_of, operands_in, operands_of, element_at, target_of};
 
 use rma_base::Name;
@@ -14,10 +15,10 @@ use rma_type::{TypeId, TypeTable};
 pub struct Operand {
     /// The datatype of its elements.
     pub datatype: TypeId,
-    /// Its address, at most the end of the space.
-    pub address: u64,
     /// How many elements of the datatype it has.
     pub count: u32,
+    /// Its address, at most the end of the space.
+    pub address: u64,
 }
 
 /// The buffers of a call.
@@ -60,9 +61,9 @@ impl Operands {
         ensures within { IfSome result (AreOf (length types.now.origins)) }
     {
         match access {
-            Access::Put(transfer) => moving(types, transfer),
-            Access::Get(transfer) => moving(types, transfer),
-            Access::Accumulate { transfer, .. } => moving(types, transfer),
+            Access::Put(transfer) | Access::Get(transfer) | Access::Accumulate { transfer, .. } => {
+                moving(types, transfer)
+            }
             Access::GetAccumulate {
                 transfer,
                 result,
@@ -106,8 +107,49 @@ fn operand_at(types: &TypeTable, address: u64, count: u32, datatype: &Name) -> O
     match types.find(datatype) {
         Some(id) => Some(Operand {
             datatype: id,
-            address: address.min(SPACE),
             count,
+            address: address.min(SPACE),
+        }),
+        None => None,
+    }
+}
+
+/// The datatype of a live name, where that of another name is known. Mostly all buffers of a call have one name.
+fn find_beside(types: &TypeTable, name: &Name, other: &Name, known: TypeId) -> Option<TypeId>
+    requires other { id_of types.now.live other.now ≡ Some known }
+    requires within { known.0 < length types.now.origins }
+    ensures is { result ≡ id_of types.now.live name.now }
+    ensures within { IfSome result (λ id. id.0 < length types.now.origins) }
+{
+    if name == other {
+        Some(known)
+    } else {
+        types.find(name)
+    }
+}
+
+/// A buffer of a transfer, where the name of its datatype is live, and that at the target is known.
+fn operand_beside(
+    types: &TypeTable,
+    buffer: &Buffer,
+    transfer: &Transfer,
+    target: &Operand,
+) -> Option<Operand>
+    requires target { id_of types.now.live transfer.now.target_type ≡ Some target.now.datatype }
+    requires within { target.now.datatype.0 < length types.now.origins }
+    ensures is { result ≡ operand_of types.now.live buffer.now }
+    ensures within { IfSome result (IsOf (length types.now.origins)) }
+{
+    match find_beside(
+        types,
+        &buffer.datatype,
+        &transfer.target_type,
+        target.datatype,
+    ) {
+        Some(datatype) => Some(Operand {
+            datatype,
+            count: buffer.count,
+            address: buffer.address.min(SPACE),
         }),
         None => None,
     }
@@ -119,7 +161,7 @@ fn moving(types: &TypeTable, transfer: &Transfer) -> Option<Operands>
     ensures within { IfSome result (AreOf (length types.now.origins)) }
 {
     let target = operand_at(types, 0, transfer.target_count, &transfer.target_type)?;
-    let origin = Operand::of(types, &transfer.origin)?;
+    let origin = operand_beside(types, &transfer.origin, transfer, &target)?;
     Some(Operands {
         target,
         origin,
@@ -133,11 +175,14 @@ fn fetching(types: &TypeTable, transfer: &Transfer, into: &Buffer) -> Option<Ope
     ensures is { result ≡ operands_in types.now.live (record { target = target_of transfer.now; origin = transfer.now.origin; result = Some into.now; compare = None }) }
     ensures within { IfSome result (AreOf (length types.now.origins)) }
 {
-    let operands = moving(types, transfer)?;
-    let result = Operand::of(types, into)?;
+    let target = operand_at(types, 0, transfer.target_count, &transfer.target_type)?;
+    let origin = operand_beside(types, &transfer.origin, transfer, &target)?;
+    let result = operand_beside(types, into, transfer, &target)?;
     Some(Operands {
+        target,
+        origin,
         result: Some(result),
-        ..operands
+        compare: None,
     })
 }
 

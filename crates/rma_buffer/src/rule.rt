@@ -62,9 +62,7 @@ pub(crate) fn entries(types: &TypeTable, operand: &Operand) -> u64
     requires { IsOf (length types.now.origins) operand.now }
     ensures { result ≡ entries_in (typemaps types.now.origins) operand.now }
 {
-    // The signature has as many, which are few, so the product fits.
-    let _signature = types.signature(operand.datatype);
-    u64::from(operand.count) * types.made(operand.datatype).entries
+    u64::from(operand.count) * types.entries(operand.datatype)
 }
 
 /// How many elements are touched in each buffer of a call with a target.
@@ -199,6 +197,9 @@ fn fits(types: &TypeTable, part: &Operand, whole: &Operand) -> bool
     requires few { entries_in (typemaps types.now.origins) part.now ≤ element_limit }
     ensures { result ≡ begins_with (signature_of (typemaps types.now.origins) whole.now) (signature_of (typemaps types.now.origins) part.now) }
 {
+    if part.datatype == whole.datatype && part.count <= whole.count {
+        return true;
+    }
     types.fits(part.datatype, part.count, whole.datatype, whole.count)
 }
 
