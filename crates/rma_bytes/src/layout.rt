@@ -77,6 +77,14 @@ impl Layout {
         boxed(alloc, runs, element, overlaps)
     }
 
+    /// The layout of entries of a basic datatype side by side, which takes no memory.
+    pub fn side_by_side(element: Basic, count: u32, start: i64) -> Layout
+        requires { IsCanonical (record { start = start; len = count * basic_size element } ∷ []) }
+        ensures { result ≡ record { runs = record { start = start; len = count * basic_size element } ∷ []; element = Some element; overlaps = false } }
+    {
+        side_by_side(element, count, start)
+    }
+
     /// The layout with each byte moved by a distance, which must leave the bytes within the bounds.
     pub fn moved(&self, alloc: Global, by: i64) -> Result<Layout, Memory>
         requires { (b : ℤ) → HasByte self.now.runs b → IsWithinBounds (b +ℤ by) }
