@@ -1,9 +1,9 @@
 //! Tables of datatypes under names.
-ghost use Rattle.std.specs.Prelude.{◌≡◌, ◌≢◌, ◌+◌, ◌-◌, ◌^◌, ◌<◌, ◌≤◌, ◌↔◌, length, Some, None, IfOk, OnOk, OnErr, IfErr, IsErrOf, IsTrue, slice_get, slice_index_or, slice_set, option_copied, true, false, is_some, nat_eq, option_map, IfSome, ◌++◌, ◌∷◌, [], ◌⊎◌};
+ghost use Rattle.std.specs.Prelude.{◌≡◌, ◌≢◌, ◌+◌, ◌-◌, ◌^◌, ◌<◌, ◌≤◌, ◌↔◌, length, Some, None, IfOk, OnOk, OnErr, IfErr, IsErrOf, IsTrue, slice_get, slice_index_or, slice_set, option_copied, true, false, is_some, not, nat_eq, option_map, IfSome, ◌++◌, ◌∷◌, [], ◌⊎◌};
 ghost use Rattle.std.specs.Cmp.Lexicographic.{pointwise};
 ghost use Rattle.rma_base.specs.Limits.{element_limit, address_limit};
 ghost use Rattle.rma_type.specs.Names.{id_of, all_live, old_types_of, member_names, old_names};
-ghost use Rattle.rma_type.specs.Table.{typemaps, typemap_in, constructor_of, old_types_in, HasOld, names_derived, typemap_of};
+ghost use Rattle.rma_type.specs.Table.{typemaps, typemap_in, constructor_of, old_types_in, HasOld, names_derived, is_derived, typemap_of};
 ghost use Rattle.rma_type.specs.Change.{IsCommitted, IsFreed};
 ghost use Rattle.rma_type.specs.inside.Added.{IsAdded};
 ghost use Rattle.rma_type.specs.declared.origin.Origin.TheVariants.{Derived};
@@ -197,6 +197,18 @@ impl TypeTable {
         ensures few { result ≤ element_limit }
     {
         self.summary(id).entries
+    }
+
+    /// The basic datatype that the datatype is, if it is one.
+    pub fn basic(&self, id: TypeId) -> Option<Basic>
+        requires { id.0 < length self.now.origins }
+        ensures is { IfSome result (λ basic. slice_get self.now.origins id.0 ≡ Some (Origin.Basic basic)) }
+        ensures derived { is_some result ≡ not (is_derived (slice_get self.now.origins id.0)) }
+    {
+        match &self.types[id.0 as usize].origin {
+            Origin::Basic(basic) => Some(*basic),
+            Origin::Derived { .. } => None,
+        }
     }
 
     /// The elements of the datatype in order, as blocks.
