@@ -14,5 +14,6 @@ pub mod SignatureLemmas
 pub mod CommonLemmas
 pub mod TouchedLemmas
 pub mod PlaceLemmas
+pub mod BasicLemmas
 pub mod MovedLemmas
 pub mod KnownLemmas

@@ -12,6 +12,7 @@ ghost use Rattle.rma_layout.specs.Layout.{IsLayoutOf};
 ghost use Rattle.rma_layout.specs.Refusal.{refusal, IsErrorOf};
 ghost use Rattle.rma_layout.specs.inside.Known.{AreKnown, IsKnown};
 
+use crate::basic::side_by_side;
 use crate::ends::ends_of;
 use crate::fault::LayoutError;
 use crate::known_layout::KnownLayout;
@@ -158,6 +159,9 @@ impl LayoutTable {
         ensures fault { IfErr result (IsErrorOf (refusal Space.Local (touched (typemap_in (typemaps self.old.origins) datatype) count address entries) entries)) }
         ensures same { self.new ≡ self.old }
     {
+        if let Some(layout) = side_by_side(&self.types, datatype, count, address, entries) {
+            return Ok(layout);
+        }
         let alloc = self.types.allocator();
         match self.known(datatype, count, entries) {
             Some(known) => known.placed_at(alloc, address, Space::Local),
@@ -183,6 +187,9 @@ impl LayoutTable {
         ensures fault { IfErr result (IsErrorOf (refusal Space.Target (touched (typemap_in (typemaps self.old.origins) datatype) count address entries) entries)) }
         ensures same { self.new ≡ self.old }
     {
+        if let Some(layout) = side_by_side(&self.types, datatype, count, address, entries) {
+            return Ok(layout);
+        }
         let alloc = self.types.allocator();
         match self.known(datatype, count, entries) {
             Some(known) => known.placed_at(alloc, address, Space::Target),

@@ -7,6 +7,7 @@
 //! datatype costs as much as it has blocks.
 #![tactic(auto)]
 
+mod basic;
 mod block;
 mod distance;
 mod ends;
