@@ -5,6 +5,7 @@ pub mod KnownLemmas
 pub mod ListLemmas
 pub mod LiveLemmas
 pub mod MatchLemmas
+pub mod MatchedLemmas
 pub mod NoMessageLemmas
 pub mod NumberLemmas
 pub mod NumberedLemmas

@@ -9,10 +9,9 @@ use Rattle.rma_base.specs.declared.match_reason.MatchReason.{MatchReason}
 use Rattle.rma_call.specs.declared.match_fault.MatchFault.{MatchFault}
 use Rattle.rma_link.specs.declared.edge.Edge.{Edge}
 use Rattle.rma_message.specs.declared.end.End.{End}
-use Rattle.rma_message.specs.declared.messages.Messages.{Messages}
 use Rattle.rma_message.specs.Key.{has_key}
 use Rattle.rma_message.specs.Matching.{IsUnmatched, edge_between, edge_of, fault_of, partner, unmatched, walked}
-use Rattle.rma_message.specs.Messages.{IsMessageEdge, edges_in}
+use Rattle.rma_message.specs.Messages.{IsMessageEdge, Messages, edges_in}
 use Rattle.rma_message.proofs.MatchLemmas.{same_key_refl, same_key_true}
 
 -- ---- what a walk has

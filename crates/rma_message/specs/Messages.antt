@@ -8,10 +8,15 @@ use Rattle.rma_link.specs.declared.edge.Edge.{Edge}
 use Rattle.rma_message.specs.declared.key.Key.{Key}
 use Rattle.rma_message.specs.declared.end.End.{End}
 use Rattle.rma_message.specs.Key.{has_key}
-use Rattle.rma_message.specs.declared.messages.Messages.{Messages}
 use Rattle.rma_message.specs.Receive.{end_of}
 use Rattle.rma_message.specs.RankMessages.{RankMessages, messages_by}
 use Rattle.rma_message.specs.Matching.{IsNumbered, edge_between, edges_of, unmatched}
+
+-- the ends of the messages of a run: the sends, by rank and then in their order, and the receives that are complete, by rank and
+-- then in the order in which they are posted
+pub record Messages : Type 0 where
+  pub sends : List End
+  pub receives : List End
 
 -- the receives of a rank that are complete, in the order in which they are posted
 abbrev pub receives_in : RankMessages → List End

@@ -1,3 +1,4 @@
 pub mod Open
 pub mod Queue
 pub mod Live
+pub mod Matched

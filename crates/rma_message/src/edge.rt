@@ -29,8 +29,18 @@ pub(crate) fn push_edges(
     Ok(())
 }
 
+/// Appends these edges.
+pub(crate) fn push_all(edges: &[Edge], links: &mut Links) -> Result<(), Memory>
+    ensures { OnOk result (links.new ≡ record links.old { edges = links.old.edges ++ edges.now }) }
+{
+    for edge in edges {
+        links.push_edge(*edge)?;
+    }
+    Ok(())
+}
+
 /// The edge from the send of this number to the receive.
-fn edge(send: u32, receive: &End) -> Edge
+pub(crate) fn edge(send: u32, receive: &End) -> Edge
     requires send { send < fed_limit }
     requires receive { receive.now.call < fed_limit }
     ensures { result ≡ edge_between send receive.now }

@@ -9,12 +9,11 @@ ghost use Rattle.rma_link.specs.declared.edge.Edge.{Edge};
 ghost use Rattle.rma_link.specs.Point.{return_of};
 ghost use Rattle.rma_link.specs.Within.{IsEdgeWithin};
 ghost use Rattle.rma_run.specs.Run.{AreInOrder, calls_of, lens_of, with_calls};
-ghost use Rattle.rma_message.specs.declared.messages.Messages.{Messages};
 ghost use Rattle.rma_message.specs.declared.end.End.{End};
 ghost use Rattle.rma_message.specs.declared.source.MessageSource.TheVariants.{From};
 ghost use Rattle.rma_message.specs.RankMessages.{messages_by};
 ghost use Rattle.rma_message.specs.Matching.{IsUnmatched, unmatched};
-ghost use Rattle.rma_message.specs.Messages.{IsMessageEdge, edges_in, message_edges};
+ghost use Rattle.rma_message.specs.Messages.{IsMessageEdge, Messages, edges_in, message_edges};
 ghost use Rattle.rma_message.specs.Source.{is_complete, source_of};
 
 /// The ends that have no match are those of whose key the others have none of the same number.

@@ -19,6 +19,7 @@ mod fault;
 mod key;
 pub mod laws;
 mod live;
+mod matched;
 mod messages;
 mod queue;
 mod rank_messages;

@@ -3,8 +3,7 @@ use Rattle.rma_call.specs.Call.{RankCalls}
 use Rattle.rma_link.specs.declared.edge.Edge.{Edge}
 use Rattle.rma_link.specs.declared.meet.Meet.{Meet}
 use Rattle.rma_link.specs.declared.links.Links.{Links}
-use Rattle.rma_message.specs.declared.messages.Messages.{Messages}
-use Rattle.rma_message.specs.Messages.{edges_in, messages_of}
+use Rattle.rma_message.specs.Messages.{Messages, edges_in, messages_of}
 use Rattle.rma_exposure.specs.Edge.{exposure_edges}
 use Rattle.rma_round.specs.Edge.{round_edges}
 use Rattle.rma_round.specs.Meet.{HasMeets, round_meets}
