@@ -8,7 +8,10 @@ use Rattle.std.proofs.lemmas.List.Folds.{flat_map-map}
 use Rattle.std.proofs.lemmas.Option.{slice_get_within}
 use Rattle.rma_call.specs.Call.{Call}
 use Rattle.rma_run.specs.Run.{by_number}
+use Rattle.rma_base.specs.declared.rank.Rank.{Rank}
 use Rattle.rma_exposure.specs.declared.side.Side.{Side}
+use Rattle.rma_exposure.specs.declared.side.Side.TheVariants.{Exposure}
+use Rattle.rma_exposure.specs.Edge.{edges_at, edges_to}
 use Rattle.rma_exposure.specs.Opening.{Opening, opened, opening_at}
 use Rattle.rma_exposure.specs.inside.Epochs.{number_of_opener, openers}
 
@@ -45,3 +48,11 @@ opening_within side calls number opening is = by (slice_get calls number) refl
     by : (o : Option Call) → slice_get calls number ≡ o → number < length calls
     by None at = let no : Some opening ≡ None = is ∙ ap (option_and_then (λ (call : Call). opened side call.what)) at in absurd (cc)
     by (Some call) at = slice_get_within calls number call at
+
+-- the edges to the expwait of an opening that is kept are those of its call
+pub edges_had : (calls : ℕ → List Call) (rank : Rank) (own : List Call) (number : ℕ) (opening : Opening) → opening_at Exposure own number ≡ Some opening → had_at (edges_at calls rank) own number ≡ edges_to calls rank number opening
+edges_had calls rank own number opening = by (slice_get own number)
+  where
+    by : (o : Option Call) → option_and_then (λ (call : Call). opened Exposure call.what) o ≡ Some opening → option_map_or (edges_at calls rank number) o [] ≡ edges_to calls rank number opening
+    by None is = absurd (cc)
+    by (Some call) is = rw is refl

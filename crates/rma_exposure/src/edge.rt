@@ -1,17 +1,18 @@
 //! What completes order before the returns of expwaits.
 ghost use Rattle.std.specs.Prelude.{◌≡◌, ◌<◌, ◌^◌, ◌++◌, [], IfSome, OnOk};
 ghost use Rattle.std.specs.List.{cons_option};
-ghost use Rattle.rma_call.specs.Call.{call_of};
 ghost use Rattle.rma_link.specs.Point.{return_of};
 ghost use Rattle.rma_run.specs.Run.{IsRun, calls_of, by_number};
 ghost use Rattle.rma_exposure.specs.Closing.{closing_of};
 ghost use Rattle.rma_exposure.specs.Edge.{edge_from, edges_to, edges_at, exposure_edges};
-ghost use Rattle.rma_exposure.specs.inside.Epochs.{kept_of, IsOfRank, Represents};
+ghost use Rattle.rma_exposure.specs.declared.side.Side.TheVariants.{Exposure};
+ghost use Rattle.rma_exposure.specs.inside.Epochs.{kept_of, stated, IsOfRank, Represents};
 
 use crate::exposures::Exposures;
-use crate::side::{Side, opened};
-use rma_base::{Memory, Name, Point, Rank, RankSet};
-use rma_call::{CallRef, RankCalls};
+use crate::opened::Opened;
+use crate::side::Side;
+use rma_base::{Memory, Name, Point, Rank};
+use rma_call::RankCalls;
 use rma_link::{Edge, Links, Member};
 
 impl Exposures {
@@ -49,31 +50,10 @@ impl Exposures {
         let Some(epochs) = self.ranks.get(&rank.rank()) else {
             return Ok(());
         };
-        for (number, _) in epochs.of(Side::Exposure).openers.iter() {
-            let call = rank.calls().get(*number as usize);
-            self.push_edges_at(ranks, rank.rank(), *number, call, links)?;
+        for (number, epoch) in epochs.of(Side::Exposure).openers.iter() {
+            self.push_edges_to(ranks, rank.rank(), *number, epoch, links)?;
         }
         Ok(())
-    }
-
-    /// Appends the edges to the expwait of a call, if it is a post.
-    fn push_edges_at(
-        &self,
-        ranks: &[RankCalls],
-        rank: Rank,
-        number: u32,
-        call: CallRef<'_>,
-        links: &mut Links,
-    ) -> Result<(), Memory>
-        requires run { IsRun ranks.now }
-        requires represents { Represents (calls_of ranks.now) self.now }
-        ensures edges { OnOk result (links.new.edges ≡ links.old.edges ++ edges_at (calls_of ranks.now) rank number (call_of call.entry)) }
-        ensures meets { OnOk result (links.new.meets ≡ links.old.meets) }
-    {
-        match opened(Side::Exposure, call.what) {
-            Some((window, group)) => self.push_edges_to(ranks, rank, number, window, group, links),
-            None => Ok(()),
-        }
     }
 
     /// Appends the edges to the expwait of a post, if it has one.
@@ -82,20 +62,21 @@ impl Exposures {
         ranks: &[RankCalls],
         rank: Rank,
         post: u32,
-        window: &Name,
-        group: &RankSet,
+        epoch: &Opened,
         links: &mut Links,
     ) -> Result<(), Memory>
         requires run { IsRun ranks.now }
         requires represents { Represents (calls_of ranks.now) self.now }
-        ensures edges { OnOk result (links.new.edges ≡ links.old.edges ++ edges_to (calls_of ranks.now) rank post (record { window = window.now; group = group.now })) }
+        requires closing { epoch.now.close ≡ closing_of Exposure (calls_of ranks.now rank.0) post }
+        requires below { IfSome epoch.now.close (λ closing. closing < 2 ^ 31) }
+        ensures edges { OnOk result (links.new.edges ≡ links.old.edges ++ edges_to (calls_of ranks.now) rank post (stated epoch.now)) }
         ensures meets { OnOk result (links.new.meets ≡ links.old.meets) }
     {
-        let Some(expwait) = self.closing_in(ranks, Side::Exposure, rank, post) else {
+        let Some(expwait) = epoch.close else {
             return Ok(());
         };
-        for origin in group.numbers() {
-            let edge = self.edge_from(ranks, rank, post, window, expwait, Rank(*origin));
+        for origin in epoch.group.numbers() {
+            let edge = self.edge_from(ranks, rank, post, &epoch.window, expwait, Rank(*origin));
             push_some(links, edge)?;
         }
         Ok(())

@@ -11,7 +11,7 @@ pub loop-origin-preserved : goal.loop-origin-preserved
 loop-origin-preserved c =
     let origins = c.numbers-origin-items.result.now in
     let i = c.loop-origin.origin-index in
-    let edge : ℕ → Option Edge = edge_from (calls_of c.args.ranks.now) c.args.rank c.args.post c.args.window.now c.in-Some.expwait in
+    let edge : ℕ → Option Edge = edge_from (calls_of c.args.ranks.now) c.args.rank c.args.post c.args.epoch.now.window c.in-Some.expwait in
     let origin = get_or origins i 0 in
     record {
       edges = c.in_ok-push_some.ensures.edges
