@@ -1,6 +1,8 @@
 pub mod GroupLemmas
 pub mod CallLemmas
 pub mod EpochLemmas
+pub mod PlaceLemmas
+pub mod KnownLemmas
 pub mod PositionLemmas
 pub mod RunLemmas
 pub mod WalkLemmas

@@ -181,10 +181,11 @@ fn take(
     ensures others { OnOk result ((other : Rank) → (rank.0 == other.0) ≡ false → kept_of ranks.new.entries other.0 ≡ kept_of ranks.old.entries other.0) }
 {
     if let Some(epochs) = ranks.get_mut(&rank) {
-        return epochs.take(alloc, number, call.what);
+        epochs.take(alloc, None, number, call.what)?;
+        return Ok(());
     }
     let mut epochs = RankEpochs::new(alloc);
-    epochs.take(alloc, number, call.what)?;
+    epochs.take(alloc, None, number, call.what)?;
     ranks.insert(rank, epochs)?;
     Ok(())
 }

@@ -1,12 +1,11 @@
-use Rattle.std.proofs.Common.{◌≡◌, ℕ, List, ◌++◌, [], Some, None, slice_get, append-nil, append_assoc, refl, sym, ap, ◌∙◌}
+use Rattle.std.proofs.Common.{◌≡◌, ℕ, List, ◌++◌, [], None, append-nil, append_assoc, refl, sym, ap, ◌∙◌}
 use Rattle.std.specs.Prelude.{option_map}
 use Rattle.std.specs.List.{flat_map}
-use Rattle.std.specs.Option.{option_map_or}
 use Rattle.std.specs.Map.Iter.{deref_pair}
 use Rattle.std.proofs.lemmas.Cmp.{nat_eq_equiv}
 use Rattle.std.proofs.lemmas.Map.Iter.{rest_more, rest_all, hash_map_turn}
 use Rattle.rma_base.specs.declared.rank.Rank.{Rank}
-use Rattle.rma_call.specs.Call.{Call, call_of}
+use Rattle.rma_call.specs.Call.{Call}
 use Rattle.rma_link.specs.declared.edge.Edge.{Edge}
 use Rattle.rma_run.specs.Run.{calls_of}
 use Rattle.rma_run.proofs.CallLemmas.{calls_are_few}

@@ -1,21 +1,29 @@
-use Rattle.std.proofs.Common.{[], take, sym, subst, ◌∙◌, arith}
+use Rattle.std.proofs.Common.{[], subst, ◌∙◌, arith}
 use Rattle.std.proofs.lemmas.List.{take_all}
-use Rattle.rma_call.specs.Call.{what_of}
-use Rattle.rma_run.proofs.WalkLemmas.{taken_there, taken_length}
 use Rattle.rma_exposure.specs.inside.Epochs.{AreOfRank}
 use Rattle.rma_exposure.proofs.EpochLemmas.{no_calls_have_no_epochs}
-use Rattle.rma_exposure.proofs.RunLemmas.{call_of_what}
+use Rattle.rma_exposure.proofs.KnownLemmas.{none_known}
 use Rattle.rma_exposure.proofs.rank_epochs.RankEpochs.of_calls.Goals as goal
 
 pub loop-i-init : goal.loop-i-init
-loop-i-init c = c.new-epochs.ensures [] no_calls_have_no_epochs
+loop-i-init c = record {
+  taken = c.new-epochs.ensures [] no_calls_have_no_epochs;
+  each = c.in_ok-places.ensures.len ∙ c.whats.ensures.count;
+  known = none_known c.new-epochs.result c.args.calls.now.whats c.in_ok-places.places.items c.in_ok-places.ensures.none;
+}
+
+pub take_next-requires-clause-each : goal.take_next-requires-clause-each
+take_next-requires-clause-each c = c.loop-i.invariant.each
+
+pub take_next-requires-clause-known : goal.take_next-requires-clause-known
+take_next-requires-clause-known c = c.loop-i.invariant.known
 
 pub loop-i-preserved : goal.loop-i-preserved
-loop-i-preserved c =
-    let own = c.args.calls.now.calls in
-    let i = c.loop-i.i in
-    let (call, there, same) = call_of_what _ (what_of c.what.result) (sym c.what.ensures ∙ c.what_number.ensures.what) in
-    subst (λ l. AreOfRank l c.take.new.self) (sym (taken_there own i call there)) (c.in_ok-take.ensures (take i own) call (taken_length own i call there) same c.loop-i.invariant)
+loop-i-preserved c = record {
+  taken = c.in_ok-take_next.ensures.epochs c.loop-i.invariant.taken;
+  each = c.in_ok-take_next.ensures.each;
+  known = c.in_ok-take_next.ensures.known;
+}
 
 pub returns : goal.returns
-returns c = subst (λ l. AreOfRank l c.loop-i.epochs) (take_all c.loop-i.i c.args.calls.now.calls (omega arith)) c.loop-i.invariant
+returns c = subst (λ l. AreOfRank l c.loop-i.epochs) (take_all c.loop-i.i c.args.calls.now.calls (omega arith)) c.loop-i.invariant.taken
