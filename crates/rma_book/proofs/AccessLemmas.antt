@@ -1,15 +1,18 @@
 -- Events that speak of datatypes, or access memory, judged from what a book keeps.
-use Rattle.std.proofs.Common.{◌≡◌, ℕ, Bool, true, false, List, [], ◌∷◌, Option, Some, None, cond, refl, sym, ap, subst, ◌∙◌, arith}
-use Rattle.std.specs.Option.{option_or}
+use Rattle.std.proofs.Common.{◌≡◌, ℕ, Bool, true, false, List, [], ◌∷◌, Option, Some, None, is_some, option_map, not, cond, refl, sym, ap, subst, ◌∙◌, arith}
+use Rattle.std.specs.Map.{lookup}
+use Rattle.std.specs.Option.{option_map_or, option_or}
 use Rattle.rma_base.specs.declared.form_reason.FormReason.{FormReason}
-use Rattle.rma_base.specs.declared.form_reason.FormReason.TheVariants.{UnknownComm, UnknownWindow, UnknownRequest, UnknownType, NameInUse}
+use Rattle.rma_base.specs.declared.rank.Rank.{Rank}
+use Rattle.rma_base.specs.declared.form_reason.FormReason.TheVariants.{UnknownComm, UnknownWindow, UnknownRequest, UnknownType, NameInUse, RankTooLarge}
 use Rattle.rma_form.specs.declared.event.Event.{Event}
 use Rattle.rma_form.specs.declared.event.Event.TheVariants.{Datatype, Local}
 use Rattle.rma_form.specs.declared.event.local_line.LocalLine.{LocalLine}
 use Rattle.rma_form.specs.declared.event.type_line.TypeLine.{TypeLine}
 use Rattle.rma_type.specs.Table.{Table}
-use Rattle.rma_book.specs.Judging.{first_that_holds, is_of_another_log, lacks_comm, lacks_request, lacks_type, lacks_window, name_reason, reason_of, takes_used_name, type_reason, use_reason}
-use Rattle.rma_book.specs.Naming.{Attributes, attributes_of, is_end, is_header, no_attributes}
+use Rattle.rma_book.specs.Judging.{first_that_holds, is_far, is_of_another_log, lacks_comm, lacks_request, lacks_type, lacks_window, name_reason, reason_of, takes_used_name, type_reason, use_reason}
+use Rattle.rma_book.specs.Naming.{Attributes, attributes_of, is_end, is_header, no_attributes, request_that, with_access}
+use Rattle.rma_book.specs.Names.{is_same, is_there, pending, window_state}
 use Rattle.rma_book.specs.Types.{types_after, with_event}
 use Rattle.rma_book.specs.inside.BookState.{BookState, IsChanged, IsJudged, IsTaken, Represents, SameTypes}
 use Rattle.rma_book.proofs.JudgingLemmas.{IsJudged_bad, IsJudged_good, later, of_event, or_false, stands}
@@ -146,3 +149,28 @@ datatype_judged book types line reason stand h = by reason h
     by (Some reason) h =
         subst (λ (table : Table). IsJudged book (record book { types = table }) (Datatype line) (Some reason)) (sym (h.kept refl))
         (IsJudged_bad book (Datatype line) reason (told (Some reason) h))
+
+-- ---- an access
+
+-- the reasons of its names and of its target, one after another
+first_access : (place : Option FormReason) (a b c d : Bool) → place ≡ None
+    → first_that_holds ((UnknownWindow, a) ∷ (UnknownType, b) ∷ (NameInUse, c) ∷ (RankTooLarge, d) ∷ [])
+    ≡ option_or place (option_or (first_that_holds ((UnknownWindow, a) ∷ (UnknownType, b) ∷ (NameInUse, c) ∷ [])) (first_that_holds ((RankTooLarge, d) ∷ [])))
+first_access place a b c d none = rw none (by a b c)
+  where
+    by : (a b c : Bool) → first_that_holds ((UnknownWindow, a) ∷ (UnknownType, b) ∷ (NameInUse, c) ∷ (RankTooLarge, d) ∷ [])
+        ≡ option_or (first_that_holds ((UnknownWindow, a) ∷ (UnknownType, b) ∷ (NameInUse, c) ∷ [])) (first_that_holds ((RankTooLarge, d) ∷ []))
+    by true b c = refl
+    by false true c = refl
+    by false false true = refl
+    by false false false = refl
+
+pub access_named : (book : BookState) (events : List Event) (window : List ℕ) (target : Option Rank) (request : Option (List ℕ)) (lacks there used far : Bool) (found : Option FormReason)
+    → Represents book events → later book ≡ None
+    → found ≡ first_that_holds ((UnknownWindow, not there) ∷ (UnknownType, lacks) ∷ (NameInUse, used) ∷ (RankTooLarge, far) ∷ [])
+    → there ≡ is_there (lookup (is_same window) book.windows)
+    → used ≡ option_map_or (λ made. is_some (pending events made.0)) (request_that false request) false
+    → far ≡ option_map_or (is_far book.logs) (option_map (λ (rank : Rank). rank.0) target) false
+    → found ≡ option_or (later book) (option_or (name_reason events (with_access window target request) lacks) (use_reason book.rank book.logs events (with_access window target request) false))
+access_named book events window target request lacks there used far found h none is there_is used_is far_is =
+    is ∙ rw (there_is, h.windows window, used_is, far_is) (first_access (later book) (not (is_there (window_state events window))) lacks _ _ none)

@@ -1,22 +1,25 @@
 -- The reasons of an event, from what a book keeps.
-use Rattle.std.proofs.Common.{◌≡◌, ℕ, Bool, true, false, not, ◌||◌, ◌&&◌, List, [], ◌∷◌, Option, Some, None, is_some, cond, eqb, nat_lt, refl, sym, ap, ◌∙◌, ⊎_elim, arith}
+use Rattle.std.proofs.Common.{◌≡◌, ℕ, Bool, true, false, not, ◌||◌, ◌&&◌, List, [], ◌∷◌, Option, Some, None, is_some, is_none, option_map, cond, eqb, nat_lt, refl, sym, ap, ◌∙◌, ⊎_elim, arith}
 use Rattle.std.specs.Map.{lookup}
 use Rattle.std.proofs.lemmas.Bool.{cases_Bool}
 use Rattle.std.specs.Option.{option_or}
 use Rattle.rma_base.specs.declared.rank.Rank.{Rank}
 use Rattle.rma_base.specs.declared.version.Version.{Version}
 use Rattle.rma_base.specs.declared.form_reason.FormReason.{FormReason}
-use Rattle.rma_base.specs.declared.form_reason.FormReason.TheVariants.{BadHeader, WrongHeader, AfterEnd, UnknownComm, UnknownWindow, RequestPending}
+use Rattle.rma_base.specs.declared.form_reason.FormReason.TheVariants.{BadHeader, WrongHeader, AfterEnd, UnknownComm, UnknownWindow, RankTooLarge, RequestPending}
 use Rattle.rma_form.specs.declared.event.Event.{Event}
-use Rattle.rma_call.specs.declared.what.SyncCall.{SyncCall}
-use Rattle.rma_form.specs.declared.event.Event.TheVariants.{Header, End, Call}
-use Rattle.rma_book.specs.Naming.{Attributes, attributes_of, no_attributes, on_comm, on_window, is_header, is_end}
-use Rattle.rma_book.specs.Judging.{is_of_another_log, place_reason, name_reason, use_reason, lacks_type, type_reason, reason_of}
+use Rattle.rma_call.specs.declared.what.What.{What}
+use Rattle.rma_form.specs.declared.event.Event.TheVariants.{Header, End, Call, Datatype, Rma, Local}
+use Rattle.rma_buffer.specs.Operands.{operand_of, operands_of}
+use Rattle.rma_type.specs.Table.{Table}
+use Rattle.rma_book.specs.Naming.{Attributes, attributes_of, no_attributes, on_comm, on_window, with_peer, with_target, is_header, is_end}
+use Rattle.rma_book.specs.Judging.{is_far, is_of_another_log, place_reason, name_reason, use_reason, lacks_type, type_reason, reason_of}
 use Rattle.rma_book.specs.Types.{is_datatype, types_after}
 use Rattle.rma_book.specs.Names.{is_same, world, has_comm, is_there, window_state}
 use Rattle.rma_book.specs.inside.BookState.{BookState, Represents, IsTaken, IsJudged}
 use Rattle.rma_book.proofs.StateLemmas.{Represents_taken}
-use Rattle.rma_book.proofs.TypeLemmas.{same_after}
+use Rattle.rma_book.specs.inside.Known.{IsCall, IsCallOf}
+use Rattle.rma_book.proofs.TypeLemmas.{lacks_type_same, same_after, type_reason_same}
 
 none_more : (reason : Option FormReason) → option_or reason None ≡ reason
 none_more None = refl
@@ -55,13 +58,27 @@ pub of_event : (rank logs : ℕ) (book : BookState) (events : List Event) (event
 of_event rank logs book events event it lacks typed h plain own goes_on same lacking typing =
     rw (of_place rank logs book events event h plain own, goes_on, same, lacking, typing) refl
 
--- a call that accesses no memory
-pub of_call : (rank logs : ℕ) (book : BookState) (events : List Event) (call : SyncCall) (request : Option (List ℕ)) (it : Attributes) → Represents book events
-    → it ≡ attributes_of (Call call request)
-    → option_or (later book) (option_or (name_reason events it false) (use_reason rank logs events it false)) ≡ reason_of rank logs events (Call call request)
-of_call rank logs book events call request it h same =
+-- what is there is not missing
+there : {A B : Type 0} (f : A → B) (o : Option A) (b : B) → option_map f o ≡ Some b → is_none o ≡ false
+there f None b is = cc
+there f (Some a) b is = refl
+
+-- a call that does something is one
+pub call_is : (types : Table) (does : What) (request : Option (List ℕ)) (event : Event) → IsCallOf types does request event → IsCall types event
+call_is types does request (Header version rank size) is = let none : None ≡ Some does = is.does in cc none
+call_is types does request End is = let none : None ≡ Some does = is.does in cc none
+call_is types does request (Datatype line) is = let none : None ≡ Some does = is.does in cc none
+call_is types does request (Call call own) is = record { plain = refl; own = λ rank logs. refl; goes_on = refl; other = refl; live = refl; good = is.good }
+call_is types does request (Rma line own) is = record { plain = refl; own = λ rank logs. refl; goes_on = refl; other = refl; live = there _ (operands_of types.live line.access) does is.does; good = is.good }
+call_is types does request (Local line) is = record { plain = refl; own = λ rank logs. refl; goes_on = refl; other = refl; live = there _ (operand_of types.live line.buffer) does is.does; good = is.good }
+
+-- a call, judged by its names
+pub of_call : (rank logs : ℕ) (book : BookState) (events : List Event) (event : Event) (it : Attributes) → Represents book events → IsCall book.types event → it ≡ attributes_of event
+    → option_or (later book) (option_or (name_reason events it false) (use_reason rank logs events it false)) ≡ reason_of rank logs events event
+of_call rank logs book events event it h is same =
     ap (λ used. option_or (later book) (option_or (name_reason events it false) used)) (sym (none_more (use_reason rank logs events it false)))
-    ∙ of_event rank logs book events (Call call request) it false None h refl refl refl same refl refl
+    ∙ of_event rank logs book events event it false None h is.plain (is.own rank logs) is.goes_on same
+    (sym is.live ∙ lacks_type_same book.types (types_after events) h.types event) (sym is.good ∙ type_reason_same book.types (types_after events) h.types event)
 
 -- an event that says nothing of names and ranks was taken
 pub IsTaken_plain : (old new : BookState) (event : Event) → attributes_of event ≡ no_attributes → is_datatype event ≡ false → new ≡ record old { begun = true; ended = new.ended }
@@ -114,14 +131,14 @@ stands book rest none =
     (λ (new : book.begun ≡ false). absurd (let wrong = rw new at none in cc wrong))
     (cases_Bool book.begun)
 
-module _ (book : BookState) (what : SyncCall) (request : Option (List ℕ)) (reason : Option FormReason) where
-  IsTaken_kept : (it : Attributes) → attributes_of (Call what request) ≡ it → it.declared ≡ None → it.window ≡ None → it.made ≡ None → it.awaited ≡ None
-      → book.begun ≡ true → IsTaken book book (Call what request)
+module _ (book : BookState) (event : Event) (is_call : IsCall book.types event) (reason : Option FormReason) where
+  IsTaken_kept : (it : Attributes) → attributes_of event ≡ it → it.declared ≡ None → it.window ≡ None → it.made ≡ None → it.awaited ≡ None
+      → book.begun ≡ true → IsTaken book book event
   IsTaken_kept it says declared window made awaited begun = record {
     rank = refl;
     logs = refl;
     begun = begun;
-    ended = sym (or_false book.ended);
+    ended = sym (rw is_call.goes_on (or_false book.ended));
     comms = λ name. rw (says, declared) refl;
     windows = λ name. rw (says, window) refl;
     requests = record {
@@ -129,35 +146,72 @@ module _ (book : BookState) (what : SyncCall) (request : Option (List ℕ)) (rea
       made = rw (says, made) (omega arith);
       completed = rw (says, awaited) (omega arith);
     };
-    types = λ table same. same;
+    types = same_after book.types book.types event refl is_call.other;
   }
 
-  pub IsJudged_on_comm : (comm : List ℕ) → on_comm comm ≡ attributes_of (Call what request)
+  pub IsJudged_on_comm : (comm : List ℕ) → on_comm comm ≡ attributes_of event
       → reason ≡ option_or (later book) (cond (not (is_same world comm || is_some (lookup (is_same comm) book.comms))) (Some UnknownComm) None)
-      → IsJudged book book (Call what request) reason
+      → IsJudged book book event reason
   IsJudged_on_comm comm says is = record {
     judged = λ events h.
         is
         ∙ ap (λ known. option_or (later book) (cond (not (is_same world comm || is_some known)) (Some UnknownComm) None)) (h.comms comm)
         ∙ ap (option_or (later book)) (sym (none_more (cond (not (has_comm events comm)) (Some UnknownComm) None)))
-        ∙ of_call book.rank book.logs book events what request (on_comm comm) h says;
+        ∙ of_call book.rank book.logs book events event (on_comm comm) h is_call says;
     taken = λ none events h.
-        Represents_taken book book events (Call what request) (IsTaken_kept (on_comm comm) (sym says) refl refl refl refl (stands book _ (sym is ∙ none)).0) h;
+        Represents_taken book book events event (IsTaken_kept (on_comm comm) (sym says) refl refl refl refl (stands book _ (sym is ∙ none)).0) h;
     rank = refl;
     logs = refl;
   }
 
-  pub IsJudged_on_window : (window : List ℕ) → on_window window ≡ attributes_of (Call what request)
+  pub IsJudged_on_window : (window : List ℕ) → on_window window ≡ attributes_of event
       → reason ≡ option_or (later book) (cond (not (is_there (lookup (is_same window) book.windows))) (Some UnknownWindow) None)
-      → IsJudged book book (Call what request) reason
+      → IsJudged book book event reason
   IsJudged_on_window window says is = record {
     judged = λ events h.
         is
         ∙ ap (λ known. option_or (later book) (cond (not (is_there known)) (Some UnknownWindow) None)) (h.windows window)
         ∙ ap (option_or (later book)) (sym (none_more (cond (not (is_there (window_state events window))) (Some UnknownWindow) None)))
-        ∙ of_call book.rank book.logs book events what request (on_window window) h says;
+        ∙ of_call book.rank book.logs book events event (on_window window) h is_call says;
     taken = λ none events h.
-        Represents_taken book book events (Call what request) (IsTaken_kept (on_window window) (sym says) refl refl refl refl (stands book _ (sym is ∙ none)).0) h;
+        Represents_taken book book events event (IsTaken_kept (on_window window) (sym says) refl refl refl refl (stands book _ (sym is ∙ none)).0) h;
+    rank = refl;
+    logs = refl;
+  }
+
+  -- the first reason, and the rest
+  cond_or : (b : Bool) (first : FormReason) (rest : Option FormReason) → cond b (Some first) rest ≡ option_or (cond b (Some first) None) rest
+  cond_or true first rest = refl
+  cond_or false first rest = refl
+
+  pub IsJudged_with_peer : (comm : List ℕ) (rank : ℕ) → with_peer comm rank ≡ attributes_of event
+      → reason ≡ option_or (later book)
+      (cond (not (is_same world comm || is_some (lookup (is_same comm) book.comms))) (Some UnknownComm) (cond (is_far book.logs rank) (Some RankTooLarge) None))
+      → IsJudged book book event reason
+  IsJudged_with_peer comm rank says is = record {
+    judged = λ events h.
+        is
+        ∙ ap (λ known. option_or (later book) (cond (not (is_same world comm || is_some known)) (Some UnknownComm) (cond (is_far book.logs rank) (Some RankTooLarge) None))) (h.comms comm)
+        ∙ ap (option_or (later book)) (cond_or (not (has_comm events comm)) UnknownComm (cond (is_far book.logs rank) (Some RankTooLarge) None))
+        ∙ of_call book.rank book.logs book events event (with_peer comm rank) h is_call says;
+    taken = λ none events h.
+        Represents_taken book book events event (IsTaken_kept (with_peer comm rank) (sym says) refl refl refl refl (stands book _ (sym is ∙ none)).0) h;
+    rank = refl;
+    logs = refl;
+  }
+
+  pub IsJudged_with_target : (window : List ℕ) (rank : ℕ) → with_target window rank ≡ attributes_of event
+      → reason ≡ option_or (later book)
+      (cond (not (is_there (lookup (is_same window) book.windows))) (Some UnknownWindow) (cond (is_far book.logs rank) (Some RankTooLarge) None))
+      → IsJudged book book event reason
+  IsJudged_with_target window rank says is = record {
+    judged = λ events h.
+        is
+        ∙ ap (λ known. option_or (later book) (cond (not (is_there known)) (Some UnknownWindow) (cond (is_far book.logs rank) (Some RankTooLarge) None))) (h.windows window)
+        ∙ ap (option_or (later book)) (cond_or (not (is_there (window_state events window))) UnknownWindow (cond (is_far book.logs rank) (Some RankTooLarge) None))
+        ∙ of_call book.rank book.logs book events event (with_target window rank) h is_call says;
+    taken = λ none events h.
+        Represents_taken book book events event (IsTaken_kept (with_target window rank) (sym says) refl refl refl refl (stands book _ (sym is ∙ none)).0) h;
     rank = refl;
     logs = refl;
   }

@@ -3,6 +3,7 @@ pub mod StateLemmas
 pub mod JudgingLemmas
 pub mod AccessLemmas
 pub mod EntryLemmas
+pub mod KnownLemmas
 pub mod WholeLemmas
 pub mod ReadingLemmas
 pub mod OutcomeLemmas

@@ -1,7 +1,7 @@
 -- A reader and one line more.
-use Rattle.std.proofs.Common.{◌≡◌, ℕ, zero, suc, ◌+◌, ◌<◌, ◌≤◌, List, [], ◌∷◌, ◌++◌, length, take, slice_get, Option, Some, None, IsSome, Result, Ok, Err, true, false, is_some, cond, refl, sym, ap, subst, ◌∙◌, ◌⊎◌, inl, inr, ⊎_elim, arith}
+use Rattle.std.proofs.Common.{◌≡◌, ℕ, Bool, zero, suc, ◌+◌, ◌<◌, ◌≤◌, List, [], ◌∷◌, ◌++◌, length, take, slice_get, Option, Some, None, IfSome, IsSome, option_map, Result, Ok, Err, true, false, is_some, cond, refl, sym, ap, subst, ◌∙◌, ◌⊎◌, inl, inr, ⊎_elim, arith}
 use Rattle.std.specs.Prelude.{option_to_list, unwrap_or}
-use Rattle.std.specs.Option.{option_or}
+use Rattle.std.specs.Option.{option_and_then, option_or}
 use Rattle.std.specs.Result.{OnOk}
 use Rattle.std.proofs.lemmas.List.{append-nil, length-take, take_more}
 use Rattle.std.proofs.lemmas.Bool.{false≢true}
@@ -16,17 +16,35 @@ use Rattle.rma_lex.specs.Cutting as cutting
 use Rattle.rma_lex.proofs.CheckLemmas.{length_checked_lines}
 use Rattle.rma_lex.proofs.CutterLemmas.{handed_stay}
 use Rattle.rma_form.specs.declared.event.Event.{Event}
+use Rattle.rma_form.specs.declared.event.Event.TheVariants.{Header, End, Call, Datatype, Rma, Local}
 use Rattle.rma_form.specs.declared.event.Stated.{Stated}
-use Rattle.rma_form.specs.Lines.{reading}
+use Rattle.rma_form.specs.Lines.{reading, site_of}
+use Rattle.rma_field.specs.Steps.{Fails, ◌>>=◌}
+use Rattle.rma_field.specs.declared.parse_error.ParseError.TheVariants.{Fault}
+use Rattle.rma_call.specs.Call.{Call as CallOf, CallTable}
+use Rattle.rma_call.specs.declared.what.What.{What}
+use Rattle.rma_reader.specs.Known.{Known, IsAmong, IsKnownLine}
 use Rattle.rma_reader.specs.Reading.{Reading, Grows}
-use Rattle.rma_book.specs.Naming.{is_end, named_version}
+use Rattle.rma_reader.specs.Sites.{IsSite, IsSiteOf}
+use Rattle.rma_reader.specs.Split.{SplitText}
+use Rattle.rma_reader.proofs.ReaderLemmas.{fails_at}
+use Rattle.rma_reader.proofs.SiteLemmas.{at_site, reading_split, stated_at}
+use Rattle.rma_type.specs.Table.{Table}
+use Rattle.rma_book.specs.Names.{request_number}
+use Rattle.rma_book.specs.Naming.{attributes_of, is_end, is_header, named_version}
+use Rattle.rma_book.specs.Types.{is_datatype, types_after}
 use Rattle.rma_book.specs.Judging.{reason_of}
-use Rattle.rma_book.specs.Calls.{Entry, call_of, calls_of, end_line, events_of, version_of}
+use Rattle.rma_book.specs.Calls.{Entry, call_of, call_with, calls_of, end_line, events_of, version_of}
 use Rattle.rma_book.specs.Logs.{Checked, AreGood, IsFirstBad, IsFirstFault, entries, entries_behind, entry_of, says, says_after, line_reason, judged}
 use Rattle.rma_book.specs.declared.fault.FormFault.{FormFault}
 use Rattle.rma_book.specs.declared.reader.Reader.{Reader}
-use Rattle.rma_book.specs.inside.BookState.{Represents, IsJudged}
-use Rattle.rma_book.specs.inside.Reading.{HasTaken, HasStopped, HasGood, HasRead, IsBehind, IsReading, ReadsNext, Takes, Refuses, GoesOn, Reads}
+use Rattle.rma_book.specs.declared.book.access.JudgedAccess.TheVariants as access
+use Rattle.rma_book.specs.inside.BookState.{BookState, Represents, IsGoodAccess, IsJudged}
+use Rattle.rma_book.specs.inside.Known.{AreKnown, IsCall, IsCallOf, IsKnownCall, IsStatedBy, request_of}
+use Rattle.rma_book.specs.inside.Reading.{Adds, Appends, HasTaken, HasStopped, HasGood, HasRead, IsBehind, IsReading, ReadsNext, Takes, Refuses, GoesOn, Reads}
+use Rattle.rma_book.proofs.JudgingLemmas.{call_is}
+use Rattle.rma_book.proofs.KnownLemmas.{call_same, known_grown, known_noted, known_on, typed_none}
+use Rattle.rma_book.proofs.TypeLemmas.{what_in_same}
 use Rattle.rma_book.proofs.EntryLemmas.{events_of_more, version_of_more, calls_of_more, end_line_more}
 
 -- ---- lists with one item more
@@ -130,6 +148,7 @@ HasTaken_same rank logs lines others reader h good same = record {
   version = h.version ∙ ap version_of same;
   calls = h.calls ∙ ap calls_of same;
   end = h.end ∙ ap end_line same;
+  known = subst (λ es. AreKnown (types_after (events_of es)) reader.lines) same h.known;
 }
 
 -- a line that says nothing
@@ -150,6 +169,7 @@ HasTaken_grown rank logs lines old grown h grows = record {
   version = grows.version ∙ h.version;
   calls = grows.calls ∙ h.calls;
   end = h.end;
+  known = known_grown (types_after (events_of (entries lines))) old.lines grown grows h.known;
 }
 
 -- the reason that a book gives is that of the definition
@@ -192,6 +212,8 @@ HasTaken_more rank logs lines line old new at stated h said number takes =
       version = takes.version ∙ ap (λ v. unwrap_or (named_version stated.event) v) h.version ∙ sym (version_of_more es entry) ∙ ap version_of all;
       calls = takes.calls (events_of es) h.represents ∙ ap (λ cs. cs ++ option_to_list (call_of (events_of es) entry)) h.calls ∙ sym (calls_of_more es entry) ∙ ap calls_of all;
       end = takes.end ∙ ap (λ o. option_or (cond (is_end stated.event) (Some at) None) o) h.end ∙ sym (end_line_more es entry) ∙ ap end_line all;
+      known = subst (λ them. AreKnown (types_after (events_of them)) new.lines) all
+          (subst (λ events. AreKnown (types_after events) new.lines) (sym (events_of_more es entry)) (takes.known (events_of es) h.represents h.known));
     }
 
 -- one line more was taken or refused
@@ -210,6 +232,152 @@ Reads_taken old new at stated takes none = subst (λ fault. GoesOn old new at st
 
 pub Reads_refused : (old new : Reader) (at : LineNo) (stated : Stated) (fault : FormFault) → Refuses old new at stated fault → new.fault ≡ Some fault → Reads old new at stated
 Reads_refused old new at stated fault refuses some = subst (λ found. GoesOn old new at stated found) (sym some) refuses
+
+-- only a header names a version
+no_version : (event : Event) → is_header event ≡ false → named_version event ≡ None
+no_version (Header version rank size) plain = absurd (false≢true (sym plain))
+no_version End plain = refl
+no_version (Call call request) plain = refl
+no_version (Datatype line) plain = refl
+no_version (Rma line request) plain = refl
+no_version (Local line) plain = refl
+
+-- the tables may have grown before, and words may have been noted that state what their numbers do
+pub Reads_before : (old new : Reader) (lines : Reading) (at : LineNo) (stated : Stated) → lines.version ≡ old.lines.version → lines.calls.calls ≡ old.lines.calls.calls
+    → ((types : Table) → AreKnown types old.lines → AreKnown types lines) → Reads (record old { lines = lines }) new at stated → Reads old new at stated
+Reads_before old new lines at stated version calls known reads = step new.fault reads
+  where
+    step : (fault : Option FormFault) → GoesOn (record old { lines = lines }) new at stated fault → GoesOn old new at stated fault
+    step None takes = record {
+      judged = takes.judged;
+      version = takes.version ∙ ap (λ v. unwrap_or (named_version stated.event) v) version;
+      calls = λ events h. takes.calls events h ∙ ap (λ cs. cs ++ option_to_list (call_of events (record { line = at; stated = stated }))) calls;
+      end = takes.end;
+      known = λ events h are. takes.known events h (known (types_after events) are);
+    }
+    step (Some fault) refuses = record {
+      judged = refuses.judged;
+      line = refuses.line;
+      calls = refuses.calls ∙ calls;
+      end = refuses.end;
+    }
+
+-- the site of a number is what stands there
+site_is : (table : CallTable) (site : Option ℕ) (text : Option (List ℕ)) → IsSite table site text → option_and_then (slice_get table.sites) site ≡ text
+site_is table None text is = sym is
+site_is table (Some number) text is = is.1 ∙ sym is.2
+
+-- a call was appended that does what has a number
+module _ (old new : Reader) (book : BookState) (at : LineNo) (event : Event) (text : Option (List ℕ)) (site : Option ℕ) (what : ℕ) (number : Option ℕ) (does : What) (request : Option (List ℕ))
+    (lines : new.lines ≡ record old.lines {
+      calls = record old.lines.calls {
+        calls = old.lines.calls.calls ++ record { line = at; site = option_and_then (slice_get old.lines.calls.sites) site; what = does; request = number } ∷ [];
+      };
+    })
+    (same : new.book ≡ book) (end : new.end ≡ old.end) (fault : new.fault ≡ old.fault)
+    (call : IsCallOf old.book.types does request event) (given : IsJudged old.book book event None) (sited : IsSite old.lines.calls site text)
+    (numbered : (events : List Event) → Represents old.book events → number ≡ request_number events (attributes_of event)) where
+  abbrev is_call : IsCall old.book.types event
+  is_call = call_is old.book.types does request event call
+
+  unnamed : named_version event ≡ None
+  unnamed = no_version event is_call.plain
+
+  appended : (events : List Event) → Represents old.book events → Some (call_with at (option_and_then (slice_get old.lines.calls.sites) site) number does) ≡ call_of events (record { line = at; stated = record { event = event; site = text } })
+  appended events h =
+      ap (λ own. Some (call_with at own number does)) (site_is old.lines.calls site text sited) ∙ ap (λ n. Some (call_with at text n does)) (numbered events h)
+      ∙ sym (ap (option_map (call_with at text (request_number events (attributes_of event)))) (sym (what_in_same old.book.types (types_after events) h.types event) ∙ call.does))
+
+  pub Takes_call : Takes old new at (record { event = event; site = text })
+  Takes_call = record {
+    judged = subst (λ (b : BookState). IsJudged old.book b event None) (sym same) given;
+    version = ap (λ (reading : Reading). reading.version) lines ∙ sym (ap (λ v. unwrap_or v old.lines.version) unnamed);
+    calls = λ events h. ap (λ (reading : Reading). reading.calls.calls) lines ∙ ap (λ c. old.lines.calls.calls ++ option_to_list c) (appended events h);
+    end = end ∙ sym (ap (λ b. option_or (cond b (Some at) None) old.end) is_call.goes_on);
+    known = λ events h are. known_on events event new.lines is_call.other (subst (AreKnown (types_after events)) (sym lines) (λ known among. are known among));
+  }
+
+-- it stays so where the table of sites grows
+pub site_kept : (old new : CallTable) → ((number : ℕ) (value : List ℕ) → slice_get old.sites number ≡ Some value → slice_get new.sites number ≡ Some value)
+    → (site : Option ℕ) (text : Option (List ℕ)) → IsSite old site text → IsSite new site text
+site_kept old new keeps None text is = is
+site_kept old new keeps (Some number) text is = (is.0, keeps number is.0 is.1, is.2)
+
+-- words that are there are so as they are referred to
+pub said_words : {A B : Type 0} (f : A → B) (P : B → Type 0) (o : Option A) → IfSome o (λ a. P (f a)) → IfSome (option_map f o) P
+said_words f P None said = tt
+said_words f P (Some a) said = said
+
+-- a number was given to what a call does, and words may have been noted
+pub Adds_plain : (old : Reader) (grown : Reading) (what : What) (request : Option (List ℕ)) (lasts : Bool) → Grows old.lines grown → Adds old (record old { lines = grown }) None what request lasts
+Adds_plain old grown what request lasts grows = record {
+  same = refl;
+  version = grows.version;
+  calls = grows.calls;
+  sites = grows.sites;
+  known = λ types event are said call lasting. known_grown types old.lines grown grows are;
+}
+
+pub Adds_noted : (old : Reader) (grown noted : Reading) (own : List ℕ) (what : What) (number : ℕ) (request : Option (List ℕ)) (lasts : Bool) → Grows old.lines grown
+    → slice_get grown.calls.whats number ≡ Some what → noted ≡ record grown { known = noted.known }
+    → ((known : Known) → IsAmong noted.known known → IsAmong grown.known known ⊎ (known ≡ record { version = grown.version; words = own; what = number; request = request; lasts = lasts }))
+    → Adds old (record old { lines = noted }) (Some own) what request lasts
+Adds_noted old grown noted own what number request lasts grows is same more = record {
+  same = refl;
+  version = ap (λ (reading : Reading). reading.version) same ∙ grows.version;
+  calls = ap (λ (reading : Reading). reading.calls.calls) same ∙ grows.calls;
+  sites = λ n value found. ap (λ (reading : Reading). slice_get reading.calls.sites n) same ∙ grows.sites n value found;
+  known = λ types event are said call lasting.
+      known_noted types grown noted (record { version = grown.version; words = own; what = number; request = request; lasts = lasts }) (ap (λ (reading : Reading). reading.calls) same) more
+      (record { event = event; said = subst (λ v. IsStatedBy v own event) (sym grows.version) said; what = what; is = is; call = call; lasting = lasting })
+      (known_grown types old.lines grown grows are);
+}
+
+-- a call was appended of which a number was given
+pub Appends_added : (old mid new : Reader) (words request : Option (List ℕ)) (what : What) (at : LineNo) (site : Option ℕ) (text : Option (List ℕ)) (number : Option ℕ) (lines : Reading)
+    → Adds old mid words what request false → IsSite old.lines.calls site text → new ≡ record mid { lines = lines }
+    → lines ≡ record mid.lines {
+      calls = record mid.lines.calls {
+        calls = mid.lines.calls.calls ++ record { line = at; site = option_and_then (slice_get mid.lines.calls.sites) site; what = what; request = number } ∷ [];
+      };
+    }
+    → Appends old new words request (call_with at text number what)
+Appends_added old mid new words request what at site text number lines adds sited same pushed = record {
+  book = ap (λ (r : Reader). r.book) same ∙ ap (λ (r : Reader). r.book) adds.same;
+  version = ap (λ (r : Reader). r.lines.version) same ∙ ap (λ (reading : Reading). reading.version) pushed ∙ adds.version;
+  calls = ap (λ (r : Reader). r.lines.calls.calls) same ∙ ap (λ (reading : Reading). reading.calls.calls) pushed
+      ∙ ap (λ own. mid.lines.calls.calls ++ call_with at own number what ∷ []) (site_is mid.lines.calls site text (site_kept old.lines.calls mid.lines.calls adds.sites site text sited))
+      ∙ ap (λ cs. cs ++ call_with at text number what ∷ []) adds.calls;
+  end = ap (λ (r : Reader). r.end) same ∙ ap (λ (r : Reader). r.end) adds.same;
+  fault = ap (λ (r : Reader). r.fault) same ∙ ap (λ (r : Reader). r.fault) adds.same;
+  known = λ types event are said call.
+      subst (AreKnown types) (sym (ap (λ (r : Reader). r.lines) same ∙ pushed))
+      (λ known among. adds.known types event are said call (λ lasts. absurd (false≢true lasts)) known among);
+}
+
+-- an access was taken
+module _ (old new : Reader) (book : BookState) (at : LineNo) (event : Event) (site words request : Option (List ℕ)) (what : What) (number : Option ℕ)
+    (appends : Appends (record old { book = book }) new words request (call_with at site number what)) (given : IsJudged old.book book event None)
+    (good : (events : List Event) → Represents old.book events → IsGoodAccess events event (access.Good what number)) (asks : request_of event ≡ request)
+    (goes_on : is_end event ≡ false) (other : is_datatype event ≡ false) (unnamed : named_version event ≡ None) (said : IfSome words (λ own. IsStatedBy old.lines.version own event)) where
+  abbrev call_in : List Event → Option CallOf
+  call_in events = call_of events (record { line = at; stated = record { event = event; site = site } })
+
+  entry_is : (events : List Event) → Represents old.book events → call_in events ≡ Some (call_with at site number what)
+  entry_is events h =
+      ap (option_map (call_with at site (request_number events (attributes_of event)))) (good events h).0 ∙ ap (λ n. Some (call_with at site n what)) (sym (good events h).1)
+
+  pub Takes_access : Takes old new at (record { event = event; site = site })
+  Takes_access = record {
+    judged = subst (λ (b : BookState). IsJudged old.book b event None) (sym appends.book) given;
+    version = appends.version ∙ sym (ap (λ v. unwrap_or v old.lines.version) unnamed);
+    calls = λ events h. appends.calls ∙ ap (λ c. old.lines.calls.calls ++ option_to_list c) (sym (entry_is events h));
+    end = appends.end ∙ sym (ap (λ b. option_or (cond b (Some at) None) old.end) goes_on);
+    known = λ events h are.
+        known_on events event new.lines other
+        (appends.known (types_after events) event are said
+        (record { does = (good events h).0; request = asks; good = typed_none old.book.rank old.book.logs events event (sym (given.judged events h)) }));
+  }
 
 -- whatever the site is
 pub Reads_stated : (old new : Reader) (at : LineNo) (event : Event) (stated : Stated) → ((site : Option (List ℕ)) → Reads old new at (record { event = event; site = site }))
@@ -355,3 +523,32 @@ module _ (old : Reader) (grown : Reading) (at : LineNo) (text : List ℕ) (none 
       let taken = HasTaken_read rank logs before old h none in
       let bad = ap (λ (it : Result (Option Stated) FormReason). judged rank logs (entries before) it) (ap (λ v. reading v text) (sym taken.version) ∙ said) in
       HasRead_refused rank logs before (Ok text) _ new (record { line = at; reason = reason }) (HasTaken_grown rank logs before old grown taken grows) bad number refused
+
+-- ---- a line whose words are known
+
+module _ (old : Reader) (grown : Reading) (at : LineNo) (line : SplitText) (known : Known) (none : old.fault ≡ None) (grows : Grows old.lines grown)
+    (own : IsKnownLine old.lines.known old.lines.version line known) where
+  -- what the line states, where the words do what is known of them
+  said_of : (types : Table) (whats : List What) → (is : IsKnownCall types whats known) → reading old.lines.version line.line ≡ stated_at is.event line.site
+  said_of types whats is =
+      reading_split old.lines.version line.line line.words line.site is.event own.split
+      (ap (λ v. reading v line.words) (sym own.version) ∙ ap (reading known.version) (sym own.words) ∙ is.said)
+
+  pub ReadsNext_known : (new : Reader) (number : Option ℕ) → IsSiteOf grown.calls line.site number
+      → ((does : What) (event : Event) (site : Option (List ℕ)) → slice_get grown.calls.whats known.what ≡ Some does → IsCallOf old.book.types does known.request event
+      → IsSite grown.calls number site → Reads (record old { lines = grown }) new at (record { event = event; site = site }))
+      → ReadsNext old new at.0 (Ok line.line)
+  ReadsNext_known new number sited reads rank logs before place h =
+      let taken = HasTaken_read rank logs before old h none in
+      let is = taken.known known own.among in
+      HasRead_more rank logs before (Ok line.line) _ new at (record { event = is.event; site = line.site }) (HasTaken_grown rank logs before old grown taken grows)
+      (ap (λ v. reading v line.line) (sym taken.version) ∙ said_of _ _ is ∙ ap (λ good. good >>= λ site. Ok (Some (at_site is.event site))) sited.0) place
+      (reads is.what is.event line.site (grows.whats known.what is.what is.is)
+      (call_same old.book.types (types_after (events_of (entries before))) taken.represents.types is.what known.request is.event is.call) sited.1)
+
+  pub ReadsNext_bad : (new : Reader) (reason : FormReason) → Fails (Fault (record { reason = reason })) (site_of line.site)
+      → new ≡ record old { lines = grown; fault = Some (record { line = at; reason = reason }) } → ReadsNext old new at.0 (Ok line.line)
+  ReadsNext_bad new reason bad refused rank logs before place h =
+      let taken = HasTaken_read rank logs before old h none in
+      let is = taken.known known own.among in
+      ReadsNext_refused old grown at line.line none grows new reason (said_of _ _ is ∙ fails_at (Fault (record { reason = reason })) is.event line.site bad) refused rank logs before place h

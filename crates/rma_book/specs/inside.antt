@@ -1,5 +1,6 @@
 pub mod Naming
 pub mod Requests
 pub mod BookState
+pub mod Known
 pub mod Reading
 pub mod RankState

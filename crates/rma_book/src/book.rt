@@ -6,15 +6,14 @@ ghost use Rattle.std.specs.Option.{option_copied, option_map_or, option_or};
 ghost use Rattle.rma_base.specs.RankSet.{has_number};
 ghost use Rattle.rma_base.specs.declared.version.Version.{Version};
 ghost use Rattle.rma_call.specs.Call.{what_of};
-ghost use Rattle.rma_call.specs.declared.what.SyncCall.{SyncCall};
-ghost use Rattle.rma_call.specs.declared.what.What.TheVariants.{Sync};
 ghost use Rattle.rma_form.specs.declared.event.Event.{Event};
-ghost use Rattle.rma_form.specs.declared.event.Event.TheVariants.{Header, End, Call};
+ghost use Rattle.rma_form.specs.declared.event.Event.TheVariants.{Header, End};
 ghost use Rattle.rma_book.specs.Naming.{attributes_of, is_end};
 ghost use Rattle.rma_book.specs.Types.{is_datatype};
 ghost use Rattle.rma_book.specs.Names.{is_same, of_name, world, has_comm, had_window, pending, is_there, is_fixed, request_number};
 ghost use Rattle.rma_book.specs.Judging.{first_that_holds, name_reason, use_reason, lacks_comm, lacks_window, lacks_request, is_far, leaves_out, waits_wrongly, differ, leaves_space, misses_root, attaches_wrongly};
 ghost use Rattle.rma_book.specs.inside.BookState.{Represents, IsJudged, IsTaken, reason_in, number_in};
+ghost use Rattle.rma_book.specs.inside.Known.{IsCall, IsCallOf};
 ghost use Rattle.rma_book.specs.inside.Naming.{value_of};
 
 mod access;
@@ -134,21 +133,28 @@ impl Book {
         }
     }
 
-    /// Judges a call that accesses no memory with the request that stands beside it, and takes it where it is good.
+    /// Judges a call that does this with the request that stands beside it, and takes it where it is good. The datatypes of an
+    /// access must be known to be good.
     ///
     /// # Errors
     ///
     /// `Memory` where memory ran out: the book no longer represents the events that it took.
     pub fn call(&mut self, what: WhatRef<'_>, request: Option<&Name>) -> Result<Judged, Memory>
-        ensures judged { IfOk result (λ judged. (call : SyncCall) → what_of what.entry ≡ Sync call → IsJudged self.old self.new (Call call (option_copied request.entry)) (reason_in judged)) }
-        ensures number { IfOk result (λ judged. (call : SyncCall) → what_of what.entry ≡ Sync call → reason_in judged ≡ None → (events : List Event) → Represents self.old events
-            → number_in judged ≡ request_number events (attributes_of (Call call (option_copied request.entry)))) }
+        ensures judged { IfOk result (λ judged. (event : Event) → IsCallOf self.old.types (what_of what.entry) (option_copied request.entry) event → IsJudged self.old self.new event (reason_in judged)) }
+        ensures number { IfOk result (λ judged. (event : Event) → IsCallOf self.old.types (what_of what.entry) (option_copied request.entry) event → reason_in judged ≡ None → (events : List Event) → Represents self.old events
+            → number_in judged ≡ request_number events (attributes_of event)) }
         ensures fits { IfOk result (λ judged. IfSome (number_in judged) (λ number. number + 1 < 2 ^ 32)) }
     {
         match Said::of(what, request) {
             Said::OnComm(comm) => Ok(self.judged(!self.has_comm(comm), FormReason::UnknownComm)),
             Said::OnWindow(window) => {
                 Ok(self.judged(!self.is_there(window), FormReason::UnknownWindow))
+            }
+            Said::WithPeer(comm, rank) => {
+                Ok(self.judged_with(!self.has_comm(comm), FormReason::UnknownComm, rank))
+            }
+            Said::WithTarget(window, rank) => {
+                Ok(self.judged_with(!self.is_there(window), FormReason::UnknownWindow, rank))
             }
             Said::More(naming) => self.judge(&naming),
         }
@@ -169,9 +175,25 @@ impl Book {
         }
     }
 
+    // Judges a call that says no more than one name, which it lacks or not, and one rank: there is nothing to note of it.
+    #[inline]
+    fn judged_with(&self, lacks: bool, reason: FormReason, rank: Rank) -> Judged
+        ensures reason { reason_in result ≡ option_or
+            (if not self.now.begun then Some FormReason.BadHeader else (if self.now.ended then Some FormReason.AfterEnd else None))
+            (if lacks then Some reason else (if is_far self.now.logs rank.0 then Some FormReason.RankTooLarge else None)) }
+        ensures number { number_in result ≡ None }
+    {
+        match self.later_reason() {
+            Some(reason) => Judged::Bad(reason),
+            None if lacks => Judged::Bad(reason),
+            None if rank.0 >= self.logs => Judged::Bad(FormReason::RankTooLarge),
+            None => Judged::Good { request: None },
+        }
+    }
+
     // Judges a call, and takes it where it is good.
     fn judge(&mut self, naming: &Naming<'_>) -> Result<Judged, Memory>
-        ensures judged { IfOk result (λ judged. (call : SyncCall) (request : Option (List ℕ)) → value_of naming.now ≡ attributes_of (Call call request) → IsJudged self.old self.new (Call call request) (reason_in judged)) }
+        ensures judged { IfOk result (λ judged. (event : Event) → value_of naming.now ≡ attributes_of event → IsCall self.old.types event → IsJudged self.old self.new event (reason_in judged)) }
         ensures number { IfOk result (λ judged. reason_in judged ≡ None → (events : List Event) → Represents self.old events
             → number_in judged ≡ request_number events (value_of naming.now)) }
         ensures fits { IfOk result (λ judged. IfSome (number_in judged) (λ number. number + 1 < 2 ^ 32)) }

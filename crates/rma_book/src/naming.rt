@@ -2,10 +2,12 @@
 ghost use Rattle.std.specs.Prelude.{◌≡◌, ℕ, List, Option, Some};
 ghost use Rattle.std.specs.Option.{option_copied};
 ghost use Rattle.rma_call.specs.Call.{what_of};
-ghost use Rattle.rma_call.specs.declared.what.What.TheVariants.{Sync};
-ghost use Rattle.rma_call.specs.declared.what.SyncCall.{SyncCall};
 ghost use Rattle.rma_call.specs.declared.what.SyncCall.TheVariants as sync;
+ghost use Rattle.rma_form.specs.declared.event.Event.{Event};
 ghost use Rattle.rma_form.specs.declared.event.Event.TheVariants.{Call};
+ghost use Rattle.rma_type.specs.Table.{Table};
+ghost use Rattle.rma_book.specs.Calls.{what_in};
+ghost use Rattle.rma_book.specs.inside.Known.{request_of};
 ghost use Rattle.rma_book.specs.Naming.{attributes_of, created_state, request_that, with_access};
 ghost use Rattle.rma_book.specs.inside.Naming.{said_value, value_of, named, nothing};
 
@@ -42,21 +44,25 @@ pub(crate) struct Naming<'a> {
     pub(crate) attached: Option<&'a Name>,
 }
 
-/// What a call says of names and ranks. Most say one thing.
+/// What a call says of names and ranks. Most say one thing or two.
 pub(crate) enum Said<'a> {
     /// The communicator has to be there.
     OnComm(&'a Name),
     /// The window has to be there.
     OnWindow(&'a Name),
+    /// The communicator has to be there, and a log has to be that of the rank.
+    WithPeer(&'a Name, Rank),
+    /// The window has to be there, and a log has to be that of the rank.
+    WithTarget(&'a Name, Rank),
     /// All this.
     More(Naming<'a>),
 }
 
 impl<'a> Said<'a> {
-    /// What a call says that accesses no memory, with the request that stands beside it.
+    /// What a call says that does this, with the request that stands beside it.
     #[inline]
     pub(crate) fn of(call: WhatRef<'a>, request: Option<&'a Name>) -> Said<'a>
-        ensures { (sync : SyncCall) → what_of call.entry ≡ Sync sync → said_value result ≡ attributes_of (Call sync (option_copied request.entry)) }
+        ensures { (types : Table) (event : Event) → what_in types event ≡ Some (what_of call.entry) → request_of event ≡ option_copied request.entry → said_value result ≡ attributes_of event }
     {
         match call {
             WhatRef::Frame(call) => of_frame(call),
@@ -64,7 +70,8 @@ impl<'a> Said<'a> {
             WhatRef::Window(call) => of_window(call),
             WhatRef::Epoch(call) => of_epoch(call),
             WhatRef::Moving(call) => of_moving(call),
-            WhatRef::Rma(_) | WhatRef::Local(_) => Said::More(nothing()),
+            WhatRef::Rma(call) => of_access(&call.window, call.target, request),
+            WhatRef::Local(_) => Said::More(nothing()),
         }
     }
 }
@@ -86,8 +93,8 @@ fn of_message<'a>(call: &'a MessageCall, request: Option<&'a Name>) -> Said<'a>
     ensures { said_value result ≡ attributes_of (Call (sync.Message call.now) (option_copied request.entry)) }
 {
     match call {
-        MessageCall::Send { to, comm, .. } => Said::More(with_peer(comm, *to)),
-        MessageCall::Recv { from, comm, .. } => Said::More(with_peer(comm, *from)),
+        MessageCall::Send { to, comm, .. } => Said::WithPeer(comm, *to),
+        MessageCall::Recv { from, comm, .. } => Said::WithPeer(comm, *from),
         MessageCall::Isend { to, comm, .. } => Said::More(Naming {
             made: request_that(false, request),
             ..with_peer(comm, *to)
@@ -161,13 +168,13 @@ fn of_epoch(call: &EpochCall) -> Said<'_>
         } => Said::More(with_group(window, targets)),
         EpochCall::Complete { window } => Said::OnWindow(window),
         EpochCall::Expwait { window } => Said::OnWindow(window),
-        EpochCall::Lock { window, target, .. } => Said::More(with_target(window, *target)),
-        EpochCall::Unlock { window, target } => Said::More(with_target(window, *target)),
+        EpochCall::Lock { window, target, .. } => Said::WithTarget(window, *target),
+        EpochCall::Unlock { window, target } => Said::WithTarget(window, *target),
         EpochCall::LockAll { window, .. } => Said::OnWindow(window),
         EpochCall::UnlockAll { window } => Said::OnWindow(window),
-        EpochCall::Flush { window, target } => Said::More(with_target(window, *target)),
+        EpochCall::Flush { window, target } => Said::WithTarget(window, *target),
         EpochCall::FlushAll { window } => Said::OnWindow(window),
-        EpochCall::FlushLocal { window, target } => Said::More(with_target(window, *target)),
+        EpochCall::FlushLocal { window, target } => Said::WithTarget(window, *target),
         EpochCall::FlushLocalAll { window } => Said::OnWindow(window),
         EpochCall::Sync { window } => Said::OnWindow(window),
     }
@@ -247,16 +254,6 @@ fn on_window(window: &Name) -> Naming<'_>
     }
 }
 
-/// A call on a window, for one rank.
-fn with_target(window: &Name, target: Rank) -> Naming<'_>
-    ensures { result ≡ record nothing { needed_window = Some window.entry; rank = Some target } }
-{
-    Naming {
-        rank: Some(target),
-        ..on_window(window)
-    }
-}
-
 /// A call that accesses the part of a target, if it has one.
 pub(crate) fn with_access<'a>(
     window: &'a Name,
@@ -269,6 +266,17 @@ pub(crate) fn with_access<'a>(
         rank: target,
         made: request_that(false, request),
         ..on_window(window)
+    }
+}
+
+/// What a call says that accesses the part of a target, if it has one.
+fn of_access<'a>(window: &'a Name, target: Option<Rank>, request: Option<&'a Name>) -> Said<'a>
+    ensures { said_value result ≡ with_access window.now target (option_copied request.entry) }
+{
+    match (target, request) {
+        (None, None) => Said::OnWindow(window),
+        (Some(target), None) => Said::WithTarget(window, target),
+        (_, Some(_)) => Said::More(with_access(window, target, request)),
     }
 }
 

@@ -1,26 +1,28 @@
 //! Reading the lines of a log one by one.
-ghost use Rattle.std.specs.Prelude.{◌≡◌, ℕ, ◌+◌, ◌<◌, ◌^◌, List, [], length, IfOk, IfSome, OnOk, true, false, Contains, Ok, Err, Option, Some, None};
+ghost use Rattle.std.specs.Prelude.{◌≡◌, ℕ, ◌+◌, ◌<◌, ◌^◌, List, [], length, option_map, slice_get, IfOk, IfSome, OnOk, true, false, Contains, Ok, Err, Option, Some, None};
+ghost use Rattle.std.specs.Option.{option_copied};
 ghost use Rattle.rma_base.specs.declared.version.Version.{Version};
 ghost use Rattle.rma_lex.specs.Content.{content, number};
 ghost use Rattle.rma_lex.specs.Line.{lines};
 ghost use Rattle.rma_lex.specs.Cutting.{Represents};
-ghost use Rattle.rma_form.specs.declared.event.Event.TheVariants.{Header, End, Datatype, Rma, Local};
-ghost use Rattle.rma_form.specs.declared.event.Stated.{Stated};
-ghost use Rattle.rma_reader.specs.Reading.{IsEvent, IsRead, IsSite};
-ghost use Rattle.rma_reader.specs.declared.read_line.ReadEvent.TheVariants as read;
+ghost use Rattle.rma_call.specs.declared.what.What.{What};
+ghost use Rattle.rma_form.specs.declared.event.Event.{Event};
+ghost use Rattle.rma_form.specs.declared.event.Event.TheVariants.{Header, End, Call, Datatype, Rma, Local};
+ghost use Rattle.rma_reader.specs.Sites.{IsSite};
 ghost use Rattle.rma_book.specs.Ends.{IsEnd};
 ghost use Rattle.rma_book.specs.Logs.{Checked};
 ghost use Rattle.rma_book.specs.Calls.{call_with};
-ghost use Rattle.rma_book.specs.inside.Reading.{Appends, HasRead, IsReading, Reads, ReadsNext};
+ghost use Rattle.rma_book.specs.inside.Known.{IsCallOf, IsStatedBy};
+ghost use Rattle.rma_book.specs.inside.Reading.{Adds, Appends, HasRead, IsReading, Reads, ReadsNext};
 
 use crate::book::{Book, Judged, JudgedAccess};
 use crate::fault::{BookEnd, FormFault};
 use rma_base::{FormReason, LineNo, Memory, Name, Rank, Version};
-use rma_call::{RankCalls, What};
+use rma_call::{RankCalls, SyncCall, What};
 use rma_field::ParseError;
-use rma_form::{LocalLine, RmaLine, TypeLine};
+use rma_form::{Event, LocalLine, RmaLine, TypeLine};
 use rma_lex::{LexFault, Line, LineCutter};
-use rma_reader::{LineReader, ReadEvent, ReadLine, SharedSites, SplitLine};
+use rma_reader::{LineReader, ReadLine, SharedSites, SplitLine};
 use std::alloc::Global;
 
 /// What the good lines of a log state, and the first bad one, after which nothing is read.
@@ -92,11 +94,11 @@ impl Reader {
     #[inline(never)]
     fn read_other(&mut self, no: LineNo, line: &SplitLine<'_>) -> Result<(), Memory>
         requires { self.old.fault ≡ None }
-        ensures { OnOk result (ReadsNext self.old self.new no.0 (Ok line.now)) }
+        ensures { OnOk result (ReadsNext self.old self.new no.0 (Ok line.now.line)) }
     {
         match self.lines.read(line) {
             Ok(None) => Ok(()),
-            Ok(Some(line)) => self.read_line(no, line),
+            Ok(Some(read)) => self.read_line(no, line, read),
             Err(ParseError::Fault(fault)) => {
                 self.refuse(no, fault.reason);
                 Ok(())
@@ -106,26 +108,35 @@ impl Reader {
     }
 
     // Judges the next line, and takes it where it is good.
-    fn read_line(&mut self, no: LineNo, line: ReadLine) -> Result<(), Memory>
+    #[inline]
+    fn read_line(&mut self, no: LineNo, line: &SplitLine<'_>, read: ReadLine) -> Result<(), Memory>
         requires fault { self.old.fault ≡ None }
-        requires read { (stated : Stated) × IsRead self.old.lines.calls line stated }
-        ensures { OnOk result ((stated : Stated) → IsRead self.old.lines.calls line stated → Reads self.old self.new no stated) }
+        requires site { (text : Option (List ℕ)) × IsSite self.old.lines.calls read.site text }
+        requires words { read.by_words ≡ true → IsStatedBy self.old.lines.version line.now.words read.event }
+        ensures { OnOk result ((text : Option (List ℕ)) → IsSite self.old.lines.calls read.site text → Reads self.old self.new no (record { event = read.event; site = text })) }
     {
-        let ReadLine { event, site } = line;
+        let ReadLine {
+            event,
+            site,
+            by_words,
+        } = read;
+        let words = if by_words { Some(line) } else { None };
         match event {
-            ReadEvent::Header {
+            Event::Header {
                 version,
                 rank,
                 size,
             } => self.read_header(no, version, rank, size),
-            ReadEvent::End => {
+            Event::End => {
                 self.read_end(no);
                 Ok(())
             }
-            ReadEvent::Call { what, request } => self.read_call(no, site, what, request),
-            ReadEvent::Datatype(line) => self.read_datatype(no, line),
-            ReadEvent::Rma { line, request } => self.read_rma(no, site, &line, request),
-            ReadEvent::Local(line) => self.read_local(no, site, &line),
+            Event::Call { call, request } => self.read_new_call(no, words, site, call, request),
+            Event::Datatype(line) => self.read_datatype(no, line),
+            Event::Rma { line, request } => {
+                self.read_rma(no, words, site, &line, request.as_ref())
+            }
+            Event::Local(line) => self.read_local(no, words, site, &line),
         }
     }
 
@@ -158,42 +169,73 @@ impl Reader {
         }
     }
 
-    // Judges a line that speaks of a datatype, and takes it where it is good.
+    // Judges a line that speaks of a datatype, and takes it where it is good: what accesses do is not known any more.
     fn read_datatype(&mut self, no: LineNo, line: TypeLine) -> Result<(), Memory>
         requires { self.old.fault ≡ None }
         ensures { OnOk result ((site : Option (List ℕ)) → Reads self.old self.new no (record { event = Datatype line; site = site })) }
     {
-        if let Some(reason) = self.book.datatype(line)? {
-            self.refuse(no, reason);
+        match self.book.datatype(line)? {
+            Some(reason) => self.refuse(no, reason),
+            None => self.lines.forget_accesses(),
         }
         Ok(())
+    }
+
+    // Judges a call that accesses no memory, and takes it where it is good. Its words are noted, if they state it by themselves.
+    fn read_new_call(
+        &mut self,
+        no: LineNo,
+        words: Option<&SplitLine<'_>>,
+        site: Option<u32>,
+        call: SyncCall,
+        request: Option<Name>,
+    ) -> Result<(), Memory>
+        requires fault { self.old.fault ≡ None }
+        requires site { (text : Option (List ℕ)) × IsSite self.old.lines.calls site text }
+        requires words { IfSome words (λ line. IsStatedBy self.old.lines.version line.now.words (Call call request)) }
+        ensures { OnOk result ((text : Option (List ℕ)) → IsSite self.old.lines.calls site text → Reads self.old self.new no (record { event = Call call request; site = text })) }
+    {
+        let what = self.add(words, What::Sync(call), request.as_ref(), true)?;
+        self.read_call(no, site, what, request)
     }
 
     // Judges a call that accesses the part of a target, and takes it where it is good.
     fn read_rma(
         &mut self,
         no: LineNo,
+        words: Option<&SplitLine<'_>>,
         site: Option<u32>,
         line: &RmaLine,
-        request: Option<Name>,
+        request: Option<&Name>,
     ) -> Result<(), Memory>
         requires fault { self.old.fault ≡ None }
         requires site { (text : Option (List ℕ)) × IsSite self.old.lines.calls site text }
-        ensures { OnOk result ((text : Option (List ℕ)) → IsSite self.old.lines.calls site text → Reads self.old self.new no (record { event = Rma line.now request; site = text })) }
+        requires words { IfSome words (λ own. IsStatedBy self.old.lines.version own.now.words (Rma line.now (option_copied request))) }
+        ensures { OnOk result ((text : Option (List ℕ)) → IsSite self.old.lines.calls site text → Reads self.old self.new no (record { event = Rma line.now (option_copied request.entry); site = text })) }
     {
-        match self.book.access(line, request.as_ref())? {
+        match self.book.access(line, request)? {
             JudgedAccess::Bad(reason) => {
                 self.refuse(no, reason);
                 Ok(())
             }
-            JudgedAccess::Good { what, request } => self.take(no, site, what, request),
+            JudgedAccess::Good {
+                what,
+                request: made,
+            } => self.take(no, words, site, what, request, made),
         }
     }
 
     // Judges a local access, and takes it where it is good.
-    fn read_local(&mut self, no: LineNo, site: Option<u32>, line: &LocalLine) -> Result<(), Memory>
+    fn read_local(
+        &mut self,
+        no: LineNo,
+        words: Option<&SplitLine<'_>>,
+        site: Option<u32>,
+        line: &LocalLine,
+    ) -> Result<(), Memory>
         requires fault { self.old.fault ≡ None }
         requires site { (text : Option (List ℕ)) × IsSite self.old.lines.calls site text }
+        requires words { IfSome words (λ own. IsStatedBy self.old.lines.version own.now.words (Local line.now)) }
         ensures { OnOk result ((text : Option (List ℕ)) → IsSite self.old.lines.calls site text → Reads self.old self.new no (record { event = Local line.now; site = text })) }
     {
         match self.book.local(line)? {
@@ -201,27 +243,54 @@ impl Reader {
                 self.refuse(no, reason);
                 Ok(())
             }
-            JudgedAccess::Good { what, request } => self.take(no, site, what, request),
+            JudgedAccess::Good { what, request } => {
+                self.take(no, words, site, what, None, request)
+            }
         }
     }
 
-    // Appends a call that does this.
+    // Appends an access that does this, whose request has this name and this number. The words of its line are noted, if they
+    // state it by themselves.
+    #[inline]
     fn take(
         &mut self,
         no: LineNo,
+        words: Option<&SplitLine<'_>>,
         site: Option<u32>,
         what: What,
-        request: Option<u32>,
+        request: Option<&Name>,
+        number: Option<u32>,
     ) -> Result<(), Memory>
         requires site { (text : Option (List ℕ)) × IsSite self.old.lines.calls site text }
-        requires request { IfSome request (λ number. number + 1 < 2 ^ 32) }
-        ensures { OnOk result ((text : Option (List ℕ)) → IsSite self.old.lines.calls site text → Appends self.old self.new (call_with no text request what)) }
+        requires number { IfSome number (λ number. number + 1 < 2 ^ 32) }
+        ensures { OnOk result ((text : Option (List ℕ)) → IsSite self.old.lines.calls site text
+            → Appends self.old self.new (option_map (λ line. line.now.words) words.entry) (option_copied request.entry) (call_with no text number what)) }
     {
-        let number = self.lines.add_what(what)?;
-        self.lines.push(no, site, number, request)
+        let what = self.add(words, what, request, false)?;
+        self.lines.push(no, site, what, number)
     }
 
-    // Judges a call, and takes it where it is good.
+    // Gives a number to what a call does, whose request has this name. The words of its line are noted, if they state it by
+    // themselves; it is said whether they do so whatever the datatypes are.
+    #[inline]
+    fn add(
+        &mut self,
+        words: Option<&SplitLine<'_>>,
+        what: What,
+        request: Option<&Name>,
+        lasts: bool,
+    ) -> Result<u32, Memory>
+        ensures number { IfOk result (λ number. slice_get self.new.lines.calls.whats number ≡ Some what) }
+        ensures adds { OnOk result (Adds self.old self.new (option_map (λ line. line.now.words) words.entry) what (option_copied request.entry) lasts) }
+    {
+        let number = self.lines.add_what(what)?;
+        if let Some(line) = words {
+            self.lines.note(line, number, request, lasts)?;
+        }
+        Ok(number)
+    }
+
+    // Judges a call that does what has this number, and takes it where it is good.
     fn read_call(
         &mut self,
         no: LineNo,
@@ -231,8 +300,9 @@ impl Reader {
     ) -> Result<(), Memory>
         requires fault { self.old.fault ≡ None }
         requires what { what < length self.old.lines.calls.whats }
-        requires site { IfSome site (λ number. number < length self.old.lines.calls.sites) }
-        ensures { OnOk result ((stated : Stated) → IsEvent self.old.lines.calls (read.Call what request) stated.event → IsSite self.old.lines.calls site stated.site → Reads self.old self.new no stated) }
+        requires site { (text : Option (List ℕ)) × IsSite self.old.lines.calls site text }
+        ensures { OnOk result ((does : What) (event : Event) (text : Option (List ℕ)) → slice_get self.old.lines.calls.whats what ≡ Some does → IsCallOf self.old.book.types does request event
+            → IsSite self.old.lines.calls site text → Reads self.old self.new no (record { event = event; site = text })) }
     {
         let judged = self.book.call(self.lines.what(what), request.as_ref())?;
         match judged {

@@ -1,3 +1,4 @@
 pub mod WordLemmas
 pub mod SiteLemmas
+pub mod SlotLemmas
 pub mod ReaderLemmas

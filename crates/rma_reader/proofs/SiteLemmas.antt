@@ -13,7 +13,7 @@ use Rattle.rma_form.specs.declared.event.Stated.{Stated}
 use Rattle.rma_form.specs.declared.form.LineForm.{LineForm}
 use Rattle.rma_form.specs.Forms.{event_of, form_of, kind_words}
 use Rattle.rma_form.specs.Lines.{begins_with, behind_at, counted, fields_of, last_or, read_words, reading, site_of, site_text, stated_by, stated_in, states}
-use Rattle.rma_reader.specs.inside.Split.{stated_at}
+use Rattle.rma_reader.specs.Split.{IsSplit}
 use Rattle.rma_reader.proofs.WordLemmas.{texts_fields_last}
 
 -- a step that went well
@@ -22,8 +22,12 @@ bind_ok (Ok a) next b is = (a, refl, is)
 bind_ok (Err reason) next b is = absurd (cc is)
 
 -- what is stated of an event at a site
-abbrev at_site : Event → Option (List ℕ) → Stated
+abbrev pub at_site : Event → Option (List ℕ) → Stated
 at_site event site = record { event = event; site = site }
+
+-- what a line states whose words state this event, where this is the text of its site
+abbrev pub stated_at : Event → Option (List ℕ) → Result (Option Stated) FormReason
+stated_at event text = site_of text >>= λ site. Ok (Some (at_site event site))
 
 -- the event at a site, if that is a good one
 abbrev sited : Event → Option (List ℕ) → Result Stated FormReason
@@ -103,3 +107,8 @@ pub reading_site : (v : Version) (line words site : List ℕ) (blank : ℕ) (eve
     → states v words (record { event = event; site = None }) → reading v line ≡ stated_at event (Some site)
 reading_site v line words site blank event gap all is said =
     ap (reading v) is ∙ ap (read_words v) (texts_fields_last words blank 64 site gap all) ∙ words_site v (texts (fields words)) event site said
+
+-- what a line states whose words state an event
+pub reading_split : (v : Version) (line words : List ℕ) (site : Option (List ℕ)) (event : Event) → IsSplit line words site → states v words (record { event = event; site = None }) → reading v line ≡ stated_at event site
+reading_split v line words None event split said = ap (reading v) (sym split) ∙ said
+reading_split v line words (Some site) event split said = reading_site v line words site split.0 event split.1 split.2 split.3 said

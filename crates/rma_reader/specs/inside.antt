@@ -1,5 +1,3 @@
-pub mod Split
-pub mod Known
-pub mod Slots
+pub mod Dated
 pub mod Tables
 pub mod SiteSlots

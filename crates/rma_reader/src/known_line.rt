@@ -1,73 +1,113 @@
-//! What the words of a line state.
-ghost use Rattle.std.specs.Prelude.{◌≡◌, IfOk, true};
+//! The words of a line that came before.
+ghost use Rattle.std.specs.Prelude.{◌≡◌, IfOk, IfSome, is_none, true};
+ghost use Rattle.std.specs.Option.{option_copied};
 
-use crate::read_line::ReadEvent;
-use rma_base::{Memory, Version};
+use rma_base::{Memory, Name, Version};
 use std::alloc::Global;
 use std::marker::Model;
 
-/// The words of a line without its site, and the call that they state. All of it stands in a place of its own: most slots of the
-/// known lines are empty, and take the room of a pointer.
+/// The words of a line without its site, with the call that they state. Most slots have none, so a slot has a pointer.
 #[derive(Drop)]
 pub(crate) struct KnownLine {
     stated: Box<StatedWords>,
 }
 
-/// Words and the call that they state.
+/// The words of a line, with the call that they state.
 #[derive(Drop)]
 struct StatedWords {
-    /// The version of the format in which they state it.
+    /// The version of the format in which they were read.
     version: Version,
     /// The words.
     words: Vec<u8>,
-    /// What they state: a call.
-    event: ReadEvent,
+    /// The number of what the call does.
+    what: u32,
+    /// The request that it makes or completes.
+    request: Option<Name>,
+    /// The era in which it does that; none where it does so in each.
+    era: Option<u64>,
 }
 
 impl Model for KnownLine {
-    ghost use Rattle.rma_reader.specs.inside.Known.{Known};
+    ghost use Rattle.std.specs.Prelude.{is_none};
+    ghost use Rattle.rma_reader.specs.inside.Dated.{Dated};
 
-    ghost Value = { Known };
+    ghost Value = { Dated };
 
-    ghost view = { λ line. record { version = line.stated.value.version; words = line.stated.value.words.items; event = line.stated.value.event } };
+    ghost view = { λ line. record {
+      known = record {
+        version = line.stated.value.version;
+        words = line.stated.value.words.items;
+        what = line.stated.value.what;
+        request = line.stated.value.request;
+        lasts = is_none line.stated.value.era;
+      };
+      era = line.stated.value.era;
+    } };
 }
 
 impl KnownLine {
-    /// The line of these words, which state this in this version.
+    /// These words, with the call that they state.
     pub(crate) fn new(
         alloc: Global,
         version: Version,
         words: &[u8],
-        event: ReadEvent,
+        what: u32,
+        request: Option<&Name>,
+        era: Option<u64>,
     ) -> Result<KnownLine, Memory>
-        ensures { IfOk result (λ line. line ≡ record { version = version; words = words.now; event = event }) }
+        ensures { IfOk result (λ line. line ≡ record {
+          known = record { version = version; words = words.now; what = what; request = option_copied request.entry; lasts = is_none era };
+          era = era;
+        }) }
     {
         let words = Vec::from_slice(alloc, words)?;
+        let request = match request {
+            Some(name) => Some(name.copy()?),
+            None => None,
+        };
         let stated = StatedWords {
             version,
             words,
-            event,
+            what,
+            request,
+            era,
         };
         Ok(KnownLine {
             stated: Box::new(alloc, stated)?,
         })
     }
 
-    /// Whether these are its version and its words.
+    /// Whether it is these words, read in this version, and states the same call in this era.
     #[inline]
-    pub(crate) fn is(&self, version: Version, words: &[u8]) -> bool
-        ensures version { result ≡ true → self.now.version ≡ version }
-        ensures words { result ≡ true → self.now.words ≡ words.now }
+    pub(crate) fn is(&self, version: Version, words: &[u8], era: u64) -> bool
+        ensures version { result ≡ true → self.now.known.version ≡ version }
+        ensures words { result ≡ true → self.now.known.words ≡ words.now }
+        ensures era { result ≡ true → IfSome self.now.era (λ own. own ≡ era) }
     {
         let stated = &self.stated;
-        stated.version == version && stated.words.as_slice() == words
+        let lasts = match stated.era {
+            Some(own) => own == era,
+            None => true,
+        };
+        lasts && stated.version == version && stated.words.as_slice() == words
     }
 
-    /// What they state.
+    /// The number of what the call does.
     #[inline]
-    pub(crate) fn event(&self) -> &ReadEvent
-        ensures { result.now ≡ self.now.event }
+    pub(crate) fn what(&self) -> u32
+        ensures { result ≡ self.now.known.what }
     {
-        &self.stated.event
+        self.stated.what
+    }
+
+    /// The request that the call makes or completes.
+    #[inline]
+    pub(crate) fn request(&self) -> Result<Option<Name>, Memory>
+        ensures { IfOk result (λ request. request ≡ self.now.known.request) }
+    {
+        match &self.stated.request {
+            Some(name) => Ok(Some(name.copy()?)),
+            None => Ok(None),
+        }
     }
 }

@@ -1,131 +1,184 @@
 //! The lines that a log repeats.
-ghost use Rattle.std.specs.Prelude.{IfOk, IfSome, List};
-ghost use Rattle.rma_call.specs.declared.what.What.{What};
-ghost use Rattle.rma_reader.specs.inside.Known.{IsKnown, IsStatedBy};
-ghost use Rattle.rma_reader.specs.inside.Slots.{AreKept};
+ghost use Rattle.std.specs.Prelude.{◌≡◌, ◌⊎◌, true, All, None, Some, IfSome, IfOk, slice_set, if◌then◌else◌};
+ghost use Rattle.std.specs.Option.{option_copied};
+ghost use Rattle.rma_reader.specs.Known.{Known, IsAmong};
 
-use crate::copy::copy;
 use crate::known_line::KnownLine;
-use crate::read_line::ReadEvent;
-use rma_base::{Memory, Version};
+use crate::split_line::SplitLine;
+use rma_base::{Memory, Name, Version};
 use std::alloc::Global;
+use std::marker::Model;
 
-/// How many lines are known at most.
+/// How many known lines are kept.
 const SLOTS: usize = 1_024;
 
-/// What is remembered of the keys that came to a slot: parts of them.
+/// The keys of a slot.
 #[derive(Clone, Copy, Drop)]
 struct Keys {
-    /// The key of the words that are known in the slot.
+    /// Part of the key of the words that the slot has; or 0, and then nearly always none.
     known: u32,
-    /// The key of the words that came last to the slot and were not known.
+    /// The same of the words that came last to it.
     last: u32,
 }
 
-/// The lines that a log repeats, each in the slot that the key of its words gives. The keys stand apart from the lines, close
-/// together: words that are not known are seldom compared with a line.
+/// The words of lines that came again, each in the slot that its key gives, with the calls that they state. What an access does
+/// depends on the datatypes: it is known until they change, which begins another era.
 #[derive(Drop)]
 pub(crate) struct KnownLines {
-    /// The keys, `SLOTS` of them.
     keys: Vec<Keys>,
-    /// The lines, as many.
     slots: Vec<Option<KnownLine>>,
+    /// How often the datatypes changed.
+    era: u64,
+}
+
+impl Model for KnownLines {
+    ghost use Rattle.std.specs.Prelude.{List, Option, map, All};
+    ghost use Rattle.rma_reader.specs.Known.{Known};
+    ghost use Rattle.rma_reader.specs.inside.Dated.{IsDated, kept_at};
+
+    ghost Value = { List (Option Known) };
+
+    ghost view = { λ lines. map (kept_at lines.era) lines.slots.items };
+
+    ghost invariant = { λ lines. All (IsDated lines.era) lines.slots.items };
 }
 
 impl KnownLines {
-    /// No line is known.
+    /// No lines.
     pub(crate) fn new(alloc: Global) -> Result<KnownLines, Memory>
-        ensures { IfOk result (λ lines. (whats : List What) → AreKept whats lines.slots.items) }
+        ensures { IfOk result (λ lines. (known : Known) → IsAmong lines known → ⊥) }
     {
-        let mut keys = Vec::with_capacity(alloc, SLOTS)?;
-        let mut slots = Vec::with_capacity(alloc, SLOTS)?;
-        for _ in 0..SLOTS {
-            keys.push(Keys { known: 0, last: 0 })?;
-            slots.push(None)?;
-        }
-        Ok(KnownLines { keys, slots })
+        Ok(KnownLines {
+            keys: no_keys(alloc)?,
+            slots: no_lines(alloc)?,
+            era: 0,
+        })
     }
 
-    /// The call that these words state in this version, if they are known. This is the key of the words.
+    /// The known line of these words, of which this is the key, read in this version.
     #[inline]
-    pub(crate) fn event(&self, key: u64, version: Version, words: &[u8]) -> Option<&ReadEvent>
-        ensures { IfSome result (λ event. (whats : List What) → AreKept whats self.now.slots.items → IsStatedBy version whats words.now event.now) }
+    pub(crate) fn find(&self, key: u64, version: Version, words: &[u8]) -> Option<&KnownLine>
+        ensures among { IfSome result (λ line. IsAmong self.now line.now.known) }
+        ensures version { IfSome result (λ line. line.now.known.version ≡ version) }
+        ensures words { IfSome result (λ line. line.now.known.words ≡ words.now) }
     {
         if !self.has_key(key) {
             return None;
         }
         match self.slots.get(slot_of(key)) {
-            Some(Some(line)) if line.is(version, words) => Some(line.event()),
+            Some(Some(line)) if line.is(version, words, self.era) => Some(line),
             _ => None,
         }
     }
 
-    /// Whether words of this key may be known.
+    /// Whether words of this key, or of one like it, may be known: they tell without a look at the line.
     #[inline]
-    pub(crate) fn has_key(&self, key: u64) -> bool {
+    fn has_key(&self, key: u64) -> bool {
         match self.keys.get(slot_of(key)) {
             Some(keys) => keys.known == part_of(key),
             None => false,
         }
     }
 
-    /// Keeps these words with the call that they state in this version, where they come again. A line that comes once is not
-    /// kept, and takes no memory.
+    /// Notes that these words, read in this version, state a call that does this, where they come again: then the slot has this
+    /// line. It is said whether they state the same call whatever the datatypes are.
     pub(crate) fn note(
         &mut self,
         alloc: Global,
-        key: u64,
         version: Version,
-        words: &[u8],
-        event: &ReadEvent,
+        line: &SplitLine<'_>,
+        what: u32,
+        request: Option<&Name>,
+        lasts: bool,
     ) -> Result<(), Memory>
-        ensures { (whats : List What) → AreKept whats self.old.slots.items → IsStatedBy version whats words.now event.now → AreKept whats self.new.slots.items }
+        ensures { (known : Known) → IsAmong self.new known
+            → IsAmong self.old known ⊎ (known ≡ record { version = version; words = line.now.words; what = what; request = option_copied request.entry; lasts = lasts }) }
     {
-        if !self.comes_again(key) {
+        let key = line.key();
+        if !comes_again(&mut self.keys, key) {
             return Ok(());
         }
-        let Some(event) = copy(event)? else {
-            return Ok(());
-        };
-        let line = KnownLine::new(alloc, version, words, event)?;
-        self.keep(key, line);
+        let era = era_of(lasts, self.era);
+        let known = KnownLine::new(alloc, version, line.words(), what, request, era)?;
+        has_now(&mut self.keys, key);
+        put(&mut self.slots, slot_of(key), known);
         Ok(())
     }
 
-    /// Whether words of this key came last to their slot without being known there; they did now.
-    fn comes_again(&mut self, key: u64) -> bool
-        ensures { (whats : List What) → AreKept whats self.old.slots.items → AreKept whats self.new.slots.items }
+    /// The datatypes have changed: no access is known.
+    pub(crate) fn forget_accesses(&mut self)
+        ensures among { (known : Known) → IsAmong self.new known → IsAmong self.old known }
+        ensures lasting { (known : Known) → IsAmong self.new known → known.lasts ≡ true }
     {
-        match self.keys.get_mut(slot_of(key)) {
-            Some(keys) => {
-                let again = keys.last == part_of(key);
-                keys.last = part_of(key);
-                again
-            }
-            None => false,
-        }
-    }
-
-    /// Keeps the line of this key in place of the one that was known in its slot.
-    fn keep(&mut self, key: u64, line: KnownLine)
-        ensures { (whats : List What) → AreKept whats self.old.slots.items → IsKnown whats line → AreKept whats self.new.slots.items }
-    {
-        if let Some(keys) = self.keys.get_mut(slot_of(key)) {
-            keys.known = part_of(key);
-        }
-        if let Some(slot) = self.slots.get_mut(slot_of(key)) {
-            *slot = Some(line);
+        match self.era.checked_add(1) {
+            Some(era) => self.era = era,
+            None => self.slots.clear(),
         }
     }
 }
 
-/// The slot of words of this key.
+/// Whether the words that came last to the slot of this key had it too. From now on these are the last.
+fn comes_again(keys: &mut Vec<Keys>, key: u64) -> bool {
+    match keys.get_mut(slot_of(key)) {
+        Some(keys) => {
+            let again = keys.last == part_of(key);
+            keys.last = part_of(key);
+            again
+        }
+        None => false,
+    }
+}
+
+/// The slot of this key has words of this key from now on.
+fn has_now(keys: &mut Vec<Keys>, key: u64) {
+    if let Some(keys) = keys.get_mut(slot_of(key)) {
+        keys.known = part_of(key);
+    }
+}
+
+/// The era in which words state what they do; none, where they do so in each.
+fn era_of(lasts: bool, era: u64) -> Option<u64>
+    ensures { result ≡ (if lasts then None else Some era) }
+{
+    if lasts { None } else { Some(era) }
+}
+
+/// Has the line in this slot, if there is such a slot.
+fn put(slots: &mut Vec<Option<KnownLine>>, at: usize, line: KnownLine)
+    ensures { slots.new.items ≡ slice_set slots.old.items at (Some line) }
+{
+    if let Some(slot) = slots.get_mut(at) {
+        *slot = Some(line);
+    }
+}
+
+/// The keys of slots that had no words.
+fn no_keys(alloc: Global) -> Result<Vec<Keys>, Memory> {
+    let mut keys = Vec::with_capacity(alloc, SLOTS)?;
+    for _ in 0..SLOTS {
+        keys.push(Keys { known: 0, last: 0 })?;
+    }
+    Ok(keys)
+}
+
+/// Slots without lines.
+fn no_lines(alloc: Global) -> Result<Vec<Option<KnownLine>>, Memory>
+    ensures { IfOk result (λ slots. All (λ slot. slot ≡ None) slots.items) }
+{
+    let mut slots = Vec::with_capacity(alloc, SLOTS)?;
+    for _ in 0..SLOTS {
+        slots.push(None)?;
+    }
+    Ok(slots)
+}
+
+/// The slot of a key.
 #[inline]
 fn slot_of(key: u64) -> usize {
     (key % SLOTS as u64) as usize
 }
 
-/// The part of a key that is remembered, which its slot does not tell.
+/// The part of a key by which lines of one slot are told apart, mostly.
 #[inline]
 fn part_of(key: u64) -> u32 {
     (key >> 32) as u32

@@ -1,7 +1,7 @@
 //! The sites that a log repeats.
 ghost use Rattle.std.specs.Prelude.{◌≡◌, IfOk, IfSome, List, true};
 ghost use Rattle.rma_call.specs.Call.{CallTable};
-ghost use Rattle.rma_reader.specs.inside.Tables.{IsNumbered};
+ghost use Rattle.rma_reader.specs.Sites.{IsNumbered};
 ghost use Rattle.rma_reader.specs.inside.SiteSlots.{AreNumbered};
 
 use rma_base::{Memory, Site};

@@ -1,15 +1,14 @@
 //! The lines of one log, read one after another.
 //!
 //! A [`LineReader`] answers of each line what `rma_parse::parse_line` answers, and keeps what calls do and their sites in the
-//! tables of the list of calls that it fills: a [`ReadLine`] has their numbers there. A line comes as a [`SplitLine`], and is
-//! asked for as one that is known first: a [`KnownCall`].
+//! tables of the list of calls that it fills. A line comes as a [`SplitLine`], and is asked for as one that is known first: a
+//! [`KnownCall`].
 //!
-//! A program makes its calls at a few places over and over, so the reader remembers the words that come again, with the number
-//! of what they state, and it keeps each site once. What words state depends on the version of the format alone, so nothing
-//! that is remembered can be wrong, and no answer depends on it.
+//! A program makes its calls at a few places over and over, so the reader remembers the words that come again with the number
+//! of what they state, as it is told by [`LineReader::note`], and it keeps each site once. What the words of an access state
+//! depends on the datatypes too: [`LineReader::forget_accesses`] is called where those change.
 #![tactic(auto)]
 
-mod copy;
 mod key;
 mod known_line;
 mod known_lines;
@@ -21,6 +20,6 @@ mod shared_sites;
 mod split_line;
 
 pub use line_reader::LineReader;
-pub use read_line::{KnownCall, ReadEvent, ReadLine};
+pub use read_line::{KnownCall, ReadLine};
 pub use shared_sites::SharedSites;
 pub use split_line::SplitLine;

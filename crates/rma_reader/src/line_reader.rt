@@ -1,27 +1,27 @@
 //! Reading the lines of one log.
-ghost use Rattle.std.specs.Prelude.{◌≡◌, ◌+◌, ◌<◌, ◌^◌, ◌++◌, ◌∷◌, [], length, slice_get, IfOk, IfErr, IfSome, MatchOption, None, Ok, OnOk, Some, option_map};
-ghost use Rattle.std.specs.Option.{option_and_then};
-ghost use Rattle.rma_base.specs.declared.version.Version.TheVariants as version;
+ghost use Rattle.std.specs.Prelude.{◌≡◌, ◌+◌, ◌<◌, ◌^◌, ◌++◌, ◌∷◌, ◌⊎◌, [], length, slice_get, IfOk, IfErr, IfSome, MatchOption, None, Ok, OnOk, Some, true};
+ghost use Rattle.std.specs.Option.{option_and_then, option_copied};
+ghost use Rattle.rma_base.specs.declared.version.Version.TheVariants.{One};
 ghost use Rattle.rma_call.specs.declared.what.What.{What};
 ghost use Rattle.rma_call.specs.Call.{no_calls, what_of};
 ghost use Rattle.rma_form.specs.declared.event.Stated.{Stated};
 ghost use Rattle.rma_form.specs.declared.event.Event.{Event};
-ghost use Rattle.rma_form.specs.Lines.{reading, states};
+ghost use Rattle.rma_form.specs.Lines.{reading, site_of, states};
 ghost use Rattle.rma_field.specs.Steps.{Fails};
-ghost use Rattle.rma_reader.specs.Reading.{Grows, IsEvent, IsRead, line_of};
-ghost use Rattle.rma_reader.specs.inside.Known.{IsStatedBy};
-ghost use Rattle.rma_reader.specs.inside.Split.{stated_at};
+ghost use Rattle.rma_reader.specs.Known.{Known, IsAmong, IsKnownLine};
+ghost use Rattle.rma_reader.specs.Reading.{Grows, IsRead};
+ghost use Rattle.rma_reader.specs.Sites.{IsSiteOf};
 ghost use Rattle.rma_reader.specs.inside.Tables.{Reads};
 
-use crate::copy::{copy, copy_request};
 use crate::known_lines::KnownLines;
 use crate::numbered_calls::NumberedCalls;
-use crate::read_line::{KnownCall, ReadEvent, ReadLine};
+use crate::read_line::{KnownCall, ReadLine};
 use crate::shared_sites::SharedSites;
 use crate::split_line::{SplitLine, is_comment};
-use rma_base::{LineNo, Memory, Version};
+use rma_base::{LineNo, Memory, Name, Version};
 use rma_call::{CallList, What, WhatRef};
-use rma_parse::{Event, ParseError, Stated, Texts, parse_line};
+use rma_form::{Event, Stated};
+use rma_parse::{ParseError, Texts, parse_line};
 use std::alloc::Global;
 use std::marker::Model;
 
@@ -39,21 +39,24 @@ pub struct LineReader {
 }
 
 impl Model for LineReader {
+    ghost use Rattle.std.specs.Prelude.{length};
     ghost use Rattle.rma_reader.specs.Reading.{Reading};
-    ghost use Rattle.rma_reader.specs.inside.Slots.{AreKept};
+    ghost use Rattle.rma_reader.specs.inside.Dated.{AreNumbered};
 
     ghost Value = { Reading };
 
-    ghost view = { λ reader. record { version = reader.version; calls = reader.calls } };
+    ghost view = { λ reader. record { version = reader.version; calls = reader.calls; known = reader.lines } };
 
-    ghost invariant = { λ reader. AreKept reader.calls.whats reader.lines.slots.items };
+    ghost invariant = { λ reader. AreNumbered (length reader.calls.whats) reader.lines };
 }
 
 impl LineReader {
     /// A reader that read no line yet, of a log that shares these sites with others. It reads lines in the first version of
     /// the format.
     pub fn new(alloc: Global, sites: &SharedSites) -> Result<LineReader, Memory>
-        ensures { IfOk result (λ reader. reader ≡ record { version = version.One; calls = no_calls }) }
+        ensures version { IfOk result (λ reader. reader.version ≡ One) }
+        ensures calls { IfOk result (λ reader. reader.calls ≡ no_calls) }
+        ensures known { IfOk result (λ reader. (known : Known) → IsAmong reader.known known → ⊥) }
     {
         let sites = sites.share()?;
         Ok(LineReader {
@@ -71,155 +74,135 @@ impl LineReader {
         self.version = version;
     }
 
-    /// The call that the line states, where its words came before. Its site stands in the tables then.
+    /// The call that the line states, where its words are known. Its site stands in the tables then.
     ///
     /// # Errors
     ///
-    /// That the site is bad, or that memory ran out.
+    /// The site is bad, or memory ran out.
     #[inline]
     pub fn known(&mut self, line: &SplitLine<'_>) -> Result<Option<KnownCall>, ParseError>
-        ensures call { IfOk result (λ call. IfSome call (λ call. (stated : Stated) × (reading self.old.version line.now ≡ Ok (Some stated)) × IsRead self.new.calls (line_of call) stated)) }
-        ensures err { IfErr result (λ error. Fails error (reading self.old.version line.now)) }
+        ensures call { IfOk result (λ call. IfSome call (λ call. (known : Known) × IsKnownLine self.old.known self.old.version line.now known
+            × (call.what ≡ known.what) × (call.request ≡ known.request) × IsSiteOf self.new.calls line.now.site call.site)) }
+        ensures within { IfOk result (λ call. IfSome call (λ call. call.what < length self.new.calls.whats)) }
+        ensures err { IfErr result (λ error. (known : Known) × IsKnownLine self.old.known self.old.version line.now known × Fails error (site_of line.now.site)) }
         ensures none { result ≡ Ok None → self.new ≡ self.old }
         ensures grows { Grows self.old self.new }
     {
-        let (words, site) = line.parts();
-        let Some(ReadEvent::Call { what, request }) = self
-            .lines
-            .event(line.key(), self.version, words)
-        else {
+        let text = line.site();
+        let Some(known) = self.lines.find(line.key(), self.version, line.words()) else {
             return Ok(None);
         };
-        let site = match self.calls.site_at(self.texts.allocator(), site) {
+        let what = known.what();
+        let Ok(request) = known.request() else {
+            return Err(ParseError::Memory);
+        };
+        let site = match self.calls.site_at(self.texts.allocator(), text) {
             Ok(site) => site,
             Err(error) => return Err(error),
         };
-        let Ok(request) = copy_request(request) else {
-            return Err(ParseError::Memory);
-        };
         Ok(Some(KnownCall {
-            what: *what,
+            what,
             request,
             site,
         }))
     }
 
-    /// What the line states; nothing, where it is blank or a comment. What a call does and its site stand in the tables then.
+    /// What the line states. Its site stands in the tables then.
     ///
     /// # Errors
     ///
-    /// The first reason for which the line is bad, or that memory ran out: just as `parse_line`.
+    /// The first reason for which the line is bad, or that memory ran out.
     pub fn read(&mut self, line: &SplitLine<'_>) -> Result<Option<ReadLine>, ParseError>
-        ensures ok { IfOk result (λ read. MatchOption read (reading self.old.version line.now ≡ Ok None)
-            (λ read. (stated : Stated) × (reading self.old.version line.now ≡ Ok (Some stated)) × IsRead self.new.calls read stated)) }
-        ensures err { IfErr result (λ error. Fails error (reading self.old.version line.now)) }
+        ensures ok { IfOk result (λ read. MatchOption read (reading self.old.version line.now.line ≡ Ok None)
+            (λ read. (stated : Stated) × (reading self.old.version line.now.line ≡ Ok (Some stated)) × IsRead self.new.calls read stated)) }
+        ensures words { IfOk result (λ read. IfSome read (λ read. read.by_words ≡ true → states self.old.version line.now.words (record { event = read.event; site = None }))) }
+        ensures err { IfErr result (λ error. Fails error (reading self.old.version line.now.line)) }
         ensures grows { Grows self.old self.new }
     {
         if is_comment(line.line()) {
-            return self.read_whole(line.line());
+            return self.read_whole(line);
         }
-        self.read_words(line)
-    }
-
-    /// What the line states, by its words.
-    fn read_words(&mut self, line: &SplitLine<'_>) -> Result<Option<ReadLine>, ParseError>
-        ensures read { Reads self.new.calls result (reading self.old.version line.now) }
-        ensures grows { Grows self.old self.new }
-    {
-        if self.lines.has_key(line.key()) {
-            self.read_again(line)
-        } else {
-            self.read_new(line)
-        }
-    }
-
-    /// What the line states, by its words, which may be known. It stands apart, so that new lines do not pay for the room that
-    /// it takes.
-    #[inline(never)]
-    fn read_again(&mut self, line: &SplitLine<'_>) -> Result<Option<ReadLine>, ParseError>
-        ensures read { Reads self.new.calls result (reading self.old.version line.now) }
-        ensures grows { Grows self.old self.new }
-    {
-        let (words, site) = line.parts();
-        match self.known_event(line.key(), words) {
-            Ok(Some(event)) => self.calls.read_at(self.texts.allocator(), event, site),
-            Ok(None) => self.read_whole(line.line()),
-            Err(Memory) => Err(ParseError::Memory),
-        }
-    }
-
-    /// The call that these words state, if they are known. This is their key.
-    fn known_event(&self, key: u64, words: &[u8]) -> Result<Option<ReadEvent>, Memory>
-        ensures { IfOk result (λ event. IfSome event (IsStatedBy self.now.version self.now.calls.whats words.now)) }
-    {
-        match self.lines.event(key, self.version, words) {
-            Some(event) => copy(event),
-            None => Ok(None),
-        }
-    }
-
-    /// What the line states, by its words, which are not known.
-    fn read_new(&mut self, line: &SplitLine<'_>) -> Result<Option<ReadLine>, ParseError>
-        ensures read { Reads self.new.calls result (reading self.old.version line.now) }
-        ensures grows { Grows self.old self.new }
-    {
-        let (words, site) = line.parts();
-        match parse_line(&mut self.texts, self.version, words) {
+        match parse_line(&mut self.texts, self.version, line.words()) {
             Ok(Some(stated)) => {
                 let Stated { event, site: own } = stated;
                 match own {
-                    None => self.read_event(line.key(), words, event, site),
-                    Some(_) => self.read_whole(line.line()),
+                    None => self.read_event(line, event),
+                    Some(_) => self.read_whole(line),
                 }
             }
             Err(ParseError::Memory) => Err(ParseError::Memory),
-            _ => self.read_whole(line.line()),
+            _ => self.read_whole(line),
         }
     }
 
-    /// What is read where the words of a line state this event and were not known, and this is the text of its site.
+    /// What the line states whose words state the event.
+    #[inline]
     fn read_event(
         &mut self,
-        key: u64,
-        words: &[u8],
+        line: &SplitLine<'_>,
         event: Event,
-        site: Option<&[u8]>,
     ) -> Result<Option<ReadLine>, ParseError>
-        requires { states self.old.version words.now (record { event = event; site = None }) }
-        ensures read { Reads self.new.calls result (stated_at event (option_map (λ text. text.now) site.entry)) }
+        requires { states self.old.version line.now.words (record { event = event; site = None }) }
+        ensures read { Reads self.new.calls self.old.version line.now result }
         ensures grows { Grows self.old self.new }
     {
-        match self.note(key, words, event) {
-            Ok(event) => self.calls.read_at(self.texts.allocator(), event, site),
-            Err(Memory) => Err(ParseError::Memory),
-        }
+        let site = match self.calls.site_at(self.texts.allocator(), line.site()) {
+            Ok(site) => site,
+            Err(error) => return Err(error),
+        };
+        Ok(Some(ReadLine {
+            event,
+            site,
+            by_words: true,
+        }))
     }
 
-    /// The event that these words state, by numbers. The words are kept where they come again.
-    fn note(&mut self, key: u64, words: &[u8], event: Event) -> Result<ReadEvent, Memory>
-        requires { states self.old.version words.now (record { event = event; site = None }) }
-        ensures event { IfOk result (λ read. IsEvent self.new.calls read event) }
-        ensures grows { Grows self.old self.new }
-    {
-        let event = self.calls.read_event(event)?;
-        let alloc = self.texts.allocator();
-        self.lines.note(alloc, key, self.version, words, &event)?;
-        Ok(event)
-    }
-
-    /// What the whole line states.
+    /// What the line states, read as one text.
     #[inline(never)]
-    fn read_whole(&mut self, line: &[u8]) -> Result<Option<ReadLine>, ParseError>
-        ensures read { Reads self.new.calls result (reading self.old.version line.now) }
+    fn read_whole(&mut self, line: &SplitLine<'_>) -> Result<Option<ReadLine>, ParseError>
+        ensures read { Reads self.new.calls self.old.version line.now result }
         ensures grows { Grows self.old self.new }
     {
-        let Some(stated) = parse_line(&mut self.texts, self.version, line)? else {
+        let Some(stated) = parse_line(&mut self.texts, self.version, line.line())? else {
             return Ok(None);
         };
-        match self.calls.read(self.texts.allocator(), stated) {
-            Ok(read) => Ok(Some(read)),
+        let Stated { event, site } = stated;
+        match self.calls.number_site(self.texts.allocator(), site) {
+            Ok(site) => Ok(Some(ReadLine {
+                event,
+                site,
+                by_words: false,
+            })),
             Err(Memory) => Err(ParseError::Memory),
         }
+    }
+
+    /// Notes that the words of a line state a call that does this, so that it is known when they come again. It is said whether
+    /// they do so whatever the datatypes are.
+    pub fn note(
+        &mut self,
+        line: &SplitLine<'_>,
+        what: u32,
+        request: Option<&Name>,
+        lasts: bool,
+    ) -> Result<(), Memory>
+        requires { what < length self.old.calls.whats }
+        ensures known { (known : Known) → IsAmong self.new.known known → IsAmong self.old.known known
+            ⊎ (known ≡ record { version = self.old.version; words = line.now.words; what = what; request = option_copied request.entry; lasts = lasts }) }
+        ensures same { self.new ≡ record self.old { known = self.new.known } }
+    {
+        let alloc = self.texts.allocator();
+        self.lines
+            .note(alloc, self.version, line, what, request, lasts)
+    }
+
+    /// The datatypes have changed: calls that depend on them are not known any more.
+    pub fn forget_accesses(&mut self)
+        ensures among { (known : Known) → IsAmong self.new.known known → IsAmong self.old.known known }
+        ensures lasting { (known : Known) → IsAmong self.new.known known → known.lasts ≡ true }
+        ensures same { self.new ≡ record self.old { known = self.new.known } }
+    {
+        self.lines.forget_accesses();
     }
 
     /// What calls do that have this number.
@@ -231,11 +214,12 @@ impl LineReader {
         self.calls.list().what(number)
     }
 
-    /// Gives a number to what calls do.
+    /// Gives a number to what a call does.
     ///
     /// # Errors
     ///
     /// `Memory` also where the table is full.
+    #[inline]
     pub fn add_what(&mut self, what: What) -> Result<u32, Memory>
         ensures number { IfOk result (λ number. slice_get self.new.calls.whats number ≡ Some what) }
         ensures grows { Grows self.old self.new }
@@ -244,6 +228,7 @@ impl LineReader {
     }
 
     /// Appends the call of these numbers.
+    #[inline]
     pub fn push(
         &mut self,
         line: LineNo,
@@ -254,21 +239,21 @@ impl LineReader {
         requires site { IfSome site (λ number. number < length self.old.calls.sites) }
         requires what { what < length self.old.calls.whats }
         requires request { IfSome request (λ number. number + 1 < 2 ^ 32) }
-        ensures { OnOk result ((value : What) → slice_get self.old.calls.whats what ≡ Some value → self.new ≡ record self.old {
+        ensures ok { OnOk result ((value : What) → slice_get self.old.calls.whats what ≡ Some value → self.new ≡ record self.old {
           calls = record self.old.calls { calls = self.old.calls.calls ++ record { line = line; site = option_and_then (slice_get self.old.calls.sites) site; what = value; request = request } ∷ [] };
         }) }
     {
         self.calls.push(line, site, what, request)
     }
 
-    /// The calls that were appended.
+    /// The calls that were appended, with their tables.
     pub fn calls(&self) -> &CallList
         ensures { result.now ≡ self.now.calls }
     {
         self.calls.list()
     }
 
-    /// The calls that were appended, where no more lines are read.
+    /// The same calls.
     pub fn into_calls(self) -> CallList
         ensures { result ≡ self.calls }
     {

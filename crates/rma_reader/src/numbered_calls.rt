@@ -5,20 +5,17 @@ ghost use Rattle.rma_call.specs.declared.what.What.{What};
 ghost use Rattle.rma_call.specs.Call.{no_calls};
 ghost use Rattle.rma_field.specs.Sites.{site};
 ghost use Rattle.rma_field.specs.Steps.{Fails, Gives};
-ghost use Rattle.rma_form.specs.declared.event.Event.{Event};
 ghost use Rattle.rma_form.specs.Lines.{site_of};
-ghost use Rattle.rma_reader.specs.Reading.{IsEvent, IsRead, IsSite};
-ghost use Rattle.rma_reader.specs.inside.Split.{stated_at};
-ghost use Rattle.rma_reader.specs.inside.Tables.{AddsSites, AddsWhats, Extends, IsNumbered, IsSiteOf, Reads};
+ghost use Rattle.rma_reader.specs.Sites.{IsNumbered, IsSite, IsSiteOf};
+ghost use Rattle.rma_reader.specs.inside.Tables.{AddsSites, AddsWhats};
 
 use crate::key::key_of;
 use crate::known_sites::KnownSites;
-use crate::read_line::{ReadEvent, ReadLine};
 use crate::shared_sites::SharedSites;
 use indexmap::IndexMap;
 use rma_base::{FormReason, LineNo, Memory, NameError, Site};
 use rma_call::{CallList, What};
-use rma_parse::{Event, ParseError, ParseFault, Stated};
+use rma_parse::{ParseError, ParseFault};
 use std::alloc::Global;
 use std::marker::Model;
 
@@ -97,39 +94,12 @@ impl NumberedCalls {
     }
 
     /// Gives a number to what calls do.
+    #[inline]
     pub(crate) fn add_what(&mut self, what: What) -> Result<u32, Memory>
         ensures number { IfOk result (λ number. slice_get self.new.whats number ≡ Some what) }
         ensures adds { AddsWhats self.old self.new }
     {
         self.list.add_what(what)
-    }
-
-    /// What the line states, by numbers.
-    pub(crate) fn read(&mut self, alloc: Global, stated: Stated) -> Result<ReadLine, Memory>
-        ensures read { IfOk result (λ read. IsRead self.new read stated) }
-        ensures extends { Extends self.old self.new }
-    {
-        let Stated { event, site } = stated;
-        let event = self.read_event(event)?;
-        let site = self.read_site(alloc, site)?;
-        Ok(ReadLine { event, site })
-    }
-
-    /// What is read of a line whose words state this event, and this is the text of its site.
-    #[inline]
-    pub(crate) fn read_at(
-        &mut self,
-        alloc: Global,
-        event: ReadEvent,
-        site: Option<&[u8]>,
-    ) -> Result<Option<ReadLine>, ParseError>
-        ensures read { (stated : Event) → IsEvent self.old event stated → Reads self.new result (stated_at stated (option_map (λ text. text.now) site.entry)) }
-        ensures adds { AddsSites self.old self.new }
-    {
-        match self.site_at(alloc, site) {
-            Ok(site) => Ok(Some(ReadLine { event, site })),
-            Err(error) => Err(error),
-        }
     }
 
     /// The number of the site of this text, if there is one.
@@ -149,34 +119,12 @@ impl NumberedCalls {
         }
     }
 
-    /// The event, where what a call does has a number.
-    pub(crate) fn read_event(&mut self, event: Event) -> Result<ReadEvent, Memory>
-        ensures event { IfOk result (λ read. IsEvent self.new read event) }
-        ensures adds { AddsWhats self.old self.new }
-    {
-        match event {
-            Event::Header {
-                version,
-                rank,
-                size,
-            } => Ok(ReadEvent::Header {
-                version,
-                rank,
-                size,
-            }),
-            Event::End => Ok(ReadEvent::End),
-            Event::Call { call, request } => {
-                let what = self.add_what(What::Sync(call))?;
-                Ok(ReadEvent::Call { what, request })
-            }
-            Event::Datatype(line) => Ok(ReadEvent::Datatype(line)),
-            Event::Rma { line, request } => Ok(ReadEvent::Rma { line, request }),
-            Event::Local(line) => Ok(ReadEvent::Local(line)),
-        }
-    }
-
     /// The number of the site, if there is one.
-    fn read_site(&mut self, alloc: Global, site: Option<Site>) -> Result<Option<u32>, Memory>
+    pub(crate) fn number_site(
+        &mut self,
+        alloc: Global,
+        site: Option<Site>,
+    ) -> Result<Option<u32>, Memory>
         ensures site { IfOk result (λ number. IsSite self.new number site) }
         ensures adds { AddsSites self.old self.new }
     {

@@ -2,7 +2,7 @@
 ghost use Rattle.std.specs.Prelude.{◌≡◌, ◌<◌, ◌≤◌, ◌-◌, true, drop, length, slice_index, option_map};
 ghost use Rattle.std.specs.List.{list_all};
 ghost use Rattle.rma_lex.specs.Field.{is_blank, is_field};
-ghost use Rattle.rma_reader.specs.inside.Split.{IsSplit};
+ghost use Rattle.rma_reader.specs.Split.{IsSplit};
 
 use crate::key::key_of;
 use rma_lex::last_blank;
@@ -22,12 +22,12 @@ pub struct SplitLine<'a> {
 }
 
 impl<'a> Model for SplitLine<'a> {
-    ghost use Rattle.std.specs.Prelude.{ℕ, List, option_map};
-    ghost use Rattle.rma_reader.specs.inside.Split.{IsSplit};
+    ghost use Rattle.std.specs.Prelude.{option_map};
+    ghost use Rattle.rma_reader.specs.Split.{IsSplit, SplitText};
 
-    ghost Value = { List ℕ };
+    ghost Value = { SplitText };
 
-    ghost view = { λ own. own.line.now };
+    ghost view = { λ own. record { line = own.line.now; words = own.words.now; site = option_map (λ text. text.now) own.site } };
 
     ghost invariant = { λ own. IsSplit own.line.now own.words.now (option_map (λ text. text.now) own.site) };
 }
@@ -36,7 +36,7 @@ impl<'a> SplitLine<'a> {
     /// The line of this text.
     #[inline]
     pub fn new(line: &'a [u8]) -> SplitLine<'a>
-        ensures { result ≡ line.now }
+        ensures { result.line ≡ line.now }
     {
         if is_comment(line) {
             return SplitLine {
@@ -59,23 +59,33 @@ impl<'a> SplitLine<'a> {
     /// The line.
     #[inline]
     pub(crate) fn line(&self) -> &'a [u8]
-        ensures { result.now ≡ self.now }
+        ensures { result.now ≡ self.now.line }
     {
         self.line
+    }
+
+    /// Its words.
+    #[inline]
+    pub(crate) fn words(&self) -> &'a [u8]
+        ensures { result.now ≡ self.now.words }
+    {
+        self.words
+    }
+
+    /// The text of its site.
+    #[inline]
+    pub(crate) fn site(&self) -> Option<&'a [u8]>
+        ensures site { option_map (λ text. text.now) result ≡ self.now.site }
+        ensures split { IsSplit self.now.line self.now.words self.now.site }
+    {
+        let _ = self.words;
+        self.site
     }
 
     /// The key of its words.
     #[inline]
     pub(crate) fn key(&self) -> u64 {
         self.key
-    }
-
-    /// The line as its words and the text of its site.
-    #[inline]
-    pub(crate) fn parts(&self) -> (&'a [u8], Option<&'a [u8]>)
-        ensures { IsSplit self.now result.0.now (option_map (λ text. text.now) result.1) }
-    {
-        (self.words, self.site)
     }
 }
 

@@ -1,15 +1,21 @@
 -- What was read of a log so far.
-use Rattle.std.specs.Prelude.{◌≡◌, ℕ, ◌+◌, List, [], ◌∷◌, ◌++◌, length, take, Option, Some, None, option_to_list, unwrap_or, if◌then◌else◌}
+use Rattle.std.specs.Prelude.{◌≡◌, ℕ, ◌+◌, List, [], ◌∷◌, ◌++◌, length, take, slice_get, Bool, true, Option, Some, None, IfSome, option_to_list, unwrap_or, if◌then◌else◌}
 use Rattle.std.specs.Option.{option_or}
 use Rattle.rma_base.specs.declared.line.LineNo.{LineNo}
 use Rattle.rma_lex.specs.Checked.{checked_lines}
 use Rattle.rma_lex.specs.Cutting.{Cutting, Represents}
-use Rattle.rma_call.specs.Call.{Call}
+use Rattle.rma_call.specs.Call.{Call as CallOf}
+use Rattle.rma_call.specs.declared.what.SyncCall.{SyncCall}
+use Rattle.rma_call.specs.declared.what.What.{What}
 use Rattle.rma_form.specs.declared.event.Event.{Event}
+use Rattle.rma_form.specs.declared.event.Event.TheVariants.{Call}
 use Rattle.rma_form.specs.declared.event.Stated.{Stated}
 use Rattle.rma_book.specs.Naming.{is_end, named_version}
 use Rattle.rma_book.specs.inside.BookState as state
 use Rattle.rma_book.specs.Calls.{call_of, calls_of, end_line, events_of, version_of}
+use Rattle.rma_book.specs.Types.{types_after}
+use Rattle.rma_book.specs.inside.Known.{AreKnown, IsCallOf, IsStatedBy}
+use Rattle.rma_type.specs.Table.{Table}
 use Rattle.rma_book.specs.Logs.{Checked, AreGood, AreGoodUntil, IsFirstBad, entries}
 use Rattle.rma_book.specs.declared.fault.FormFault.{FormFault}
 use Rattle.rma_book.specs.declared.reader.Reader.{Reader}
@@ -23,6 +29,7 @@ pub record HasTaken (rank logs : ℕ) (lines : List Checked) (reader : Reader) :
   pub version : reader.lines.version ≡ version_of (entries lines)
   pub calls : reader.lines.calls.calls ≡ calls_of (entries lines)
   pub end : reader.end ≡ end_line (entries lines)
+  pub known : AreKnown (types_after (events_of (entries lines))) reader.lines
 
 -- the reader stopped at a bad line, and has the calls and the end of those before it
 pub record HasStopped (rank logs : ℕ) (lines : List Checked) (reader : Reader) (fault : FormFault) : Type 0 where
@@ -64,6 +71,7 @@ pub record Takes (old new : Reader) (at : LineNo) (stated : Stated) : Type 0 whe
   pub calls : (events : List Event) → state.Represents old.book events
       → new.lines.calls.calls ≡ old.lines.calls.calls ++ option_to_list (call_of events (record { line = at; stated = stated }))
   pub end : new.end ≡ option_or (if is_end stated.event then Some at else None) old.end
+  pub known : (events : List Event) → state.Represents old.book events → AreKnown (types_after events) old.lines → AreKnown (types_after (events ++ stated.event ∷ [])) new.lines
 
 -- the reader refused a line that states this
 pub record Refuses (old new : Reader) (at : LineNo) (stated : Stated) (fault : FormFault) : Type 0 where
@@ -80,10 +88,22 @@ GoesOn old new at stated (Some fault) = Refuses old new at stated fault
 abbrev pub Reads : Reader → Reader → LineNo → Stated → Type 0
 Reads old new at stated = GoesOn old new at stated new.fault
 
--- the reader has one call more
-pub record Appends (old new : Reader) (call : Call) : Type 0 where
+-- The reader has a number for what a call does. Known words state what they did, and so do these, where the call is what they
+-- state; it is said whether they do so whatever the datatypes are.
+pub record Adds (old new : Reader) (words : Option (List ℕ)) (what : What) (request : Option (List ℕ)) (lasts : Bool) : Type 0 where
+  pub same : new ≡ record old { lines = new.lines }
+  pub version : new.lines.version ≡ old.lines.version
+  pub calls : new.lines.calls.calls ≡ old.lines.calls.calls
+  pub sites : (number : ℕ) (value : List ℕ) → slice_get old.lines.calls.sites number ≡ Some value → slice_get new.lines.calls.sites number ≡ Some value
+  pub known : (types : Table) (event : Event) → AreKnown types old.lines → IfSome words (λ own. IsStatedBy old.lines.version own event) → IsCallOf types what request event
+      → (lasts ≡ true → (sync : SyncCall) × (event ≡ Call sync request)) → AreKnown types new.lines
+
+-- The reader has one call more. Known words state what they did, and so do these words, where the call is what they state.
+pub record Appends (old new : Reader) (words : Option (List ℕ)) (request : Option (List ℕ)) (call : CallOf) : Type 0 where
   pub book : new.book ≡ old.book
   pub version : new.lines.version ≡ old.lines.version
   pub calls : new.lines.calls.calls ≡ old.lines.calls.calls ++ call ∷ []
   pub end : new.end ≡ old.end
   pub fault : new.fault ≡ old.fault
+  pub known : (types : Table) (event : Event) → AreKnown types old.lines → IfSome words (λ own. IsStatedBy old.lines.version own event) → IsCallOf types call.what request event
+      → AreKnown types new.lines

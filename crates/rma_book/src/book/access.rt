@@ -1,16 +1,19 @@
 //! Judging calls that access the part of a target, and local accesses.
-ghost use Rattle.std.specs.Prelude.{◌≡◌, List, length, IfOk, IfErr, OnOk, None, Some};
-ghost use Rattle.std.specs.Option.{option_copied};
+ghost use Rattle.std.specs.Prelude.{◌≡◌, ◌+◌, ◌<◌, ◌^◌, ◌∷◌, [], List, length, not, is_some, option_map, IfOk, IfErr, IfSome, OnOk, None, Some, false, if◌then◌else◌};
+ghost use Rattle.std.specs.Option.{option_copied, option_map_or, option_or};
 ghost use Rattle.rma_form.specs.declared.event.Event.{Event};
 ghost use Rattle.rma_form.specs.declared.event.Event.TheVariants.{Local, Rma};
 ghost use Rattle.rma_buffer.specs.Calls.{local_call_of, rma_call_of};
 ghost use Rattle.rma_buffer.specs.Operands.{AreOf, IsOf, kind_of, operands_of};
 ghost use Rattle.rma_buffer.specs.Rules.{IsErrorOf, buffers_reason, memory_reason};
-ghost use Rattle.rma_book.specs.inside.BookState.{FitsRequest, IsJudged, IsGoodAccess, Represents, fault_in};
+ghost use Rattle.rma_book.specs.Judging.{first_that_holds, is_far, name_reason, use_reason};
+ghost use Rattle.rma_book.specs.Names.{pending, request_number};
+ghost use Rattle.rma_book.specs.Naming.{attributes_of, request_that, with_access};
+ghost use Rattle.rma_book.specs.inside.BookState.{FitsRequest, IsJudged, IsGoodAccess, IsTaken, Represents, fault_in};
 
 use crate::book::Book;
 use crate::naming::with_access;
-use rma_base::{FormReason, Memory, Name};
+use rma_base::{FormReason, Memory, Name, Rank};
 use rma_buffer::{BufferError, Operand, Operands, local_call, one_sided_call};
 use rma_call::{LocalCall, RmaCall, What};
 use rma_form::{LocalLine, RmaLine};
@@ -40,9 +43,8 @@ impl Book {
         ensures good { IfOk result (λ judged. (events : List Event) → Represents self.old events → IsGoodAccess events (Rma line.now (option_copied request.entry)) judged) }
         ensures fits { IfOk result (λ judged. FitsRequest judged) }
     {
-        let naming = with_access(&line.window, line.target, request);
         let operands = Operands::of(self.types.types(), &line.access);
-        if let Some(reason) = self.reason(&naming, operands.is_none()) {
+        if let Some(reason) = self.access_reason(line, request, operands.is_none()) {
             return Ok(JudgedAccess::Bad(reason));
         }
         let Some(operands) = operands else {
@@ -50,7 +52,7 @@ impl Book {
         };
         match self.one_sided(line, &operands) {
             Ok(call) => {
-                let request = self.note(&naming)?;
+                let request = self.note_access(line, request)?;
                 Ok(JudgedAccess::Good {
                     what: What::Rma(call),
                     request,
@@ -87,6 +89,65 @@ impl Book {
         }
     }
 
+    // Why a call that accesses the part of a target is bad now for what it says of names and ranks, if it is; whether the name of a
+    // datatype is not live is known.
+    fn access_reason(
+        &self,
+        line: &RmaLine,
+        request: Option<&Name>,
+        lacks_type: bool,
+    ) -> Option<FormReason>
+        ensures { (events : List Event) → Represents self.now events → result ≡ option_or
+            (if not self.now.begun then Some FormReason.BadHeader else (if self.now.ended then Some FormReason.AfterEnd else None))
+            (option_or (name_reason events (with_access line.now.window line.now.target (option_copied request.entry)) lacks_type)
+            (use_reason self.now.rank self.now.logs events (with_access line.now.window line.now.target (option_copied request.entry)) false)) }
+    {
+        match self.later_reason() {
+            Some(reason) => Some(reason),
+            None => first_access_reason(
+                !self.is_there(&line.window),
+                lacks_type,
+                self.is_pending(request),
+                self.is_far(line.target),
+            ),
+        }
+    }
+
+    // Whether there is a request of this name that is pending.
+    fn is_pending(&self, request: Option<&Name>) -> bool
+        ensures { (events : List Event) → Represents self.now events → result ≡ option_map_or (λ made. is_some (pending events made.0)) (request_that false (option_copied request.entry)) false }
+    {
+        match request {
+            Some(request) => self.requests.get(request).is_some(),
+            None => false,
+        }
+    }
+
+    // Whether there is a target that is the rank of no log.
+    fn is_far(&self, target: Option<Rank>) -> bool
+        ensures { result ≡ option_map_or (is_far self.now.logs) (option_map (λ rank. rank.0) target) false }
+    {
+        match target {
+            Some(rank) => rank.0 >= self.logs,
+            None => false,
+        }
+    }
+
+    // Notes the request of a call that accesses the part of a target, if it makes one, and answers its number.
+    fn note_access(&mut self, line: &RmaLine, request: Option<&Name>) -> Result<Option<u32>, Memory>
+        ensures taken { OnOk result (IsTaken self.old self.new (Rma line.now (option_copied request.entry))) }
+        ensures number { IfOk result (λ number. (events : List Event) → Represents self.old events → number ≡ request_number events (attributes_of (Rma line.now (option_copied request.entry)))) }
+        ensures fits { IfOk result (λ number. IfSome number (λ n. n + 1 < 2 ^ 32)) }
+    {
+        match request {
+            Some(_) => self.note(&with_access(&line.window, line.target, request)),
+            None => {
+                self.begun = true;
+                Ok(None)
+            }
+        }
+    }
+
     // The call of a line with these buffers. The book goes on representing what it did.
     #[inline]
     fn one_sided(&mut self, line: &RmaLine, operands: &Operands) -> Result<RmaCall, BufferError>
@@ -110,5 +171,28 @@ impl Book {
         ensures same { self.new ≡ self.old }
     {
         local_call(&mut self.types, line.access, memory)
+    }
+}
+
+/// The first of the reasons of an access that holds.
+fn first_access_reason(
+    lacks_window: bool,
+    lacks_type: bool,
+    used: bool,
+    far: bool,
+) -> Option<FormReason>
+    ensures { result ≡ first_that_holds (
+        (FormReason.UnknownWindow, lacks_window) ∷ (FormReason.UnknownType, lacks_type) ∷ (FormReason.NameInUse, used) ∷ (FormReason.RankTooLarge, far) ∷ []) }
+{
+    if lacks_window {
+        Some(FormReason::UnknownWindow)
+    } else if lacks_type {
+        Some(FormReason::UnknownType)
+    } else if used {
+        Some(FormReason::NameInUse)
+    } else if far {
+        Some(FormReason::RankTooLarge)
+    } else {
+        None
     }
 }

@@ -2,7 +2,7 @@
 use Rattle.std.specs.Prelude.{List, Option, All, IfSome}
 use Rattle.rma_call.specs.Call.{CallTable}
 use Rattle.rma_reader.specs.declared.known_sites.KnownSite.{KnownSite}
-use Rattle.rma_reader.specs.inside.Tables.{IsNumbered}
+use Rattle.rma_reader.specs.Sites.{IsNumbered}
 
 -- the site of a slot has its number
 abbrev pub HasNumber : CallTable → Option KnownSite → Type 0

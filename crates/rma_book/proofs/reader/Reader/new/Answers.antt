@@ -1,5 +1,4 @@
-use Rattle.std.proofs.Common.{refl, ap}
-use Rattle.rma_reader.specs.Reading.{Reading}
+use Rattle.std.proofs.Common.{refl}
 use Rattle.rma_book.proofs.OutcomeLemmas.{good_none}
 use Rattle.rma_book.proofs.reader.Reader.new.Goals as goal
 
@@ -9,7 +8,8 @@ returns c = record {
   represents = c.in_ok-new-2.ensures.empty;
   of_rank = c.in_ok-new-2.ensures.rank;
   among = c.in_ok-new-2.ensures.logs;
-  version = ap (λ (lines : Reading). lines.version) c.in_ok-new.ensures;
-  calls = ap (λ (lines : Reading). lines.calls.calls) c.in_ok-new.ensures;
+  version = c.in_ok-new.ensures.version;
+  calls = rw c.in_ok-new.ensures.calls refl;
   end = refl;
+  known = λ known at. absurd (c.in_ok-new.ensures.known known at);
 }

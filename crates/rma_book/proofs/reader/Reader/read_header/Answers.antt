@@ -1,6 +1,10 @@
-use Rattle.std.proofs.Common.{sym, ap, refl, append-nil, ◌∙◌}
+use Rattle.std.proofs.Common.{subst, sym, ap, refl, append-nil, ◌∙◌}
+use Rattle.rma_form.specs.declared.event.Event.TheVariants.{Header}
 use Rattle.rma_reader.specs.Reading.{Reading}
 use Rattle.rma_book.specs.declared.reader.Reader.{Reader}
+use Rattle.rma_book.specs.Types.{types_after}
+use Rattle.rma_book.specs.inside.Known.{AreKnown}
+use Rattle.rma_book.proofs.KnownLemmas.{known_on}
 use Rattle.rma_book.proofs.ReadingLemmas.{Reads_refused, Reads_taken}
 use Rattle.rma_book.proofs.reader.Reader.read_header.Goals as goal
 
@@ -24,5 +28,6 @@ returns-in-None c = λ site.
       version = ap (λ (lines : Reading). lines.version) set;
       calls = λ events h. ap (λ (lines : Reading). lines.calls.calls) set ∙ sym (append-nil c.args.self.now.lines.calls.calls);
       end = refl;
+      known = λ events h are. known_on events (Header c.args.version c.args.rank c.args.size) c.set_version.new.self refl (subst (AreKnown (types_after events)) (sym set) (λ known there. are known there));
     })
     c.requires

@@ -1,5 +1,5 @@
-use Rattle.rma_reader.proofs.ReaderLemmas.{are_kept}
+use Rattle.rma_reader.proofs.ReaderLemmas.{within_more}
 use Rattle.rma_reader.proofs.line_reader.LineReader.add_what.Goals as goal
 
 pub invariant_of-self : goal.invariant_of-self
-invariant_of-self c = are_kept c.self.inside.calls.whats c.add_what.new.self.whats c.self.inside.lines.slots.items c.add_what.ensures.adds.whats c.self.invariant
+invariant_of-self c = λ known there. within_more c.self.inside.calls.whats c.add_what.new.self.whats c.add_what.ensures.adds.whats known.what (c.self.invariant known there)

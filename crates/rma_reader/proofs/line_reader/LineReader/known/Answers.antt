@@ -1,16 +1,24 @@
-use Rattle.std.proofs.Common.{ap}
-use Rattle.rma_reader.specs.Reading.{Reading}
-use Rattle.rma_reader.proofs.ReaderLemmas.{known_call, known_fails}
+use Rattle.std.proofs.Common.{◌∙◌}
 use Rattle.rma_reader.proofs.line_reader.LineReader.known.Goals as goal
 
-pub returns-in-Err-clause-err : goal.returns-in-Err-clause-err
-returns-in-Err-clause-err c =
-    known_fails c.args.self.now c.self.inside.version c.self.inside.calls c.self.inside.lines.slots.items c.args.line.now c.parts.result.0.now _ _
-    (ap (λ (r : Reading). r.version) c.self.view_is) c.parts.ensures c.self.invariant c.in-Some-Call.ensures c.in-Err.error c.in-Err.ensures.err
+pub returns-in_default-request-clause-err : goal.returns-in_default-request-clause-err
+returns-in_default-request-clause-err c =
+    rw (← c.self.view_is) (
+      c.in-Some.known.now.known,
+      record {
+        among = c.in-Some.ensures.among;
+        version = c.in-Some.ensures.version;
+        words = c.in-Some.ensures.words ∙ c.words.ensures;
+        split = c.site-text.ensures.split;
+      },
+      tt,
+    )
 
-pub returns-clause-call : goal.returns-clause-call
-returns-clause-call c =
-    let stated = rw c.in-Some-Call.field-0-is at c.in-Some-Call.ensures in
-    rw c.in-Ok-copy_request.ensures
-    (known_call c.args.self.now c.self.inside.version c.self.inside.calls c.self.inside.lines.slots.items c.args.line.now c.parts.result.0.now _ _
-    (ap (λ (r : Reading). r.version) c.self.view_is) c.parts.ensures c.self.invariant stated c.site_at.new.self c.in-Ok.site c.in-Ok.ensures.adds c.in-Ok.ensures.ok)
+pub invariant_of-self : goal.invariant_of-self
+invariant_of-self c = λ known there. rw c.site_at.ensures.adds.whats (c.self.invariant known there)
+
+pub invariant_of-self-2 : goal.invariant_of-self-2
+invariant_of-self-2 c = λ known there. rw c.site_at.ensures.adds.whats (c.self.invariant known there)
+
+pub returns-clause-within : goal.returns-clause-within
+returns-clause-within c = rw (c.site_at.ensures.adds.whats, c.what-what.ensures) (c.self.invariant c.in-Some.known.now.known c.in-Some.ensures.among)

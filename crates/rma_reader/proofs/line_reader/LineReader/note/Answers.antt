@@ -1,26 +1,16 @@
-use Rattle.std.proofs.Common.{ap, refl}
+use Rattle.std.proofs.Common.{◌≡◌, ◌<◌, length, ⊎_elim, sym, subst, option_copied}
+use Rattle.rma_reader.specs.Known.{Known, IsAmong}
 use Rattle.rma_reader.specs.Reading.{Reading}
-use Rattle.rma_reader.proofs.ReaderLemmas.{are_kept, are_noted, whats_grow}
 use Rattle.rma_reader.proofs.line_reader.LineReader.note.Goals as goal
 
 pub invariant_of-self : goal.invariant_of-self
-invariant_of-self c = are_kept _ _ _ c.read_event.ensures.adds.whats c.self.invariant
+invariant_of-self c = λ known there.
+    ⊎_elim
+    (λ (old : IsAmong c.self.inside.lines known). c.self.invariant known old)
+    (λ (same : known ≡ record { version = c.self.inside.version; words = c.args.line.now.words; what = c.args.what; request = option_copied c.args.request; lasts = c.args.lasts }).
+    let within : c.args.what < length c.self.inside.calls.whats = subst (λ (reading : Reading). c.args.what < length reading.calls.whats) (sym c.self.view_is) c.requires in
+    subst (λ (k : Known). k.what < length c.self.inside.calls.whats) (sym same) within)
+    (c.note.ensures known there)
 
-pub returns-in_err-event-clause-grows : goal.returns-in_err-event-clause-grows
-returns-in_err-event-clause-grows c = whats_grow _ _ _ c.self.view_is refl c.read_event.ensures.adds
-
-pub invariant_of-self-in_err-note : goal.invariant_of-self-in_err-note
-invariant_of-self-in_err-note c =
-    are_noted c.args.self.now c.self.inside.version c.self.inside.calls c.read_event.new.self _ _ c.args.words.now c.in_ok-event.event c.args.event (ap (λ (r : Reading). r.version) c.self.view_is)
-    c.read_event.ensures.adds.whats c.self.invariant c.in_ok-event.ensures.event c.requires c.note.ensures
-
-pub returns-in_err-note-clause-grows : goal.returns-in_err-note-clause-grows
-returns-in_err-note-clause-grows c = whats_grow _ _ _ c.self.view_is refl c.read_event.ensures.adds
-
-pub invariant_of-self-2 : goal.invariant_of-self-2
-invariant_of-self-2 c =
-    are_noted c.args.self.now c.self.inside.version c.self.inside.calls c.read_event.new.self _ _ c.args.words.now c.in_ok-event.event c.args.event (ap (λ (r : Reading). r.version) c.self.view_is)
-    c.read_event.ensures.adds.whats c.self.invariant c.in_ok-event.ensures.event c.requires c.note.ensures
-
-pub returns-clause-grows : goal.returns-clause-grows
-returns-clause-grows c = whats_grow _ _ _ c.self.view_is refl c.read_event.ensures.adds
+pub returns-clause-known : goal.returns-clause-known
+returns-clause-known c = rw (← c.self.view_is) c.note.ensures

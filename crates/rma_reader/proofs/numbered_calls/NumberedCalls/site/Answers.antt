@@ -1,5 +1,5 @@
 use Rattle.std.proofs.Common.{subst}
-use Rattle.rma_reader.specs.inside.Tables.{IsNumbered}
+use Rattle.rma_reader.specs.Sites.{IsNumbered}
 use Rattle.rma_reader.proofs.numbered_calls.NumberedCalls.site.Goals as goal
 
 pub returns-in-Some-clause-ok : goal.returns-in-Some-clause-ok
