@@ -8,7 +8,7 @@ use std::test::Fail;
 
 /// Lines of rank 0 of two, from its line 3 on, between the creation and the free of a window: how many calls they make, or the
 /// first bad line with its reason.
-type Case = (&'static str, Result<usize, (u32, FormReason)>);
+pub(crate) type Case = (&'static str, Result<usize, (u32, FormReason)>);
 
 /// The lines before those of a case.
 const BEFORE: &str = "rma 1 0 2\nwin create W world 4096 64 1 unified same_op_no_op\n";
@@ -16,7 +16,7 @@ const BEFORE: &str = "rma 1 0 2\nwin create W world 4096 64 1 unified same_op_no
 /// The lines after those of a case.
 const AFTER: &str = "win free W\nend\n";
 
-static CASES: [Case; 164] = [
+static CASES: [Case; 158] = [
     ("type commit N\n", Err((3, FormReason::UnknownType))),
     ("type free INT\n", Err((3, FormReason::UnknownType))),
     ("type commit INT\n", Ok(0)),
@@ -556,31 +556,6 @@ static CASES: [Case; 164] = [
         "rput q W null 0 1 INT 8192 1 INT\n",
         Err((5, FormReason::RequestPending)),
     ),
-    // Accesses whose lines the log repeats.
-    (
-        "type contiguous d 1 INT\ntype commit d\nput W 1 0 1 d 8192 1 d\nput W 1 0 1 d 8192 1 d\nput W 1 0 1 d 8192 1 d\nput W 1 0 1 d 8192 1 d\ntype free d\nput W 1 0 1 d 8192 1 d\n",
-        Err((10, FormReason::UnknownType)),
-    ),
-    (
-        "type contiguous d 1 INT\ntype commit d\nput W 1 0 1 d 8192 1 d\nput W 1 0 1 d 8192 1 d\nput W 1 0 1 d 8192 1 d\nput W 1 0 1 d 8192 1 d\ntype free d\ntype contiguous d 1 INT\nput W 1 0 1 d 8192 1 d\n",
-        Err((11, FormReason::NotCommitted)),
-    ),
-    (
-        "put W 1 0 1 INT 8192 1 INT\nput W 1 0 1 INT 8192 1 INT\nput W 1 0 1 INT 8192 1 INT\nput W 1 0 1 INT 8192 1 INT\nwin free W\nput W 1 0 1 INT 8192 1 INT\n",
-        Err((8, FormReason::UnknownWindow)),
-    ),
-    (
-        "rput q W 1 0 1 INT 8192 1 INT\nwait q\nrput q W 1 0 1 INT 8192 1 INT\nwait q\nrput q W 1 0 1 INT 8192 1 INT\nwait q\nrput q W 1 0 1 INT 8192 1 INT\nwait q\n",
-        Ok(8),
-    ),
-    (
-        "rput q W 1 0 1 INT 8192 1 INT\nwait q\nrput q W 1 0 1 INT 8192 1 INT\nwait q\nrput q W 1 0 1 INT 8192 1 INT\nwait q\nrput q W 1 0 1 INT 8192 1 INT\nrput q W 1 0 1 INT 8192 1 INT\n",
-        Err((10, FormReason::NameInUse)),
-    ),
-    (
-        "load 8192 1 INT\nload 8192 1 INT\nload 8192 1 INT\nload 8192 1 INT\n",
-        Ok(4),
-    ),
 ];
 
 /// The outcome of the log of rank 0 of two that has these lines between its first two and its last, in pieces of at most so many
@@ -606,7 +581,7 @@ fn inner_outcome(end: &BookEnd) -> Result<usize, (u32, FormReason)> {
     }
 }
 
-fn check(rt: &impl Abort, alloc: Global, cases: &[Case]) -> Result<(), Fail> {
+pub(crate) fn check(rt: &impl Abort, alloc: Global, cases: &[Case]) -> Result<(), Fail> {
     for (lines, expected) in cases {
         for most in [1, 1000] {
             let end = ended_with(rt, alloc, lines, AFTER, most)?;

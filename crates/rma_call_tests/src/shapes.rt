@@ -147,13 +147,6 @@ static LOCALS: [(&str, LocalAccess, Shape); 3] = [
     ),
 ];
 
-/// A put that comes again, also where the name of its datatype represents another one.
-static AGAIN: &str =
-    "type contiguous d 1 INT\ntype commit d\nput W 1 0 1 d 8192 1 d\nput W 1 0 1 d 8192 1 d\nput W 1 0 1 d 8192 1 d\nput W 1 0 1 d 8192 1 d\ntype free d\ntype contiguous d 3 INT\ntype commit d\nput W 1 0 1 d 8192 1 d\nput W 1 0 1 d 8192 1 d\nput W 1 0 1 d 8192 1 d\nput W 1 0 1 d 8192 1 d\n";
-
-/// The number of bytes that each of these puts touches at the target.
-static TOUCHED: [u64; 8] = [4, 4, 4, 4, 12, 12, 12, 12];
-
 fn check_shape(rt: &impl Abort, layout: &Layout, shape: Shape, lines: &str) {
     let (runs, element, overlaps) = shape;
     assert!(rt; layout.element() == element, "{lines}");
@@ -223,31 +216,6 @@ fn local_accesses_have_the_bytes_of_their_memory(rt: HostRuntime) -> Result<(), 
             },
             BookEnd::Fault(_) => assert!(&rt; false),
         }
-    }
-    Ok(())
-}
-
-fn check_again(rt: &impl Abort, calls: &CallList) {
-    assert!(rt; calls.len() == TOUCHED.len() + 1);
-    for i in 0..TOUCHED.len() {
-        match calls.get(i + 1).what {
-            WhatRef::Rma(call) => {
-                assert!(rt; call.at_target.len() == 1);
-                assert_eq!(rt; call.at_target.get(0).len, TOUCHED[i]);
-            }
-            _ => assert!(rt; false),
-        }
-    }
-}
-
-#[test]
-fn a_put_that_comes_again_has_the_bytes_of_the_datatype_of_its_time(
-    rt: HostRuntime,
-) -> Result<(), Fail> {
-    let end = ended_with(&rt, rt.alloc(), AGAIN, "end\n", 1)?;
-    match &end {
-        BookEnd::Calls(calls) => check_again(&rt, calls.calls()),
-        BookEnd::Fault(_) => assert!(&rt; false),
     }
     Ok(())
 }
