@@ -6,7 +6,7 @@ ghost use Rattle.rma_match.specs.Matches.{AreMatches};
 use rma_base::Memory;
 use rma_call::RankCalls;
 use rma_exposure::Exposures;
-use rma_message::Messages;
+use rma_message::RunMessages;
 use rma_round::Rounds;
 use std::alloc::Global;
 
@@ -14,7 +14,7 @@ use std::alloc::Global;
 #[derive(Drop)]
 pub struct Matches {
     /// Its messages.
-    pub messages: Messages,
+    pub messages: RunMessages,
     /// The rounds of its collectives.
     pub rounds: Rounds,
     /// Its posts and starts.
@@ -31,7 +31,7 @@ impl Matches {
         requires { IsRun ranks.now }
         ensures { IfOk result (AreMatches ranks.now) }
     {
-        let messages = Messages::of_calls(alloc, ranks)?;
+        let messages = RunMessages::of_calls(alloc, ranks)?;
         let rounds = Rounds::of_calls(alloc, ranks)?;
         let exposures = Exposures::of_calls(alloc, ranks)?;
         Ok(Matches {

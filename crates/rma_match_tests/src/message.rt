@@ -6,7 +6,7 @@ use rma_call::{
     CallList, CallRef, MatchFault, MessageCall, RankCalls, Received, SyncCall, What, WhatRef,
 };
 use rma_link::{Edge, Links};
-use rma_message::{Messages, RankMessages};
+use rma_message::{Messages, RankMessages, RunMessages};
 use std::alloc::Global;
 use std::process::Abort;
 use std::test::Fail;
@@ -290,6 +290,63 @@ fn an_edge_leads_from_the_send_to_the_wait(rt: HostRuntime) -> Result<(), Fail> 
     let one = are(faults.as_slice(), &[("send_unreceived", 0, 3)]);
     assert!(&rt; links.edges.as_slice() == [edge].as_slice());
     assert!(&rt; links.meets.is_empty());
+    assert!(&rt; one);
+    Ok(())
+}
+
+/// A rank that sends a message of a tag to rank 1, and then makes this call.
+fn sender(alloc: Global, then: MessageCall) -> Result<RankCalls, Fail> {
+    let send = MessageCall::Send {
+        to: Rank(1),
+        tag: 7,
+        comm: Name::new(alloc, b"a")?,
+    };
+    two_calls(alloc, 0, send, then, 1)
+}
+
+/// Rank 1, which posts a receive and waits for that message.
+fn receiver(alloc: Global) -> Result<RankCalls, Fail> {
+    let post = MessageCall::Irecv {
+        comm: Name::new(alloc, b"a")?,
+    };
+    let wait = MessageCall::Wait {
+        received: Some(Received {
+            from: Rank(0),
+            tag: 7,
+        }),
+    };
+    two_calls(alloc, 1, post, wait, 1)
+}
+
+#[test]
+fn a_message_has_its_edge_where_all_match_and_where_not(rt: HostRuntime) -> Result<(), Fail> {
+    let alloc = rt.alloc();
+    let nothing = MessageCall::Wait { received: None };
+    let more = MessageCall::Isend {
+        to: Rank(1),
+        tag: 7,
+        comm: Name::new(alloc, b"a")?,
+    };
+    let all = RunMessages::of_calls(alloc, &[sender(alloc, nothing)?, receiver(alloc)?])?;
+    let some = RunMessages::of_calls(alloc, &[sender(alloc, more)?, receiver(alloc)?])?;
+    let mut links = Links::new(alloc);
+    all.push_edges(alloc, &mut links)?;
+    some.push_edges(alloc, &mut links)?;
+    let edge = Edge {
+        from: Point {
+            rank: Rank(0),
+            pos: 0,
+        },
+        to: Point {
+            rank: Rank(1),
+            pos: 3,
+        },
+    };
+    let none = all.faults(alloc)?.is_empty();
+    let faults = some.faults(alloc)?;
+    let one = are(faults.as_slice(), &[("send_unreceived", 0, 3)]);
+    assert!(&rt; links.edges.as_slice() == [edge, edge].as_slice());
+    assert!(&rt; none);
     assert!(&rt; one);
     Ok(())
 }

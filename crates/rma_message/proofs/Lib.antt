@@ -10,8 +10,10 @@ pub mod NoMessageLemmas
 pub mod NumberLemmas
 pub mod NumberedLemmas
 pub mod PlaceLemmas
+pub mod PostedLemmas
 pub mod ReceiveLemmas
 pub mod RunLemmas
+pub mod SendLemmas
 pub mod SourceEdgeLemmas
 pub mod SourceLemmas
 pub mod StayLemmas

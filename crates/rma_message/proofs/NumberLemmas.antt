@@ -1,5 +1,5 @@
 -- The numbers of calls that ends of messages have, and the edges between them.
-use Rattle.std.proofs.Common.{◌≡◌, ℕ, zero, suc, ◌+◌, ◌<◌, ◌≤◌, List, [], ◌∷◌, length, Option, Some, None, get_or, slice_get, refl, sym, subst, ◌∙◌, arith}
+use Rattle.std.proofs.Common.{◌≡◌, ℕ, zero, suc, ◌+◌, ◌<◌, ◌≤◌, List, [], ◌∷◌, length, Option, Some, None, get_or, slice_get, refl, sym, ap, subst, ◌∙◌, arith}
 use Rattle.std.specs.Prelude.{All, Contains, IfSome, filter}
 use Rattle.std.specs.List.{cons_option, filter_map, flat_map}
 use Rattle.std.specs.Option.{option_map_or}
@@ -170,6 +170,10 @@ calls_before rank calls = (rank_done (record { rank = rank; calls = calls; end =
 -- the messages of a rank are its own
 pub calls_rank : (rank : Rank) (calls : List Call) → (with_calls (no_messages rank) 0 calls).rank ≡ rank
 calls_rank rank calls = (rank_done (record { rank = rank; calls = calls; end = record { 0 = 0 } })).rank_is
+
+pub calls_whole : (rank : Rank) (calls : List Call) → with_calls (no_messages rank) 0 calls
+    ≡ record { rank = rank; sends = (with_calls (no_messages rank) 0 calls).sends; receives = (with_calls (no_messages rank) 0 calls).receives }
+calls_whole rank calls = ap (λ r. record { rank = r; sends = (with_calls (no_messages rank) 0 calls).sends; receives = (with_calls (no_messages rank) 0 calls).receives }) (calls_rank rank calls)
 
 -- a rank makes its sends
 pub sends_from : (own : RankCalls) → All (λ e. e.key.from ≡ own.rank) (messages_by own).sends

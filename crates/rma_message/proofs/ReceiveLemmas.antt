@@ -133,37 +133,52 @@ complete_is_set index completion [] r lt is = absurd (omega arith)
 complete_is_set zero completion (x ∷ rs) r lt is = ap (λ (y : Receive). record y { completion = Some completion } ∷ rs) is
 complete_is_set (suc index) completion (x ∷ rs) r lt is = ap (λ l. x ∷ l) (complete_is_set index completion rs r (omega arith) is)
 
--- ---- the map of pending receives
+-- ---- the indexes of pending receives, by request
 
 -- with a receive that is complete or makes no request
-pub pending_other : (rs : List Receive) (r : Receive) (indexes : List (ℕ × ℕ)) → AreOpen rs indexes → r.request ≡ None → AreOpen (rs ++ r ∷ []) indexes
-pending_other rs r indexes are none = λ request.
+pub open_other : (rs : List Receive) (r : Receive) (old : ℕ → Option ℕ) → ((q : ℕ) → old q ≡ open_at q rs) → r.request ≡ None → (q : ℕ) → old q ≡ open_at q (rs ++ r ∷ [])
+open_other rs r old are none = λ request.
     let other : makes request r ≡ false = ap (λ (made : Option ℕ). option_map_or (λ n. eqb n request) made false) none in
     are request ∙ sym (open_at_other request rs r other)
 
 -- with a receive that makes a request
-pub pending_own : (request : ℕ) (rs : List Receive) (r : Receive) (old new : List (ℕ × ℕ)) → AreOpen rs old → r.request ≡ Some request → r.completion ≡ None
-    → ((q : ℕ) → lookup (nat_eq q) new ≡ cond (nat_eq request q) (Some (length rs)) (lookup (nat_eq q) old)) → AreOpen (rs ++ r ∷ []) new
-pending_own request rs r old new are made none step = λ q. step q ∙ by q (eqb request q) refl
+pub open_own : (request : ℕ) (rs : List Receive) (r : Receive) (old new : ℕ → Option ℕ) → ((q : ℕ) → old q ≡ open_at q rs) → r.request ≡ Some request → r.completion ≡ None
+    → ((q : ℕ) → new q ≡ cond (nat_eq request q) (Some (length rs)) (old q)) → (q : ℕ) → new q ≡ open_at q (rs ++ r ∷ [])
+open_own request rs r old new are made none step = λ q. step q ∙ by q (eqb request q) refl
   where
-    by : (q : ℕ) (b : Bool) → eqb request q ≡ b → cond (eqb request q) (Some (length rs)) (lookup (nat_eq q) old) ≡ open_at q (rs ++ r ∷ [])
+    by : (q : ℕ) (b : Bool) → eqb request q ≡ b → cond (eqb request q) (Some (length rs)) (old q) ≡ open_at q (rs ++ r ∷ [])
     by q true h =
         let own : makes q r ≡ true = ap (λ (m : Option ℕ). option_map_or (λ n. eqb n q) m false) made ∙ h in
         let open_now : is_open r ≡ true = ap (λ (c : Option Completion). not (is_some c)) none in
-        ap (λ b. cond b (Some (length rs)) (lookup (nat_eq q) old)) h ∙ sym (open_at_own q rs r own open_now)
+        ap (λ b. cond b (Some (length rs)) (old q)) h ∙ sym (open_at_own q rs r own open_now)
     by q false h =
         let other : makes q r ≡ false = ap (λ (m : Option ℕ). option_map_or (λ n. eqb n q) m false) made ∙ h in
-        ap (λ b. cond b (Some (length rs)) (lookup (nat_eq q) old)) h ∙ are q ∙ sym (open_at_other q rs r other)
+        ap (λ b. cond b (Some (length rs)) (old q)) h ∙ are q ∙ sym (open_at_other q rs r other)
 
 -- where a pending receive is complete
-pub pending_completed : (request index : ℕ) (completion : Completion) (rs : List Receive) (old new : List (ℕ × ℕ)) → AreOpen rs old → lookup (nat_eq request) old ≡ Some index
-    → ((q : ℕ) → lookup (nat_eq q) new ≡ cond (nat_eq request q) None (lookup (nat_eq q) old)) → AreOpen (complete_at index completion rs) new
-pending_completed request index completion rs old new are found step = λ q. step q ∙ by q (eqb request q) refl
+pub open_completed : (request index : ℕ) (completion : Completion) (rs : List Receive) (old new : ℕ → Option ℕ) → ((q : ℕ) → old q ≡ open_at q rs) → old request ≡ Some index
+    → ((q : ℕ) → new q ≡ cond (nat_eq request q) None (old q)) → (q : ℕ) → new q ≡ open_at q (complete_at index completion rs)
+open_completed request index completion rs old new are found step = λ q. step q ∙ by q (eqb request q) refl
   where
-    by : (q : ℕ) (b : Bool) → eqb request q ≡ b → cond (eqb request q) None (lookup (nat_eq q) old) ≡ open_at q (complete_at index completion rs)
+    by : (q : ℕ) (b : Bool) → eqb request q ≡ b → cond (eqb request q) None (old q) ≡ open_at q (complete_at index completion rs)
     by q true h =
         let same : request ≡ q = eqb-true request q h in
-        ap (λ b. cond b None (lookup (nat_eq q) old)) h
+        ap (λ b. cond b None (old q)) h
         ∙ sym (subst (λ k. open_at k (complete_at index completion rs) ≡ None) same (open_at_completed request index completion rs (sym (are request) ∙ found)))
     by q false h =
-        ap (λ b. cond b None (lookup (nat_eq q) old)) h ∙ are q ∙ sym (open_at_kept request q index completion rs (sym (are request) ∙ found) h)
+        ap (λ b. cond b None (old q)) h ∙ are q ∙ sym (open_at_kept request q index completion rs (sym (are request) ∙ found) h)
+
+-- the same of a map
+abbrev in_map : List (ℕ × ℕ) → ℕ → Option ℕ
+in_map indexes q = lookup (nat_eq q) indexes
+
+pub pending_other : (rs : List Receive) (r : Receive) (indexes : List (ℕ × ℕ)) → AreOpen rs indexes → r.request ≡ None → AreOpen (rs ++ r ∷ []) indexes
+pending_other rs r indexes = open_other rs r (in_map indexes)
+
+pub pending_own : (request : ℕ) (rs : List Receive) (r : Receive) (old new : List (ℕ × ℕ)) → AreOpen rs old → r.request ≡ Some request → r.completion ≡ None
+    → ((q : ℕ) → lookup (nat_eq q) new ≡ cond (nat_eq request q) (Some (length rs)) (lookup (nat_eq q) old)) → AreOpen (rs ++ r ∷ []) new
+pending_own request rs r old new = open_own request rs r (in_map old) (in_map new)
+
+pub pending_completed : (request index : ℕ) (completion : Completion) (rs : List Receive) (old new : List (ℕ × ℕ)) → AreOpen rs old → lookup (nat_eq request) old ≡ Some index
+    → ((q : ℕ) → lookup (nat_eq q) new ≡ cond (nat_eq request q) None (lookup (nat_eq q) old)) → AreOpen (complete_at index completion rs) new
+pending_completed request index completion rs old new = open_completed request index completion rs (in_map old) (in_map new)

@@ -4,8 +4,9 @@ use Rattle.std.specs.List.{cons_option, filter_map}
 use Rattle.std.proofs.lemmas.List.{flat_map_more, length-take}
 use Rattle.std.proofs.lemmas.List.Elements.{filter_map-append}
 use Rattle.std.proofs.lemmas.Option.{slice_get_within, get_or_from_slice_get}
+use Rattle.rma_base.specs.declared.rank.Rank.{Rank}
 use Rattle.rma_call.specs.Call.{Call, RankCalls}
-use Rattle.rma_message.specs.RankMessages.{RankMessages, messages_by, with_call, with_calls}
+use Rattle.rma_message.specs.RankMessages.{RankMessages, no_messages, messages_by, with_call, with_calls}
 use Rattle.rma_message.specs.Messages.{messages_of, receives_in, with_rank}
 use Rattle.rma_message.proofs.MatchLemmas.{taken}
 
@@ -40,3 +41,7 @@ messages_more ranks i own lt is =
     ap (λ es. record { sends = es; receives = (messages_of (take i ranks)).receives ++ receives_in (messages_by own) }) (flat_map_more (λ (r : RankCalls). (messages_by r).sends) [] (take i ranks) own)
     ∙ ap (λ es. record { sends = (messages_of (take i ranks ++ own ∷ [])).sends; receives = es }) (flat_map_more (λ (r : RankCalls). receives_in (messages_by r)) [] (take i ranks) own)
     ∙ ap messages_of (sym (taken ranks i own lt is))
+
+-- all calls of a rank
+pub all_taken : (own : RankCalls) (rank : Rank) (calls : List Call) → rank ≡ own.rank → calls ≡ own.calls → with_calls (no_messages rank) 0 calls ≡ messages_by own
+all_taken own rank calls same are = ap (λ r. with_calls (no_messages r) 0 calls) same ∙ ap (with_calls (no_messages own.rank) 0) are

@@ -3,5 +3,6 @@ pub mod Receive
 pub mod RankMessages
 pub mod Matching
 pub mod Messages
+pub mod RunMessages
 pub mod Source
 pub mod inside

@@ -1,11 +1,12 @@
 //! Edges of messages.
 ghost use Rattle.std.specs.Prelude.{◌≡◌, ◌<◌, ◌++◌, All, OnOk};
 ghost use Rattle.rma_base.specs.Limits.{fed_limit};
+ghost use Rattle.rma_link.specs.Point.{entry, return_of};
 ghost use Rattle.rma_message.specs.Matching.{IsNumbered, edge_between, edges_of};
 
 use crate::end::End;
 use crate::queue::{pop, queues_of};
-use rma_base::{Memory, Point};
+use rma_base::{Memory, Point, Rank};
 use rma_link::{Edge, Links};
 use std::alloc::Global;
 
@@ -40,19 +41,28 @@ pub(crate) fn push_all(edges: &[Edge], links: &mut Links) -> Result<(), Memory>
 }
 
 /// The edge from the send of this number to the receive.
-pub(crate) fn edge(send: u32, receive: &End) -> Edge
+fn edge(send: u32, receive: &End) -> Edge
     requires send { send < fed_limit }
     requires receive { receive.now.call < fed_limit }
     ensures { result ≡ edge_between send receive.now }
 {
+    message_edge(receive.key.from, send, receive.rank, receive.call)
+}
+
+/// The edge from the send of a rank to the return of the call of a rank that completes its receive.
+pub(crate) fn message_edge(from: Rank, send: u32, to: Rank, receive: u32) -> Edge
+    requires send { send < fed_limit }
+    requires receive { receive < fed_limit }
+    ensures { result ≡ record { from = entry from send; to = return_of to receive } }
+{
     Edge {
         from: Point {
-            rank: receive.key.from,
+            rank: from,
             pos: 2 * send,
         },
         to: Point {
-            rank: receive.rank,
-            pos: 2 * receive.call + 1,
+            rank: to,
+            pos: 2 * receive + 1,
         },
     }
 }

@@ -6,7 +6,8 @@
 //! posted by its own call; its source and its tag are those of the message that its wait got.
 //!
 //! The messages of a run have two answers: the ends that nothing matches, as faults, and an edge for each message, from the
-//! entry of its send to the return of the call that completes its receive.
+//! entry of its send to the return of the call that completes its receive. [`RunMessages`] has both, and where each end has a
+//! match no end is made: a send is a number in the queue of its key, and what calls do is looked up once for each rank.
 //!
 //! [`LiveMessages`] takes one call of any rank at a time, and answers for a call that completes a receive where its message
 //! comes from, as soon as the calls that are taken settle that.
@@ -21,10 +22,13 @@ pub mod laws;
 mod live;
 mod matched;
 mod messages;
+mod posted;
 mod queue;
 mod rank_messages;
 mod rank_receives;
 mod receive;
+mod run_messages;
+mod sends;
 mod source;
 
 pub use end::End;
@@ -33,4 +37,5 @@ pub use live::LiveMessages;
 pub use messages::Messages;
 pub use rank_messages::RankMessages;
 pub use receive::{Completion, Receive};
+pub use run_messages::RunMessages;
 pub use source::MessageSource;

@@ -5,15 +5,14 @@ ghost use Rattle.rma_base.specs.Limits.{fed_limit};
 ghost use Rattle.rma_message.specs.Receive.{end_of};
 ghost use Rattle.rma_message.specs.Messages.{AreNumbered, edges_in, faults_in, messages_of, no_messages, with_rank};
 
-use crate::edge;
+use crate::edge::push_edges;
 use crate::end::End;
 use crate::fault::push_unmatched;
-use crate::matched::edges_of_all;
 use crate::rank_messages::RankMessages;
 use crate::receive::Receive;
 use rma_base::{MatchReason, Memory, Rank, Sequence};
 use rma_call::{MatchFault, RankCalls};
-use rma_link::{Edge, Links};
+use rma_link::Links;
 use std::alloc::Global;
 use std::marker::Model;
 
@@ -24,20 +23,14 @@ pub struct Messages {
     sends: Sequence<End>,
     /// The receives that are complete, by rank and then in the order in which they are posted.
     receives: Sequence<End>,
-    /// The edges of the messages, once it is known that each end has a match.
-    edges: Option<Sequence<Edge>>,
 }
 
 impl Model for Messages {
-    ghost use Rattle.std.specs.Prelude.{IfSome};
     ghost use Rattle.rma_message.specs.Messages.{Messages};
-    ghost use Rattle.rma_message.specs.inside.Matched.{AreOfAll};
 
     ghost Value = { Messages };
 
     ghost view = { λ all. record { sends = all.sends; receives = all.receives } };
-
-    ghost invariant = { λ all. IfSome all.edges (AreOfAll all.sends all.receives) };
 }
 
 impl Messages {
@@ -48,7 +41,6 @@ impl Messages {
         Messages {
             sends: Sequence::new(alloc),
             receives: Sequence::new(alloc),
-            edges: None,
         }
     }
 
@@ -66,17 +58,7 @@ impl Messages {
             let taken = RankMessages::of_calls(alloc, own)?;
             messages.add(&taken)?;
         }
-        messages.match_all(alloc)?;
         Ok(messages)
-    }
-
-    /// Matches the ends, and keeps the edges where each end has a match: then nobody has to match them again.
-    fn match_all(&mut self, alloc: Global) -> Result<(), Memory>
-        requires { AreNumbered self.old }
-        ensures { OnOk result (self.new ≡ self.old) }
-    {
-        self.edges = edges_of_all(alloc, self.sends.as_slice(), self.receives.as_slice())?;
-        Ok(())
     }
 
     /// The sends, by rank and then in their order.
@@ -101,7 +83,6 @@ impl Messages {
     pub fn add(&mut self, own: &RankMessages) -> Result<(), Memory>
         ensures { OnOk result (self.new ≡ with_rank self.old own.now) }
     {
-        self.edges = None;
         push_sends(&mut self.sends, own.sends())?;
         push_receives(&mut self.receives, own.rank(), own.receives())
     }
@@ -117,9 +98,6 @@ impl Messages {
         let sends = self.sends.as_slice();
         let receives = self.receives.as_slice();
         let mut faults = Sequence::new(alloc);
-        if self.edges.is_some() {
-            return Ok(faults);
-        }
         push_unmatched(
             alloc,
             MatchReason::SendUnreceived,
@@ -146,10 +124,7 @@ impl Messages {
         requires { AreNumbered self.now }
         ensures { OnOk result (links.new ≡ record links.old { edges = links.old.edges ++ edges_in self.now }) }
     {
-        if let Some(edges) = &self.edges {
-            return edge::push_all(edges.as_slice(), links);
-        }
-        edge::push_edges(
+        push_edges(
             alloc,
             self.sends.as_slice(),
             self.receives.as_slice(),

@@ -1,5 +1,6 @@
 //! Calls that wait for their matches.
-ghost use Rattle.std.specs.Prelude.{◌≡◌, ◌++◌, [], ◌∷◌, drop, slice_get, OnOk, IfOk, if◌then◌else◌};
+ghost use Rattle.std.specs.Prelude.{◌≡◌, ◌++◌, [], ◌∷◌, ℕ, None, Some, drop, slice_get, OnOk, IfOk, if◌then◌else◌};
+ghost use Rattle.std.specs.Map.{keys_of};
 ghost use Rattle.rma_message.specs.declared.key.Key.{Key};
 ghost use Rattle.rma_message.specs.Key.{same_key};
 ghost use Rattle.rma_message.specs.inside.Queue.{AreLeft, queue_of};
@@ -28,6 +29,35 @@ pub(crate) fn push(alloc: Global, queues: &mut Queues, end: &End) -> Result<(), 
     calls.push_back(end.call)?;
     queues.insert(key, calls)?;
     Ok(())
+}
+
+/// One more call at a place, if there is one.
+pub(crate) fn push_at(queues: &mut Queues, place: Option<usize>, call: u32) -> Result<(), Memory>
+    ensures keys { OnOk result (keys_of queues.new.entries ≡ keys_of queues.old.entries) }
+    ensures none { OnOk result (place ≡ None → (key : Key) → queue_of queues.new.entries key ≡ queue_of queues.old.entries key) }
+    ensures some { OnOk result ((index : ℕ) (own : Key) → place ≡ Some index → slice_get (keys_of queues.old.entries) index ≡ Some own → (key : Key) → queue_of queues.new.entries key
+        ≡ (if same_key own key then queue_of queues.old.entries own ++ call ∷ [] else queue_of queues.old.entries key)) }
+{
+    let Some(index) = place else {
+        return Ok(());
+    };
+    if let Some(calls) = queues.get_index_mut(index) {
+        calls.push_back(call)?;
+    }
+    Ok(())
+}
+
+/// Takes the first call at a place.
+pub(crate) fn pop_at(queues: &mut Queues, place: usize) -> Option<u32>
+    ensures keys { keys_of queues.new.entries ≡ keys_of queues.old.entries }
+    ensures first { (own : Key) → slice_get (keys_of queues.old.entries) place ≡ Some own → result ≡ slice_get (queue_of queues.old.entries own) 0 }
+    ensures rest { (own : Key) → slice_get (keys_of queues.old.entries) place ≡ Some own → (key : Key) → queue_of queues.new.entries key
+        ≡ (if same_key own key then drop 1 (queue_of queues.old.entries own) else queue_of queues.old.entries key) }
+{
+    match queues.get_index_mut(place) {
+        Some(own) => own.pop_front(),
+        None => None,
+    }
 }
 
 /// Takes the first call of the key.

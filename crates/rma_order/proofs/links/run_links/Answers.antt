@@ -3,7 +3,8 @@ use Rattle.rma_call.specs.Call.{RankCalls}
 use Rattle.rma_link.specs.declared.edge.Edge.{Edge}
 use Rattle.rma_link.specs.declared.meet.Meet.{Meet}
 use Rattle.rma_link.specs.declared.links.Links.{Links}
-use Rattle.rma_message.specs.Messages.{Messages, edges_in, messages_of}
+use Rattle.rma_message.specs.Messages.{message_edges, message_faults}
+use Rattle.rma_message.specs.RunMessages.{RunMessages}
 use Rattle.rma_exposure.specs.Edge.{exposure_edges}
 use Rattle.rma_round.specs.Edge.{round_edges}
 use Rattle.rma_round.specs.Meet.{HasMeets, round_meets}
@@ -12,17 +13,17 @@ use Rattle.rma_order.proofs.LinkLemmas.{links_are_same, links_are_within, same_w
 use Rattle.rma_order.proofs.links.run_links.Goals as goal
 
 -- edges that are appended kind by kind
-all_edges : (ranks : List RankCalls) (messages : Messages) (none first second third : List Edge) → messages ≡ messages_of ranks → none ≡ [] → first ≡ none ++ edges_in messages
+all_edges : (ranks : List RankCalls) (messages : RunMessages) (none first second third : List Edge) → messages ≡ record { faults = message_faults ranks; edges = message_edges ranks } → none ≡ [] → first ≡ none ++ messages.edges
     → second ≡ first ++ exposure_edges ranks → third ≡ second ++ round_edges ranks → third ≡ (links_of ranks).edges
 all_edges ranks messages none first second third are start one two three =
-    three ∙ ap (λ (es : List Edge). es ++ round_edges ranks) (two ∙ ap (λ (es : List Edge). es ++ exposure_edges ranks) (one ∙ ap (λ (es : List Edge). es ++ edges_in messages) start ∙ ap edges_in are))
+    three ∙ ap (λ (es : List Edge). es ++ round_edges ranks) (two ∙ ap (λ (es : List Edge). es ++ exposure_edges ranks) (one ∙ ap (λ (es : List Edge). es ++ messages.edges) start ∙ ap (λ (m : RunMessages). m.edges) are))
 
 -- the links, once all are appended
 module _ (c : goal.In_ok-push_links) where
   abbrev links : Links
   links = c.push_links.new.links
 
-  taken : c.push_edges.new.links ≡ record c.new-links.result { edges = c.new-links.result.edges ++ edges_in c.args.matches.now.messages }
+  taken : c.push_edges.new.links ≡ record c.new-links.result { edges = c.new-links.result.edges ++ c.args.matches.now.messages.edges }
   taken = c.in_ok-push_edges.ensures
 
   edges : links.edges ≡ (links_of c.args.ranks.now).edges

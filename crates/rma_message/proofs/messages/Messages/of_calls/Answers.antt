@@ -24,8 +24,5 @@ loop-own-preserved c =
       few = subst (All few) (sym (taken ranks i own c.loop-own-test.true c.own-item.is)) (All-push few _ own c.loop-own.invariant.few c.in_ok-taken.ensures.few);
     }
 
-pub match_all-requires : goal.match_all-requires
-match_all-requires c = subst AreNumbered (sym c.loop-own.invariant.there) (messages_numbered _ c.loop-own.invariant.few)
-
 pub returns-clause-numbered : goal.returns-clause-numbered
-returns-clause-numbered c = subst AreNumbered (sym (c.in_ok-match_all.ensures ∙ c.loop-own.invariant.there)) (messages_numbered _ c.loop-own.invariant.few)
+returns-clause-numbered c = subst AreNumbered (sym c.loop-own.invariant.there) (messages_numbered _ c.loop-own.invariant.few)

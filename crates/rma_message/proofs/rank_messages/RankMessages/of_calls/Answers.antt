@@ -1,13 +1,9 @@
-use Rattle.std.proofs.Common.{◌≡◌, List, ap, sym, ◌∙◌}
-use Rattle.rma_base.specs.declared.rank.Rank.{Rank}
-use Rattle.rma_call.specs.Call.{Call, RankCalls}
-use Rattle.rma_message.specs.RankMessages.{no_messages, with_calls, messages_by}
+use Rattle.std.proofs.Common.{ap, sym, ◌∙◌}
+use Rattle.rma_message.specs.RankMessages.{no_messages, with_calls}
 use Rattle.rma_message.proofs.NoMessageLemmas.{calls_change_nothing}
+use Rattle.rma_message.proofs.RunLemmas.{all_taken}
 use Rattle.rma_message.proofs.rank_messages.RankMessages.of_calls.Goals as goal
 use Rattle.rma_message.proofs.rank_messages.RankMessages.of_calls.Goals.{then-has+in_ok-take_all, else-has}
-
-all_taken : (own : RankCalls) (rank : Rank) (calls : List Call) → rank ≡ own.rank → calls ≡ own.calls → with_calls (no_messages rank) 0 calls ≡ messages_by own
-all_taken own rank calls same are = ap (λ r. with_calls (no_messages r) 0 calls) same ∙ ap (with_calls (no_messages own.rank) 0) are
 
 pub returns-clause-messages : goal.returns-clause-messages
 returns-clause-messages c =
