@@ -128,7 +128,7 @@ pub shares_to : (es : List (Basic × ℤ)) → shares_byte es ≡ true → Share
 shares_to [] h = absurd (false≢true h)
 shares_to (e ∷ es) h = ⊎_elim (λ p. inl (any_at e es p)) (λ p. inr (shares_to es p)) (or_is (list_any (meet e) es) (shares_byte es) h)
 
-same_bool : (a b : Bool) → (a ≡ true → b ≡ true) → (b ≡ true → a ≡ true) → a ≡ b
+pub same_bool : (a b : Bool) → (a ≡ true → b ≡ true) → (b ≡ true → a ≡ true) → a ≡ b
 same_bool true true h k = refl
 same_bool false false h k = refl
 same_bool true false h k = sym (h refl)
@@ -171,7 +171,7 @@ element_is (e ∷ es) (Some b) h =
 
 -- ---- the layout
 
-same_layout : (runs others : List Run) (o p : Option Basic) (s t : Bool) → runs ≡ others → o ≡ p → s ≡ t →
+pub same_layout : (runs others : List Run) (o p : Option Basic) (s t : Bool) → runs ≡ others → o ≡ p → s ≡ t →
     (let layout : Layout = record { runs = runs; element = o; overlaps = s } in layout) ≡ record { runs = others; element = p; overlaps = t }
 same_layout runs others o p s t e f g = rw (e, f, g) refl
 

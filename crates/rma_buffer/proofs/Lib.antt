@@ -11,3 +11,5 @@ pub mod CallLemmas
 pub mod FaultLemmas
 pub mod PlacedLemmas
 pub mod OverlapLemmas
+pub mod AddressLemmas
+pub mod ElsewhereLemmas

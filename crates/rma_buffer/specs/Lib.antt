@@ -5,4 +5,6 @@ pub mod Layouts
 pub mod Operands
 pub mod Rules
 pub mod Calls
+pub mod Elsewhere
+pub mod CallElsewhere
 pub mod inside

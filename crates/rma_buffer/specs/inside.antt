@@ -1,3 +1,4 @@
 pub mod Placed
 pub mod Layouts
 pub mod Shape
+pub mod Elsewhere
