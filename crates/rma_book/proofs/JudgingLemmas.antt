@@ -149,6 +149,14 @@ module _ (book : BookState) (event : Event) (is_call : IsCall book.types event) 
     types = same_after book.types book.types event refl is_call.other;
   }
 
+  pub IsJudged_nothing : no_attributes ≡ attributes_of event → reason ≡ option_or (later book) None → IsJudged book book event reason
+  IsJudged_nothing says is = record {
+    judged = λ events h. is ∙ of_call book.rank book.logs book events event no_attributes h is_call says;
+    taken = λ none events h. Represents_taken book book events event (IsTaken_kept no_attributes (sym says) refl refl refl refl (stands book _ (sym is ∙ none)).0) h;
+    rank = refl;
+    logs = refl;
+  }
+
   pub IsJudged_on_comm : (comm : List ℕ) → on_comm comm ≡ attributes_of event
       → reason ≡ option_or (later book) (cond (not (is_same world comm || is_some (lookup (is_same comm) book.comms))) (Some UnknownComm) None)
       → IsJudged book book event reason

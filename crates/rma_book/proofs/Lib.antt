@@ -4,6 +4,8 @@ pub mod JudgingLemmas
 pub mod AccessLemmas
 pub mod EntryLemmas
 pub mod KnownLemmas
+pub mod ElsewhereLemmas
+pub mod DoneLemmas
 pub mod WholeLemmas
 pub mod ReadingLemmas
 pub mod OutcomeLemmas

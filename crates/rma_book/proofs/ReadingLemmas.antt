@@ -26,7 +26,7 @@ use Rattle.rma_call.specs.declared.what.What.{What}
 use Rattle.rma_reader.specs.Known.{Known, IsAmong, IsKnownLine}
 use Rattle.rma_reader.specs.Reading.{Reading, Grows}
 use Rattle.rma_reader.specs.Sites.{IsSite, IsSiteOf}
-use Rattle.rma_reader.specs.Split.{SplitText}
+use Rattle.rma_reader.specs.Split.{IsSplit, SplitText}
 use Rattle.rma_reader.proofs.ReaderLemmas.{fails_at}
 use Rattle.rma_reader.proofs.SiteLemmas.{at_site, reading_split, stated_at}
 use Rattle.rma_type.specs.Table.{Table}
@@ -40,6 +40,7 @@ use Rattle.rma_book.specs.declared.fault.FormFault.{FormFault}
 use Rattle.rma_book.specs.declared.reader.Reader.{Reader}
 use Rattle.rma_book.specs.declared.book.access.JudgedAccess.TheVariants as access
 use Rattle.rma_book.specs.inside.BookState.{BookState, Represents, IsGoodAccess, IsJudged}
+use Rattle.rma_book.specs.inside.Elsewhere.{StatesWhat}
 use Rattle.rma_book.specs.inside.Known.{AreKnown, IsCall, IsCallOf, IsKnownCall, IsStatedBy, request_of}
 use Rattle.rma_book.specs.inside.Reading.{Adds, Appends, HasTaken, HasStopped, HasGood, HasRead, IsBehind, IsReading, ReadsNext, Takes, Refuses, GoesOn, Reads}
 use Rattle.rma_book.proofs.JudgingLemmas.{call_is}
@@ -333,6 +334,22 @@ Adds_noted old grown noted own what number request lasts grows is same more = re
       (known_grown types old.lines grown grows are);
 }
 
+-- the same words may be noted once more
+pub Adds_more : (old mid : Reader) (noted : Reading) (own : List ℕ) (what : What) (number : ℕ) (request : Option (List ℕ)) (lasts : Bool) → Adds old mid (Some own) what request lasts
+    → slice_get mid.lines.calls.whats number ≡ Some what → noted ≡ record mid.lines { known = noted.known }
+    → ((known : Known) → IsAmong noted.known known → IsAmong mid.lines.known known ⊎ (known ≡ record { version = mid.lines.version; words = own; what = number; request = request; lasts = lasts }))
+    → Adds old (record mid { lines = noted }) (Some own) what request lasts
+Adds_more old mid noted own what number request lasts adds is same more = record {
+  same = ap (λ (r : Reader). record r { lines = noted }) adds.same;
+  version = ap (λ (reading : Reading). reading.version) same ∙ adds.version;
+  calls = ap (λ (reading : Reading). reading.calls.calls) same ∙ adds.calls;
+  sites = λ n value found. ap (λ (reading : Reading). slice_get reading.calls.sites n) same ∙ adds.sites n value found;
+  known = λ types event are said call lasting.
+      known_noted types mid.lines noted (record { version = mid.lines.version; words = own; what = number; request = request; lasts = lasts }) (ap (λ (reading : Reading). reading.calls) same) more
+      (record { event = event; said = subst (λ v. IsStatedBy v own event) (sym adds.version) said; what = what; is = is; call = call; lasting = lasting })
+      (adds.known types event are said call lasting);
+}
+
 -- a call was appended of which a number was given
 pub Appends_added : (old mid new : Reader) (words request : Option (List ℕ)) (what : What) (at : LineNo) (site : Option ℕ) (text : Option (List ℕ)) (number : Option ℕ) (lines : Reading)
     → Adds old mid words what request false → IsSite old.lines.calls site text → new ≡ record mid { lines = lines }
@@ -552,3 +569,54 @@ module _ (old : Reader) (grown : Reading) (at : LineNo) (line : SplitText) (know
       let taken = HasTaken_read rank logs before old h none in
       let is = taken.known known own.among in
       ReadsNext_refused old grown at line.line none grows new reason (said_of _ _ is ∙ fails_at (Fault (record { reason = reason })) is.event line.site bad) refused rank logs before place h
+
+-- ---- a line whose words state an access elsewhere
+
+-- a number was given to what it does
+HasTaken_added : (rank logs : ℕ) (lines : List Checked) (old new : Reader) (words : List ℕ) (what : What) (event : Event) → Adds old new (Some words) what None false → HasTaken rank logs lines old
+    → IsStatedBy old.lines.version words event → IsCallOf (types_after (events_of (entries lines))) what None event → HasTaken rank logs lines new
+HasTaken_added rank logs lines old new words what event adds h said call =
+    let books = ap (λ (r : Reader). r.book) adds.same in
+    record {
+      good = h.good;
+      represents = subst (λ book. Represents book (events_of (entries lines))) (sym books) h.represents;
+      of_rank = ap (λ (book : BookState). book.rank) books ∙ h.of_rank;
+      among = ap (λ (book : BookState). book.logs) books ∙ h.among;
+      version = adds.version ∙ h.version;
+      calls = adds.calls ∙ h.calls;
+      end = ap (λ (r : Reader). r.end) adds.same ∙ h.end;
+      known = adds.known (types_after (events_of (entries lines))) event h.known said call (λ lasts. absurd (false≢true lasts));
+    }
+
+module _ (old mid new : Reader) (grown : Reading) (at : LineNo) (line : SplitText) (what : What) (none : old.fault ≡ None) (adds : Adds old mid (Some line.words) what None false)
+    (grows : Grows mid.lines grown) (split : IsSplit line.line line.words line.site) (states : StatesWhat old.lines line.words what) where
+  unfaulted : mid.fault ≡ None
+  unfaulted = ap (λ (r : Reader). r.fault) adds.same ∙ none
+
+  read_added : (rank logs : ℕ) (before : List Checked) → HasRead rank logs before old → HasRead rank logs before mid
+  read_added rank logs before h =
+      let taken = HasTaken_read rank logs before old h none in
+      let is = states (types_after (events_of (entries before))) taken.known in
+      HasRead_taken rank logs before mid (HasTaken_added rank logs before old mid line.words what is.0 adds taken is.1 is.2) unfaulted
+
+  stated_split : (event : Event) → IsStatedBy old.lines.version line.words event → reading mid.lines.version line.line ≡ stated_at event line.site
+  stated_split event said = reading_split mid.lines.version line.line line.words line.site event split (subst (λ v. IsStatedBy v line.words event) (sym adds.version) said)
+
+  pub ReadsNext_elsewhere : (site : Option ℕ) → IsSiteOf grown.calls line.site site
+      → ((event : Event) (text : Option (List ℕ)) → IsCallOf mid.book.types what None event → IsSite grown.calls site text → Reads (record mid { lines = grown }) new at (record { event = event; site = text }))
+      → ReadsNext old new at.0 (Ok line.line)
+  ReadsNext_elsewhere site sited reads rank logs before place h =
+      let taken = HasTaken_read rank logs before old h none in
+      let types = types_after (events_of (entries before)) in
+      let is = states types taken.known in
+      let own = subst (λ (book : BookState). IsCallOf book.types what None is.0) (sym (ap (λ (r : Reader). r.book) adds.same)) (call_same old.book.types types taken.represents.types what None is.0 is.2) in
+      ReadsNext_stated mid grown at line.line unfaulted grows new (record { event = is.0; site = line.site })
+      (stated_split is.0 is.1 ∙ ap (λ good. good >>= λ text. Ok (Some (at_site is.0 text))) sited.0) (reads is.0 line.site own sited.1) rank logs before place (read_added rank logs before h)
+
+  pub ReadsNext_unsited : (reason : FormReason) → Fails (Fault (record { reason = reason })) (site_of line.site) → new ≡ record mid { lines = grown; fault = Some (record { line = at; reason = reason }) }
+      → ReadsNext old new at.0 (Ok line.line)
+  ReadsNext_unsited reason bad refused rank logs before place h =
+      let taken = HasTaken_read rank logs before old h none in
+      let is = states (types_after (events_of (entries before))) taken.known in
+      ReadsNext_refused mid grown at line.line unfaulted grows new reason (stated_split is.0 is.1 ∙ fails_at (Fault (record { reason = reason })) is.0 line.site bad) refused rank logs before place
+      (read_added rank logs before h)

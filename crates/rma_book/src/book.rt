@@ -106,6 +106,11 @@ impl Book {
         self.rank
     }
 
+    /// Where the book takes its memory.
+    pub fn allocator(&self) -> Global {
+        self.types.types().allocator()
+    }
+
     /// Judges a header, and takes it where it is good. It answers why it is bad, if it is.
     pub fn begin(&mut self, rank: Rank, size: u32) -> Option<FormReason>
         ensures { (version : Version) → IsJudged self.old self.new (Header version rank size) result }
@@ -146,6 +151,7 @@ impl Book {
         ensures fits { IfOk result (λ judged. IfSome (number_in judged) (λ number. number + 1 < 2 ^ 32)) }
     {
         match Said::of(what, request) {
+            Said::Nothing => Ok(self.judged(false, FormReason::UnknownComm)),
             Said::OnComm(comm) => Ok(self.judged(!self.has_comm(comm), FormReason::UnknownComm)),
             Said::OnWindow(window) => {
                 Ok(self.judged(!self.is_there(window), FormReason::UnknownWindow))

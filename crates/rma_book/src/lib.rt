@@ -9,6 +9,7 @@
 #![tactic(auto)]
 
 mod book;
+mod elsewhere;
 mod fault;
 pub mod laws;
 mod names;

@@ -44,8 +44,10 @@ pub(crate) struct Naming<'a> {
     pub(crate) attached: Option<&'a Name>,
 }
 
-/// What a call says of names and ranks. Most say one thing or two.
+/// What a call says of names and ranks. Most say one thing or two, and local accesses none.
 pub(crate) enum Said<'a> {
+    /// Nothing.
+    Nothing,
     /// The communicator has to be there.
     OnComm(&'a Name),
     /// The window has to be there.
@@ -71,7 +73,7 @@ impl<'a> Said<'a> {
             WhatRef::Epoch(call) => of_epoch(call),
             WhatRef::Moving(call) => of_moving(call),
             WhatRef::Rma(call) => of_access(&call.window, call.target, request),
-            WhatRef::Local(_) => Said::More(nothing()),
+            WhatRef::Local(_) => Said::Nothing,
         }
     }
 }

@@ -12,17 +12,19 @@ ghost use Rattle.rma_reader.specs.Sites.{IsSite};
 ghost use Rattle.rma_book.specs.Ends.{IsEnd};
 ghost use Rattle.rma_book.specs.Logs.{Checked};
 ghost use Rattle.rma_book.specs.Calls.{call_with};
+ghost use Rattle.rma_book.specs.inside.Elsewhere.{StatesWhat};
 ghost use Rattle.rma_book.specs.inside.Known.{IsCallOf, IsStatedBy};
 ghost use Rattle.rma_book.specs.inside.Reading.{Adds, Appends, HasRead, IsReading, Reads, ReadsNext};
 
 use crate::book::{Book, Judged, JudgedAccess};
+use crate::elsewhere::{elsewhere, form_of, form_of_local};
 use crate::fault::{BookEnd, FormFault};
 use rma_base::{FormReason, LineNo, Memory, Name, Rank, Version};
 use rma_call::{RankCalls, SyncCall, What};
 use rma_field::ParseError;
 use rma_form::{Event, LocalLine, RmaLine, TypeLine};
 use rma_lex::{LexFault, Line, LineCutter};
-use rma_reader::{LineReader, ReadLine, SharedSites, SplitLine};
+use rma_reader::{AccessForm, LineReader, ReadLine, SharedSites, SplitLine};
 use std::alloc::Global;
 
 /// What the good lines of a log state, and the first bad one, after which nothing is read.
@@ -93,6 +95,49 @@ impl Reader {
     // Reads the next line, whose words are not known.
     #[inline(never)]
     fn read_other(&mut self, no: LineNo, line: &SplitLine<'_>) -> Result<(), Memory>
+        requires { self.old.fault ≡ None }
+        ensures { OnOk result (ReadsNext self.old self.new no.0 (Ok line.now.line)) }
+    {
+        match self.elsewhere(line)? {
+            Some(what) => self.read_elsewhere(no, line, what),
+            None => self.read_new(no, line),
+        }
+    }
+
+    // What the access of a line does, where it is known from another place.
+    fn elsewhere(&self, line: &SplitLine<'_>) -> Result<Option<What>, Memory>
+        ensures { IfOk result (λ found. IfSome found (StatesWhat self.now.lines line.now.words)) }
+    {
+        match self.lines.elsewhere(line) {
+            Some(found) => elsewhere(
+                self.book.allocator(),
+                self.lines.what(found.what),
+                found.from,
+                found.to.as_slice(),
+            ),
+            None => Ok(None),
+        }
+    }
+
+    // Reads the next line, whose words state an access that does this.
+    fn read_elsewhere(&mut self, no: LineNo, line: &SplitLine<'_>, what: What) -> Result<(), Memory>
+        requires fault { self.old.fault ≡ None }
+        requires what { StatesWhat self.old.lines line.now.words what }
+        ensures { OnOk result (ReadsNext self.old self.new no.0 (Ok line.now.line)) }
+    {
+        let what = self.add(Some(line), what, None, false)?;
+        match self.lines.site(line) {
+            Ok(site) => self.read_call(no, site, what, None),
+            Err(ParseError::Fault(fault)) => {
+                self.refuse(no, fault.reason);
+                Ok(())
+            }
+            Err(ParseError::Memory) => Err(Memory),
+        }
+    }
+
+    // Reads the next line, which may be any.
+    fn read_new(&mut self, no: LineNo, line: &SplitLine<'_>) -> Result<(), Memory>
         requires { self.old.fault ≡ None }
         ensures { OnOk result (ReadsNext self.old self.new no.0 (Ok line.now.line)) }
     {
@@ -221,7 +266,10 @@ impl Reader {
             JudgedAccess::Good {
                 what,
                 request: made,
-            } => self.take(no, words, site, what, request, made),
+            } => {
+                let form = form_of(&line.access);
+                self.take(no, words, site, form, what, request, made)
+            }
         }
     }
 
@@ -244,19 +292,21 @@ impl Reader {
                 Ok(())
             }
             JudgedAccess::Good { what, request } => {
-                self.take(no, words, site, what, None, request)
+                let form = form_of_local(line.access);
+                self.take(no, words, site, form, what, None, request)
             }
         }
     }
 
-    // Appends an access that does this, whose request has this name and this number. The words of its line are noted, if they
-    // state it by themselves.
+    // Appends an access of this form that does this, whose request has this name and this number. The words of its line are
+    // noted, if they state it by themselves.
     #[inline]
     fn take(
         &mut self,
         no: LineNo,
         words: Option<&SplitLine<'_>>,
         site: Option<u32>,
+        form: AccessForm,
         what: What,
         request: Option<&Name>,
         number: Option<u32>,
@@ -266,8 +316,28 @@ impl Reader {
         ensures { OnOk result ((text : Option (List ℕ)) → IsSite self.old.lines.calls site text
             → Appends self.old self.new (option_map (λ line. line.now.words) words.entry) (option_copied request.entry) (call_with no text number what)) }
     {
-        let what = self.add(words, what, request, false)?;
+        let what = self.add_access(words, form, what, request)?;
         self.lines.push(no, site, what, number)
+    }
+
+    // Gives a number to what an access of this form does, whose request has this name. The words of its line are noted, if they
+    // state it by themselves; so is what they have in common with those of the same access elsewhere, if it has no request.
+    #[inline]
+    fn add_access(
+        &mut self,
+        words: Option<&SplitLine<'_>>,
+        form: AccessForm,
+        what: What,
+        request: Option<&Name>,
+    ) -> Result<u32, Memory>
+        ensures number { IfOk result (λ number. slice_get self.new.lines.calls.whats number ≡ Some what) }
+        ensures adds { OnOk result (Adds self.old self.new (option_map (λ line. line.now.words) words.entry) what (option_copied request.entry) false) }
+    {
+        let number = self.add(words, what, request, false)?;
+        if let (Some(line), None) = (words, request) {
+            self.lines.note_access(line, form, number)?;
+        }
+        Ok(number)
     }
 
     // Gives a number to what a call does, whose request has this name. The words of its line are noted, if they state it by

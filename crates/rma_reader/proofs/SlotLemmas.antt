@@ -7,11 +7,11 @@ use Rattle.std.proofs.lemmas.Option.{slice_get-map, slice_get_cases}
 use Rattle.rma_reader.specs.Known.{Known, IsAmong}
 use Rattle.rma_reader.specs.inside.Dated.{Dated, IsDated, IsPast, kept_at, known_in}
 
-some_is : {A : Type 0} → (x y : A) → Some x ≡ Some y → x ≡ y
+pub some_is : {A : Type 0} → (x y : A) → Some x ≡ Some y → x ≡ y
 some_is x y is = cc
 
 -- what stands in a list in which one element was replaced
-set_cases : {X : Type 0} (xs : List X) (i j : ℕ) (y x : X) → slice_get (slice_set xs i y) j ≡ Some x → (slice_get xs j ≡ Some x) ⊎ (y ≡ x)
+pub set_cases : {X : Type 0} (xs : List X) (i j : ℕ) (y x : X) → slice_get (slice_set xs i y) j ≡ Some x → (slice_get xs j ≡ Some x) ⊎ (y ≡ x)
 set_cases [] i j y x is = inl is
 set_cases (z ∷ xs) zero zero y x is = inr (some_is y x is)
 set_cases (z ∷ xs) zero (suc j) y x is = inl is

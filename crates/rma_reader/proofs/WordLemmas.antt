@@ -35,7 +35,7 @@ runs_joined byte bytes here next = let other = no_blank byte here in rw (other, 
 runs_alone : (byte : ℕ) (bytes : List ℕ) → is_field byte ≡ true → begins_field bytes ≡ false → runs (byte ∷ bytes) ≡ (byte ∷ []) ∷ runs bytes
 runs_alone byte bytes here next = let other = no_blank byte here in rw (other, next)
 
-runs_word : (byte : ℕ) (word : List ℕ) → list_all is_field (byte ∷ word) ≡ true → runs (byte ∷ word) ≡ (byte ∷ word) ∷ []
+pub runs_word : (byte : ℕ) (word : List ℕ) → list_all is_field (byte ∷ word) ≡ true → runs (byte ∷ word) ≡ (byte ∷ word) ∷ []
 runs_word byte [] all = runs_alone byte [] (and_left (is_field byte) true all) refl
 runs_word byte (next ∷ word) all =
     let later = and_right (is_field byte) _ all in

@@ -4,5 +4,6 @@ pub use Rattle.rma_field.specs.Steps
 pub mod Split
 pub mod Sites
 pub mod Known
+pub mod Elsewhere
 pub mod Reading
 pub mod inside

@@ -1,3 +1,4 @@
 pub mod Dated
+pub mod Accesses
 pub mod Tables
 pub mod SiteSlots

@@ -1,5 +1,5 @@
 //! Reading the lines of one log.
-ghost use Rattle.std.specs.Prelude.{◌≡◌, ◌+◌, ◌<◌, ◌^◌, ◌++◌, ◌∷◌, ◌⊎◌, [], length, slice_get, IfOk, IfErr, IfSome, MatchOption, None, Ok, OnOk, Some, true};
+ghost use Rattle.std.specs.Prelude.{◌≡◌, ◌+◌, ◌<◌, ◌^◌, ◌++◌, ◌∷◌, ◌⊎◌, [], length, slice_get, IfOk, IfErr, IfSome, MatchOption, None, Ok, OnOk, Some, false, true};
 ghost use Rattle.std.specs.Option.{option_and_then, option_copied};
 ghost use Rattle.rma_base.specs.declared.version.Version.TheVariants.{One};
 ghost use Rattle.rma_call.specs.declared.what.What.{What};
@@ -8,14 +8,18 @@ ghost use Rattle.rma_form.specs.declared.event.Stated.{Stated};
 ghost use Rattle.rma_form.specs.declared.event.Event.{Event};
 ghost use Rattle.rma_form.specs.Lines.{reading, site_of, states};
 ghost use Rattle.rma_field.specs.Steps.{Fails};
+ghost use Rattle.rma_reader.specs.Elsewhere.{IsKnownElsewhere};
 ghost use Rattle.rma_reader.specs.Known.{Known, IsAmong, IsKnownLine};
 ghost use Rattle.rma_reader.specs.Reading.{Grows, IsRead};
 ghost use Rattle.rma_reader.specs.Sites.{IsSiteOf};
+ghost use Rattle.rma_reader.specs.Split.{IsSplit};
 ghost use Rattle.rma_reader.specs.inside.Tables.{Reads};
 
+use crate::access_form::AccessForm;
+use crate::known_accesses::KnownAccesses;
 use crate::known_lines::KnownLines;
 use crate::numbered_calls::NumberedCalls;
-use crate::read_line::{KnownCall, ReadLine};
+use crate::read_line::{Elsewhere, KnownCall, ReadLine};
 use crate::shared_sites::SharedSites;
 use crate::split_line::{SplitLine, is_comment};
 use rma_base::{LineNo, Memory, Name, Version};
@@ -34,20 +38,23 @@ pub struct LineReader {
     texts: Texts,
     /// The lines that come again.
     lines: KnownLines,
+    /// The accesses that come again elsewhere.
+    accesses: KnownAccesses,
     /// The calls that were appended, with their tables.
     calls: NumberedCalls,
 }
 
 impl Model for LineReader {
-    ghost use Rattle.std.specs.Prelude.{length};
+    ghost use Rattle.std.specs.Prelude.{◌++◌, length};
     ghost use Rattle.rma_reader.specs.Reading.{Reading};
+    ghost use Rattle.rma_reader.specs.inside.Accesses.{known_of};
     ghost use Rattle.rma_reader.specs.inside.Dated.{AreNumbered};
 
     ghost Value = { Reading };
 
-    ghost view = { λ reader. record { version = reader.version; calls = reader.calls; known = reader.lines } };
+    ghost view = { λ reader. record { version = reader.version; calls = reader.calls; known = reader.lines ++ known_of reader.accesses } };
 
-    ghost invariant = { λ reader. AreNumbered (length reader.calls.whats) reader.lines };
+    ghost invariant = { λ reader. AreNumbered (length reader.calls.whats) (reader.lines ++ known_of reader.accesses) };
 }
 
 impl LineReader {
@@ -63,6 +70,7 @@ impl LineReader {
             version: Version::One,
             texts: Texts::new(alloc),
             lines: KnownLines::new(alloc)?,
+            accesses: KnownAccesses::new(alloc)?,
             calls: NumberedCalls::new(alloc, sites),
         })
     }
@@ -105,6 +113,37 @@ impl LineReader {
             request,
             site,
         }))
+    }
+
+    /// The access of the line, where its words are those of one that is known but for where it is.
+    pub fn elsewhere(&self, line: &SplitLine<'_>) -> Option<Elsewhere<'_>>
+        ensures known { IfSome result (λ found. IsKnownElsewhere self.now.known self.now.version line.now.words found.what found.from.now found.to.items) }
+        ensures within { IfSome result (λ found. found.what < length self.now.calls.whats) }
+    {
+        let Some(found) = self.accesses.find(self.version, line.words()) else {
+            return None;
+        };
+        Some(Elsewhere {
+            what: found.access.what(),
+            from: found.access.from(),
+            to: found.to,
+        })
+    }
+
+    /// The number of the site of the line, if it has one. It stands in the tables then.
+    ///
+    /// # Errors
+    ///
+    /// The site is bad, or memory ran out.
+    #[inline]
+    pub fn site(&mut self, line: &SplitLine<'_>) -> Result<Option<u32>, ParseError>
+        ensures split { IsSplit line.now.line line.now.words line.now.site }
+        ensures ok { IfOk result (λ site. IsSiteOf self.new.calls line.now.site site) }
+        ensures err { IfErr result (λ error. Fails error (site_of line.now.site)) }
+        ensures grows { Grows self.old self.new }
+    {
+        let text = line.site();
+        self.calls.site_at(self.texts.allocator(), text)
     }
 
     /// What the line states. Its site stands in the tables then.
@@ -196,6 +235,24 @@ impl LineReader {
             .note(alloc, self.version, line, what, request, lasts)
     }
 
+    /// Notes that the words of a line state an access of this form that does this, so that it is known when it comes again
+    /// elsewhere.
+    pub fn note_access(
+        &mut self,
+        line: &SplitLine<'_>,
+        form: AccessForm,
+        what: u32,
+    ) -> Result<(), Memory>
+        requires { what < length self.old.calls.whats }
+        ensures known { (known : Known) → IsAmong self.new.known known → IsAmong self.old.known known
+            ⊎ (known ≡ record { version = self.old.version; words = line.now.words; what = what; request = None; lasts = false }) }
+        ensures same { self.new ≡ record self.old { known = self.new.known } }
+    {
+        let alloc = self.texts.allocator();
+        self.accesses
+            .note(alloc, self.version, line.words(), form, what)
+    }
+
     /// The datatypes have changed: calls that depend on them are not known any more.
     pub fn forget_accesses(&mut self)
         ensures among { (known : Known) → IsAmong self.new.known known → IsAmong self.old.known known }
@@ -203,6 +260,7 @@ impl LineReader {
         ensures same { self.new ≡ record self.old { known = self.new.known } }
     {
         self.lines.forget_accesses();
+        self.accesses.forget();
     }
 
     /// What calls do that have this number.

@@ -1,4 +1,5 @@
 //! What a line states, by numbers.
+use crate::known_access::Numbers;
 use rma_base::Name;
 use rma_form::Event;
 
@@ -22,4 +23,15 @@ pub struct KnownCall {
     pub request: Option<Name>,
     /// The number of its site, if the recorder says one.
     pub site: Option<u32>,
+}
+
+/// An access that a line states which came before at another place.
+#[derive(Debug, Drop)]
+pub struct Elsewhere<'a> {
+    /// The number of what that one does.
+    pub what: u32,
+    /// Where that one is: the target and the displacement, if it is a call, and the addresses of its buffers.
+    pub from: &'a [u64],
+    /// Where the access of the line is.
+    pub to: Numbers,
 }

@@ -4,8 +4,8 @@ use Rattle.std.specs.Option.{option_copied}
 use Rattle.std.specs.Borrow.{Bor}
 use Rattle.rma_book.specs.declared.naming.Naming.{Naming}
 use Rattle.rma_book.specs.declared.naming.Said.{Said}
-use Rattle.rma_book.specs.declared.naming.Said.TheVariants.{OnComm, OnWindow, WithPeer, WithTarget, More}
-use Rattle.rma_book.specs.Naming.{Attributes, on_comm, on_window, with_peer, with_target}
+use Rattle.rma_book.specs.declared.naming.Said.TheVariants.{Nothing, OnComm, OnWindow, WithPeer, WithTarget, More}
+use Rattle.rma_book.specs.Naming.{Attributes, no_attributes, on_comm, on_window, with_peer, with_target}
 
 -- something of a name that is referred to
 abbrev pub named : {A : Type 0} → Option (Bor (List ℕ) × A) → Option (List ℕ × A)
@@ -47,6 +47,7 @@ nothing = record {
 
 -- what a call says
 abbrev pub said_value : Said → Attributes
+said_value Nothing = no_attributes
 said_value (OnComm comm) = on_comm comm.now
 said_value (OnWindow window) = on_window window.now
 said_value (WithPeer comm rank) = with_peer comm.now rank.0

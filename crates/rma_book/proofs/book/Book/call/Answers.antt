@@ -1,17 +1,22 @@
 use Rattle.std.proofs.Common.{Result, Ok, Err, IfOk}
 use Rattle.rma_book.specs.inside.BookState.{reason_in}
-use Rattle.rma_book.proofs.JudgingLemmas.{IsJudged_on_comm, IsJudged_on_window, IsJudged_with_peer, IsJudged_with_target, call_is}
+use Rattle.rma_book.proofs.JudgingLemmas.{IsJudged_nothing, IsJudged_on_comm, IsJudged_on_window, IsJudged_with_peer, IsJudged_with_target, call_is}
 use Rattle.rma_book.proofs.book.Book.call.Goals as goal
 
 IfOk_then : {X E : Type 0} {A B : X → Type 0} → (r : Result X E) → IfOk r A → ((x : X) → A x → B x) → IfOk r B
 IfOk_then (Ok x) h f = f x h
 IfOk_then (Err e) h f = tt
 
+pub returns-in-Nothing-clause-judged : goal.returns-in-Nothing-clause-judged
+returns-in-Nothing-clause-judged c = λ event is.
+    let book = c.args.self.now in
+    IsJudged_nothing book event (call_is book.types _ _ event is) (reason_in c.judged.result) (c.in-Nothing.ensures book.types event is.does is.request) c.judged.ensures.reason
+
 pub returns-in-OnComm-clause-judged : goal.returns-in-OnComm-clause-judged
 returns-in-OnComm-clause-judged c = λ event is.
     let book = c.args.self.now in
-    IsJudged_on_comm book event (call_is book.types _ _ event is) (reason_in c.judged.result) c.in-OnComm.comm.now (c.in-OnComm.ensures book.types event is.does is.request)
-    (rw c.has_comm.ensures at c.judged.ensures.reason)
+    IsJudged_on_comm book event (call_is book.types _ _ event is) (reason_in c.judged-in-OnComm.result) c.in-OnComm.comm.now (c.in-OnComm.ensures book.types event is.does is.request)
+    (rw c.has_comm.ensures at c.judged-in-OnComm.ensures.reason)
 
 pub returns-in-OnWindow-clause-judged : goal.returns-in-OnWindow-clause-judged
 returns-in-OnWindow-clause-judged c = λ event is.

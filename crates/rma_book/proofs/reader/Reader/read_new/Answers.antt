@@ -2,7 +2,7 @@ use Rattle.std.proofs.Common.{sym, subst}
 use Rattle.rma_form.specs.declared.event.Event.{Event}
 use Rattle.rma_book.specs.inside.Reading.{Reads}
 use Rattle.rma_book.proofs.ReadingLemmas.{OnOk_then, ReadsNext_nothing, ReadsNext_refused, ReadsNext_stated}
-use Rattle.rma_book.proofs.reader.Reader.read_other.Goals as goal
+use Rattle.rma_book.proofs.reader.Reader.read_new.Goals as goal
 
 pub returns-in-Ok-None : goal.returns-in-Ok-None
 returns-in-Ok-None c = ReadsNext_nothing c.args.self.now c.read.new.self c.args.no c.args.line.now.line c.requires c.read.ensures.grows (rw c.in-Ok-None.field-0-is at c.in-Ok-None.ensures.ok)

@@ -1,0 +1,212 @@
+//! The accesses that a log repeats elsewhere.
+ghost use Rattle.std.specs.Prelude.{◌≡◌, ◌⊎◌, Some, None, [], false, IfSome, IfOk, slice_set};
+ghost use Rattle.rma_reader.specs.Elsewhere.{IsElsewhere};
+ghost use Rattle.rma_reader.specs.Known.{Known};
+ghost use Rattle.rma_reader.specs.inside.Accesses.{IsKnownAmong, IsPlacedAmong, Placed};
+
+use crate::access_form::AccessForm;
+use crate::known_access::{KnownAccess, Numbers};
+use rma_base::{Memory, Version};
+use std::alloc::Global;
+use std::marker::Model;
+
+/// How many accesses are kept.
+const SLOTS: usize = 128;
+
+/// So many bytes at the front of a line tell accesses apart.
+const FRONT: usize = 8;
+
+/// So many bytes at the end of a line tell them apart, where no digit is the last.
+const BACK: usize = 4;
+
+/// What mixes keys: 2 to the 64th, divided by the golden ratio.
+const MIXER: u64 = 11_400_714_819_323_198_485;
+
+/// An access that was found elsewhere.
+#[derive(Drop)]
+pub(crate) struct FoundAccess<'a> {
+    /// The access.
+    pub(crate) access: &'a KnownAccess,
+    /// Where it is.
+    pub(crate) to: Numbers,
+}
+
+/// Accesses that came before, each in the slot that its key gives, if one of its key came twice running to it. What they do
+/// depends on the datatypes: they are known until those change.
+#[derive(Drop)]
+pub(crate) struct KnownAccesses {
+    /// The slots: none, or `SLOTS` of them.
+    slots: Vec<Option<KnownAccess>>,
+    /// The key of what came last to each slot.
+    last: Vec<u64>,
+}
+
+impl Model for KnownAccesses {
+    ghost use Rattle.std.specs.Prelude.{List, Option};
+    ghost use Rattle.rma_reader.specs.inside.Accesses.{Placed};
+
+    ghost Value = { List (Option Placed) };
+
+    ghost view = { λ accesses. accesses.slots.items };
+}
+
+impl KnownAccesses {
+    /// None.
+    pub(crate) fn new(alloc: Global) -> Result<KnownAccesses, Memory>
+        ensures { IfOk result (λ accesses. accesses ≡ []) }
+    {
+        Ok(KnownAccesses {
+            slots: Vec::new(alloc),
+            last: no_keys(alloc)?,
+        })
+    }
+
+    /// The access of these words, read in this version, where it is known from another place.
+    pub(crate) fn find(&self, version: Version, words: &[u8]) -> Option<FoundAccess<'_>>
+        ensures among { IfSome result (λ found. IsPlacedAmong self.now found.access.now) }
+        ensures version { IfSome result (λ found. found.access.now.known.version ≡ version) }
+        ensures elsewhere { IfSome result (λ found. IsElsewhere version found.access.now.form found.access.now.known.words words.now found.to.items) }
+    {
+        if self.slots.is_empty() {
+            return None;
+        }
+        let Some(key) = key_of(words) else {
+            return None;
+        };
+        let Some(Some(access)) = self.slots.get(slot_of(key)) else {
+            return None;
+        };
+        match access.elsewhere(version, words) {
+            Some(to) => Some(FoundAccess { access, to }),
+            None => None,
+        }
+    }
+
+    /// Notes that these words, read in this version, state an access of this form that does this.
+    pub(crate) fn note(
+        &mut self,
+        alloc: Global,
+        version: Version,
+        words: &[u8],
+        form: AccessForm,
+        what: u32,
+    ) -> Result<(), Memory>
+        ensures { (known : Known) → IsKnownAmong self.new known
+            → IsKnownAmong self.old known ⊎ (known ≡ record { version = version; words = words.now; what = what; request = None; lasts = false }) }
+    {
+        let Some(key) = key_of(words) else {
+            return Ok(());
+        };
+        if !comes_again(&mut self.last, key) {
+            return Ok(());
+        }
+        match KnownAccess::new(alloc, version, words, form, what) {
+            Ok(Some(access)) => self.keep(alloc, slot_of(key), access),
+            Ok(None) => Ok(()),
+            Err(Memory) => Err(Memory),
+        }
+    }
+
+    /// Keeps an access in this slot.
+    fn keep(&mut self, alloc: Global, at: usize, access: KnownAccess) -> Result<(), Memory>
+        ensures { (known : Known) → IsKnownAmong self.new known → IsKnownAmong self.old known ⊎ (known ≡ access.known) }
+    {
+        match self.open(alloc) {
+            Ok(()) => {
+                put(&mut self.slots, at, access);
+                Ok(())
+            }
+            Err(Memory) => Err(Memory),
+        }
+    }
+
+    /// Has slots from now on.
+    fn open(&mut self, alloc: Global) -> Result<(), Memory>
+        ensures { (known : Known) → IsKnownAmong self.new known → IsKnownAmong self.old known }
+    {
+        if self.slots.is_empty() {
+            self.slots = no_accesses(alloc)?;
+        }
+        Ok(())
+    }
+
+    /// No access is known any more.
+    pub(crate) fn forget(&mut self)
+        ensures { self.new ≡ [] }
+    {
+        self.slots.clear();
+    }
+}
+
+/// A number that most accesses of one form and shape have in common, and few others.
+#[inline]
+fn key_of(words: &[u8]) -> Option<u64> {
+    if words.len() < FRONT {
+        return None;
+    }
+    let front = packed(&words[..FRONT]);
+    let back = packed(&words[words.len() - BACK..]);
+    let ends = if words[words.len() - 1].is_ascii_digit() {
+        front
+    } else {
+        front ^ back << 16
+    };
+    Some((ends ^ ends >> 32).wrapping_mul(MIXER))
+}
+
+/// The bytes as one number, in which all digits are alike, and blanks.
+#[inline]
+fn packed(bytes: &[u8]) -> u64 {
+    let mut packed = 0;
+    for byte in bytes {
+        packed = packed << 8 | u64::from((*byte).max(b'9'));
+    }
+    packed
+}
+
+/// Whether the key that came last to the slot of this one was the same. From now on this is the last.
+fn comes_again(last: &mut Vec<u64>, key: u64) -> bool {
+    match last.get_mut(slot_of(key)) {
+        Some(last) => {
+            let again = *last == key;
+            *last = key;
+            again
+        }
+        None => false,
+    }
+}
+
+/// Has the access in this slot, if there is such a slot.
+fn put(slots: &mut Vec<Option<KnownAccess>>, at: usize, access: KnownAccess)
+    ensures { slots.new.items ≡ slice_set slots.old.items at (Some access) }
+{
+    if let Some(slot) = slots.get_mut(at) {
+        *slot = Some(access);
+    }
+}
+
+/// Slots without accesses.
+fn no_accesses(alloc: Global) -> Result<Vec<Option<KnownAccess>>, Memory>
+    ensures { IfOk result (λ slots. (known : Known) → IsKnownAmong slots.items known → ⊥) }
+{
+    let mut slots = Vec::with_capacity(alloc, SLOTS)?;
+    for _ in 0..SLOTS {
+        slots.push(None)?;
+    }
+    Ok(slots)
+}
+
+/// The keys of slots to which nothing came.
+fn no_keys(alloc: Global) -> Result<Vec<u64>, Memory> {
+    let mut keys = Vec::with_capacity(alloc, SLOTS)?;
+    for _ in 0..SLOTS {
+        keys.push(0)?;
+    }
+    Ok(keys)
+}
+
+/// The slot of a key.
+#[inline]
+fn slot_of(key: u64) -> usize {
+    (key >> 57) as usize
+}
