@@ -5,7 +5,7 @@ use Rattle.std.specs.Option.{option_and_then}
 use Rattle.std.proofs.lemmas.List.{map-append, get_or_append_left}
 use Rattle.std.proofs.lemmas.Option.{get_or_from_slice_get, slice_get-get_or, slice_get-map, slice_get_within, none-some}
 use Rattle.rma_call.specs.declared.what.What.{What}
-use Rattle.rma_call.specs.declared.call_list.Entry.{Entry}
+use Rattle.rma_call.specs.declared.entries.Entry.{Entry}
 use Rattle.rma_call.specs.Call.{Call}
 use Rattle.rma_call.specs.inside.CallList.{number_of, beyond, entry_call, entry_calls, IsBelow}
 

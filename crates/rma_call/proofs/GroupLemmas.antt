@@ -7,7 +7,7 @@ use Rattle.std.proofs.lemmas.List.Elements.{All-push}
 use Rattle.rma_call.specs.declared.what.What.{What}
 use Rattle.rma_call.specs.declared.groups.Groups.{Groups}
 use Rattle.rma_call.specs.declared.groups.Place.{Place}
-use Rattle.rma_call.specs.declared.call_list.Entry.{Entry}
+use Rattle.rma_call.specs.declared.entries.Entry.{Entry}
 use Rattle.rma_call.specs.inside.CallList.{AreInTables}
 use Rattle.rma_call.specs.declared.group.Group.{Group}
 use Rattle.rma_call.specs.declared.groups.Place.TheVariants.{Frame, Message, Window, Epoch, Moving, Rma, Local}

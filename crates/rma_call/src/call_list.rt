@@ -6,6 +6,7 @@ ghost use Rattle.rma_call.specs.Call.{Call, no_calls, call_of, what_of};
 ghost use Rattle.rma_call.specs.Group.{group_of};
 ghost use Rattle.rma_call.specs.inside.CallList.{number_of};
 
+use crate::entries::{Entries, Entry};
 use crate::group::Group;
 use crate::groups::{Groups, Place, next_number};
 use crate::what::{What, WhatRef};
@@ -32,26 +33,13 @@ pub struct CallRef<'a> {
 #[derive(Debug, Drop)]
 pub struct CallList {
     /// The calls in their order.
-    entries: Vec<Entry>,
+    entries: Entries,
     /// Where it stands what the calls do, by its numbers.
     places: Vec<Place>,
     /// What the calls do.
     groups: Groups,
     /// The sites of the calls.
     sites: Vec<Site>,
-}
-
-/// A call, by its numbers.
-#[derive(Clone, Copy, Debug)]
-struct Entry {
-    /// The line of the call.
-    line: LineNo,
-    /// The number of what it does.
-    what: u32,
-    /// One more than the number of its site, 0 for none.
-    site: u32,
-    /// One more than the number of its request, 0 for none.
-    request: u32,
 }
 
 impl Model for CallList {
@@ -63,9 +51,9 @@ impl Model for CallList {
     ghost use Rattle.rma_call.specs.inside.CallList.{entry_calls, AreInTables};
     ghost use Rattle.rma_call.specs.inside.Groups.{whats_at, IsThere};
 
-    ghost view = { λ list. record { calls = entry_calls (whats_at list.groups list.places.items) list.sites.items list.entries.items; whats = whats_at list.groups list.places.items; sites = list.sites.items } };
+    ghost view = { λ list. record { calls = entry_calls (whats_at list.groups list.places.items) list.sites.items list.entries; whats = whats_at list.groups list.places.items; sites = list.sites.items } };
 
-    ghost invariant = { λ list. AreInTables (whats_at list.groups list.places.items) list.sites.items list.entries.items × All (IsThere list.groups) list.places.items };
+    ghost invariant = { λ list. AreInTables (whats_at list.groups list.places.items) list.sites.items list.entries × All (IsThere list.groups) list.places.items };
 }
 
 impl CallList {
@@ -74,7 +62,7 @@ impl CallList {
         ensures { result ≡ no_calls }
     {
         CallList {
-            entries: Vec::new(alloc),
+            entries: Entries::new(alloc),
             places: Vec::new(alloc),
             groups: Groups::new(alloc),
             sites: Vec::new(alloc),
@@ -93,7 +81,7 @@ impl CallList {
         requires { i < length self.now.calls }
         ensures { slice_get self.now.calls i ≡ Some (call_of result) }
     {
-        let entry = self.entries[i];
+        let entry = self.entries.get(i);
         let site = match number_of(entry.site) {
             Some(number) => Some(&self.sites[number as usize]),
             None => None,
@@ -113,7 +101,7 @@ impl CallList {
         ensures within { result < length self.now.whats }
         ensures what { slice_get self.now.whats result ≡ option_map (λ call. call.what) (slice_get self.now.calls i) }
     {
-        self.entries[i].what
+        self.entries.what(i)
     }
 
     /// How many numbers there are of what calls do: one for each call that does something new. What each call does has one.

@@ -9,6 +9,7 @@
 
 mod assertion;
 mod call_list;
+mod entries;
 mod epoch;
 mod frame;
 mod group;

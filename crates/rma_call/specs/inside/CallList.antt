@@ -4,7 +4,7 @@ use Rattle.rma_call.specs.declared.what.What.{What}
 use Rattle.rma_call.specs.declared.what.What.TheVariants.{Sync}
 use Rattle.rma_call.specs.declared.what.SyncCall.TheVariants.{Frame}
 use Rattle.rma_call.specs.declared.frame.FrameCall.TheVariants.{Barrier}
-use Rattle.rma_call.specs.declared.call_list.Entry.{Entry}
+use Rattle.rma_call.specs.declared.entries.Entry.{Entry}
 use Rattle.rma_call.specs.Call.{Call}
 
 -- a number that is kept as one more, with 0 for none

@@ -13,7 +13,7 @@ returns-in_err-place-clause-err c =
 pub invariant_of-self-in_err-push : goal.invariant_of-self-in_err-push
 invariant_of-self-in_err-push c =
     let own = c.self.inside in
-    rw c.in_err-push.ensures.items (tables_stay own.groups c.put.new.self own.places.items own.sites.items own.entries.items c.put.ensures.grows c.self.invariant)
+    rw c.in_err-push.ensures.items (tables_stay own.groups c.put.new.self own.places.items own.sites.items own.entries c.put.ensures.grows c.self.invariant)
 
 pub returns-in_err-push-clause-err : goal.returns-in_err-push-clause-err
 returns-in_err-push-clause-err c =
@@ -25,12 +25,12 @@ pub invariant_of-self-2 : goal.invariant_of-self-2
 invariant_of-self-2 c =
     let own = c.self.inside in
     rw c.in_ok-push.ensures.items
-    (tables_more own.groups c.put.new.self own.places.items own.sites.items own.entries.items c.put.ensures.grows c.self.invariant c.in_ok-place.place c.in_ok-place.ensures.there
+    (tables_more own.groups c.put.new.self own.places.items own.sites.items own.entries c.put.ensures.grows c.self.invariant c.in_ok-place.place c.in_ok-place.ensures.there
     (omega (arith, c.len.ensures, c.in_ok-number.ensures.fits)))
 
 pub returns-clause-ok : goal.returns-clause-ok
 returns-clause-ok c =
     let own = c.self.inside in
     let more = whats_more own.groups c.put.new.self own.places.items c.in_ok-place.place c.args.what c.put.ensures.grows c.self.invariant.1 c.in_ok-place.ensures.is in
-    let same = calls_with_what (whats_at own.groups own.places.items) own.sites.items c.args.what own.entries.items c.self.invariant.0.below in
+    let same = calls_with_what (whats_at own.groups own.places.items) own.sites.items c.args.what own.entries c.self.invariant.0.below in
     rw (← c.self.view_is, c.in_ok-push.ensures.items, more, same) refl

@@ -9,8 +9,8 @@ returns-clause-ok c = λ value at.
     let is = rw (← c.self.view_is) at at in
     rw (
       ← c.self.view_is,
-      c.in_ok-push.ensures.items,
-      calls_with_call (whats_at own.groups own.places.items) own.sites.items own.entries.items
+      c.in_ok-push.ensures.ok,
+      calls_with_call (whats_at own.groups own.places.items) own.sites.items own.entries
           (record { line = c.args.line; what = c.args.what; site = c.kept.result; request = c.kept-2.result }) c.args.site value below c.kept.ensures is,
       c.kept-2.ensures,
     )
