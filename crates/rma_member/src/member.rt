@@ -1,7 +1,7 @@
 //! Who has to make a call: the members of its communicator, or of the communicator of its window.
-ghost use Rattle.std.specs.Prelude.{◌≡◌, ◌++◌, [], ℕ, List, Some, false, slice_get, IfOk, OnOk};
+ghost use Rattle.std.specs.Prelude.{◌≡◌, ◌<◌, ◌++◌, [], ℕ, List, Some, false, length, slice_get, IfOk, OnOk};
 ghost use Rattle.std.specs.List.{cons_option};
-ghost use Rattle.rma_call.specs.Call.{Call, RankCalls, call_of, what_of};
+ghost use Rattle.rma_call.specs.Call.{Call, RankCalls, what_of};
 ghost use Rattle.rma_member.specs.Declaration.{declaration_of, declarations, declarations_of};
 ghost use Rattle.rma_member.specs.Attribute.{declared, created};
 ghost use Rattle.rma_member.specs.Member.{members_of_comm, members};
@@ -11,7 +11,7 @@ ghost use Rattle.rma_member.specs.inside.Nothing.{DeclaresNothing};
 use crate::attribute::WindowAttributes;
 use crate::declaration::{Declaration, Declarations, push_declaration};
 use rma_base::{Memory, Name, Rank, RankSet, Sequence};
-use rma_call::{CallList, CallRef, FrameCall, RankCalls, WhatRef, WindowCall};
+use rma_call::{CallList, FrameCall, RankCalls, WhatRef, WindowCall};
 use rma_round::Kind;
 use std::alloc::Global;
 
@@ -109,7 +109,7 @@ fn push_declared(
         return Ok(());
     }
     for i in 0..calls.len() {
-        push_call(own.rank(), calls.get(i), comms, creations)?;
+        push_call(own.rank(), calls, i, comms, creations)?;
     }
     Ok(())
 }
@@ -126,19 +126,22 @@ fn may_declare(calls: &CallList) -> bool
     false
 }
 
-/// Appends what a call declares, if it declares anything, as few do.
+/// Appends what the call at an index declares, if it declares anything, as few do: of the others only what they do is looked at.
 fn push_call(
     rank: Rank,
-    call: CallRef<'_>,
+    calls: &CallList,
+    i: usize,
     comms: &mut Sequence<Declaration<RankSet>>,
     creations: &mut Sequence<Declaration<WindowAttributes>>,
 ) -> Result<(), Memory>
-    ensures comms { OnOk result (comms.new ≡ comms.old ++ cons_option (declaration_of declared rank (call_of call.entry)) []) }
-    ensures creations { OnOk result (creations.new ≡ creations.old ++ cons_option (declaration_of created rank (call_of call.entry)) []) }
+    requires { i < length calls.now.calls }
+    ensures comms { OnOk result ((call : Call) → slice_get calls.now.calls i ≡ Some call → comms.new ≡ comms.old ++ cons_option (declaration_of declared rank call) []) }
+    ensures creations { OnOk result ((call : Call) → slice_get calls.now.calls i ≡ Some call → creations.new ≡ creations.old ++ cons_option (declaration_of created rank call) []) }
 {
-    if !declares(call.what) {
+    if !declares(calls.what(calls.what_number(i))) {
         return Ok(());
     }
+    let call = calls.get(i);
     push_declaration(rank, call, comms)?;
     push_declaration(rank, call, creations)
 }
