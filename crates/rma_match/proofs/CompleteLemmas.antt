@@ -10,6 +10,7 @@ use Rattle.rma_link.specs.Point.{entry, return_of}
 use Rattle.rma_run.specs.Run.{AreInOrder, calls_of}
 use Rattle.rma_run.proofs.CallLemmas.{calls_are_own}
 use Rattle.rma_run.proofs.ContainLemmas.{has_first, has_later, has_none, first_or_later}
+use Rattle.rma_round.proofs.RowLemmas.{in_map}
 use Rattle.rma_exposure.specs.declared.side.Side.TheVariants.{Exposure, Access}
 use Rattle.rma_exposure.specs.Opening.{Opening, opened, opening_at}
 use Rattle.rma_exposure.specs.Closing.{closing_of, opener_of}
@@ -27,14 +28,6 @@ module _ {X Y : Type 0} (f : X → Y) where
       first_or_later z x zs
       (λ (at : z ≡ x). subst (λ y. Contains (map f (z ∷ zs)) (f y)) at (has_first (f z) (map f zs)))
       (λ (later : Contains zs x). has_later (f z) (f x) (map f zs) (map_has zs x later))
-      has
-
-  pub in_map : (xs : List X) (y : Y) → Contains (map f xs) y → (x : X) × Contains xs x × (f x ≡ y)
-  in_map [] y has = has_none y has
-  in_map (z ∷ zs) y has =
-      first_or_later (f z) y (map f zs)
-      (λ (at : f z ≡ y). (z, has_first z zs, at))
-      (λ (later : Contains (map f zs) y). let one = in_map zs y later in (one.0, has_later z one.0 zs one.1, one.2))
       has
 
 -- the call at a number that opens an epoch

@@ -23,7 +23,7 @@ use Rattle.rma_round.proofs.NumberLemmas.{place_has}
 use Rattle.rma_round.proofs.MeetLemmas.{meet_has}
 use Rattle.rma_match.specs.Membership.{members}
 use Rattle.rma_match.specs.Source.{others, round_entry, round_entries}
-use Rattle.rma_match.proofs.CompleteLemmas.{in_map}
+use Rattle.rma_round.proofs.RowLemmas.{in_map}
 
 -- a call of another rank is of the round of a call that does this
 record IsPartner (calls : ℕ → List Call) (rank number other found : ℕ) (what : What) : Type 0 where

@@ -36,13 +36,14 @@ enum Step {
 use Step::{Allreduce, Barrier, Bcast, Complete, Create, Fence, Free, Gather, Reduce};
 
 /// The calls of three ranks. A call of a rank, its number, and the call of another rank in its round. The edges, as the rank and
-/// the position of each end, and the meets, as the rank and the number of each call.
+/// the position of each end, and the meets, as the rank and the number of each call. Whether the ranks go in step.
 struct Row {
     shows: &'static str,
     calls: [&'static [Step]; 3],
     partner: (u32, u32, u32, Option<u32>),
     edges: &'static [((u32, u32), (u32, u32))],
     meets: &'static [&'static [(u32, u32)]],
+    in_step: bool,
 }
 
 static ROWS: &[Row] = &[
@@ -56,6 +57,7 @@ static ROWS: &[Row] = &[
         partner: (0, 0, 2, Some(0)),
         edges: &[],
         meets: &[&[(0, 0), (1, 0), (2, 0)]],
+        in_step: true,
     },
     Row {
         shows: "a barrier of a communicator is a meet of those that call it",
@@ -63,6 +65,7 @@ static ROWS: &[Row] = &[
         partner: (0, 0, 1, None),
         edges: &[],
         meets: &[&[(0, 0), (2, 0)]],
+        in_step: true,
     },
     Row {
         shows: "one rank alone meets none, and its partner is itself",
@@ -70,6 +73,7 @@ static ROWS: &[Row] = &[
         partner: (1, 1, 1, Some(1)),
         edges: &[],
         meets: &[],
+        in_step: true,
     },
     Row {
         shows: "a call of no kind has no partner",
@@ -77,6 +81,7 @@ static ROWS: &[Row] = &[
         partner: (0, 0, 1, None),
         edges: &[],
         meets: &[],
+        in_step: true,
     },
     Row {
         shows: "a creation is counted with barriers, and does not meet",
@@ -88,6 +93,7 @@ static ROWS: &[Row] = &[
         partner: (0, 1, 1, Some(2)),
         edges: &[],
         meets: &[&[(0, 1), (1, 2)]],
+        in_step: false,
     },
     Row {
         shows: "a fence meets where it has no noprecede",
@@ -99,6 +105,7 @@ static ROWS: &[Row] = &[
         partner: (0, 1, 1, Some(1)),
         edges: &[],
         meets: &[&[(0, 1), (1, 1)]],
+        in_step: true,
     },
     Row {
         shows: "frees and fences of a window are counted apart",
@@ -110,6 +117,7 @@ static ROWS: &[Row] = &[
         partner: (0, 1, 1, Some(0)),
         edges: &[],
         meets: &[&[(0, 1), (1, 0)], &[(0, 0), (1, 1)]],
+        in_step: false,
     },
     Row {
         shows: "a broadcast leads from its root to all others",
@@ -117,6 +125,7 @@ static ROWS: &[Row] = &[
         partner: (0, 0, 1, Some(1)),
         edges: &[((1, 2), (0, 1)), ((1, 2), (2, 1))],
         meets: &[],
+        in_step: false,
     },
     Row {
         shows: "a gather and a reduction lead from all others to their roots",
@@ -128,6 +137,7 @@ static ROWS: &[Row] = &[
         partner: (2, 0, 0, Some(0)),
         edges: &[((0, 2), (1, 3)), ((1, 0), (0, 1)), ((2, 0), (0, 1))],
         meets: &[],
+        in_step: false,
     },
     Row {
         shows: "no bytes are not linked",
@@ -139,6 +149,7 @@ static ROWS: &[Row] = &[
         partner: (2, 2, 0, Some(2)),
         edges: &[],
         meets: &[],
+        in_step: true,
     },
     Row {
         shows: "data from all to all is a meet",
@@ -150,6 +161,7 @@ static ROWS: &[Row] = &[
         partner: (1, 1, 2, None),
         edges: &[],
         meets: &[&[(0, 1), (1, 1)]],
+        in_step: false,
     },
 ];
 
@@ -282,7 +294,8 @@ fn check(rt: &impl Abort, alloc: Global, row: &Row) -> Result<(), Fail> {
     let found = partner(&rounds, run.as_slice(), rank, number, other);
     assert!(rt; found == want, "{}", row.shows);
     let mut links = Links::new(alloc);
-    rounds.push_links(run.as_slice(), &mut links)?;
+    rounds.push_edges(run.as_slice(), &mut links)?;
+    rounds.push_meets(run.as_slice(), &mut links)?;
     assert!(rt;
         are_edges(links.edges.as_slice(), row.edges),
         "{}",
@@ -293,6 +306,7 @@ fn check(rt: &impl Abort, alloc: Global, row: &Row) -> Result<(), Fail> {
         "{}",
         row.shows
     );
+    assert_eq!(rt; rounds.are_in_step()?, row.in_step, "{}", row.shows);
     Ok(())
 }
 

@@ -1,4 +1,5 @@
 mod LinkLemmas
 mod SameLinks
 mod ToldLemmas
+mod StepLemmas
 pub mod ImpossibleLemmas

@@ -1,16 +1,19 @@
 //! The calls that are never left.
-ghost use Rattle.std.specs.Prelude.{◌≡◌, ◌++◌, [], IfOk, OnOk};
+ghost use Rattle.std.specs.Prelude.{◌≡◌, ◌≤◌, ◌++◌, [], length, IfOk, OnOk};
 ghost use Rattle.std.specs.List.{cons_option};
 ghost use Rattle.std.specs.Option.{option_and_then};
 ghost use Rattle.rma_run.specs.Run.{IsRun};
 ghost use Rattle.rma_match.specs.Matches.{AreMatches};
+ghost use Rattle.rma_order.specs.RunLinks.{links_of};
 ghost use Rattle.rma_order.specs.Impossible.{AreImpossibleCalls, first_at, told, told_all};
 
 use crate::call_counts::call_counts;
-use crate::links::run_links;
+use crate::links::{run_edges, with_meets};
+use crate::step::are_in_step;
 use rma_base::limits::RANKS;
 use rma_base::{LineNo, Memory, Rank, Sequence};
 use rma_call::RankCalls;
+use rma_link::Links;
 use rma_match::Matches;
 use rma_walk::first_impossible_calls;
 use std::alloc::Global;
@@ -43,8 +46,29 @@ pub fn impossible_calls(
     if ranks.len() > RANKS {
         return Err(Memory);
     }
+    let edges = run_edges(alloc, ranks, matches)?;
+    if are_in_step(edges.edges.as_slice(), &matches.rounds)? {
+        return Ok(Sequence::new(alloc));
+    }
+    walked(alloc, ranks, matches, edges)
+}
+
+/// The same of a run with these edges, by a walk.
+fn walked(
+    alloc: Global,
+    ranks: &[RankCalls],
+    matches: &Matches,
+    edges: Links,
+) -> Result<Sequence<ImpossibleCall>, Memory>
+    requires few { length ranks.now ≤ RANKS }
+    requires run { IsRun ranks.now }
+    requires matches { AreMatches ranks.now matches.now }
+    requires edges { edges.edges ≡ (links_of ranks.now).edges }
+    requires meets { edges.meets ≡ [] }
+    ensures { IfOk result (AreImpossibleCalls ranks.now) }
+{
     let counts = call_counts(alloc, ranks)?;
-    let links = run_links(alloc, ranks, matches)?;
+    let links = with_meets(ranks, matches, edges)?;
     match first_impossible_calls(alloc, &counts, &links)? {
         None => Ok(Sequence::new(alloc)),
         Some(firsts) => told_all(alloc, ranks, firsts.as_slice()),

@@ -12,6 +12,7 @@ mod call_counts;
 mod impossible;
 pub mod laws;
 mod links;
+mod step;
 
 pub use impossible::{ImpossibleCall, impossible_calls};
 pub use links::run_links;

@@ -1,5 +1,5 @@
 //! The links of a run.
-ghost use Rattle.std.specs.Prelude.{IfOk};
+ghost use Rattle.std.specs.Prelude.{◌≡◌, [], IfOk};
 ghost use Rattle.rma_run.specs.Run.{IsRun, lens_of};
 ghost use Rattle.rma_match.specs.Matches.{AreMatches};
 ghost use Rattle.rma_link.specs.Within.{AreWithin};
@@ -22,9 +22,42 @@ pub fn run_links(alloc: Global, ranks: &[RankCalls], matches: &Matches) -> Resul
     ensures same { IfOk result (λ links. LinkTheSame links (links_of ranks.now)) }
     ensures within { IfOk result (AreWithin (lens_of ranks.now)) }
 {
+    let links = run_edges(alloc, ranks, matches)?;
+    with_meets(ranks, matches, links)
+}
+
+/// The edges between the calls of a run with these matches, and no meets.
+pub(crate) fn run_edges(
+    alloc: Global,
+    ranks: &[RankCalls],
+    matches: &Matches,
+) -> Result<Links, Memory>
+    requires run { IsRun ranks.now }
+    requires matches { AreMatches ranks.now matches.now }
+    ensures edges { IfOk result (λ links. links.edges ≡ (links_of ranks.now).edges) }
+    ensures meets { IfOk result (λ links. links.meets ≡ []) }
+{
     let mut links = Links::new(alloc);
     matches.messages.push_edges(alloc, &mut links)?;
     matches.exposures.push_edges(ranks, &mut links)?;
-    matches.rounds.push_links(ranks, &mut links)?;
+    matches.rounds.push_edges(ranks, &mut links)?;
+    Ok(links)
+}
+
+/// These edges of a run, and its meets.
+pub(crate) fn with_meets(
+    ranks: &[RankCalls],
+    matches: &Matches,
+    edges: Links,
+) -> Result<Links, Memory>
+    requires run { IsRun ranks.now }
+    requires matches { AreMatches ranks.now matches.now }
+    requires edges { edges.edges ≡ (links_of ranks.now).edges }
+    requires meets { edges.meets ≡ [] }
+    ensures same { IfOk result (λ links. LinkTheSame links (links_of ranks.now)) }
+    ensures within { IfOk result (AreWithin (lens_of ranks.now)) }
+{
+    let mut links = edges;
+    matches.rounds.push_meets(ranks, &mut links)?;
     Ok(links)
 }

@@ -3,5 +3,6 @@ pub mod KeptLemmas
 pub mod MemberLemmas
 pub mod EdgeLemmas
 pub mod MeetLemmas
-mod RowLemmas
+pub mod RowLemmas
 mod OwnLemmas
+pub mod StepLemmas

@@ -1,5 +1,5 @@
 -- The meets of a run, each once and each at every call that waits for all.
-use Rattle.std.proofs.Common.{◌≡◌, ℕ, zero, suc, max, fold, nat_cmp, unwrap_or, ◌+◌, ◌<◌, ◌≤◌, inl, inr, ⊎_elim, Bool, true, false, cond, ◌||◌, ◌∷◌, ◌++◌, List, [], length, map, Option, Some, None, nat_le, get_or, slice_get, refl, sym, ap, subst, ◌∙◌, arith, append_assoc, append-nil}
+use Rattle.std.proofs.Common.{◌≡◌, ℕ, zero, suc, max, min, fold, nat_cmp, nat_eq, unwrap_or, ◌+◌, ◌-◌, ◌*◌, ◌/◌, ◌<◌, ◌≤◌, inl, inr, ⊎_elim, Bool, true, false, cond, ◌||◌, ◌∷◌, ◌++◌, List, [], length, map, Option, Some, None, nat_le, get_or, slice_get, refl, sym, ap, subst, ◌∙◌, arith, append_assoc, append-nil}
 use Rattle.std.specs.Prelude.{All, Contains, option_map}
 use Rattle.std.specs.List.{flat_map, list_any, cons_option}
 use Rattle.std.specs.List.Sorted.{IsStrictlyIncreasing}
@@ -9,6 +9,7 @@ use Rattle.std.specs.BTreeMap.{is_at}
 use Rattle.std.specs.Cmp.Lexicographic.{same_text}
 use Rattle.std.proofs.Math.Nat.{le-max_left, le-max_right}
 use Rattle.std.proofs.lemmas.Bool.{cases_lt}
+use Rattle.std.proofs.lemmas.Cmp.{nat_eq_equiv}
 use Rattle.std.proofs.lemmas.Option.{slice_get_within}
 use Rattle.std.proofs.lemmas.Map.Views.{Contains-from_lookup}
 use Rattle.std.proofs.lemmas.Bool.Decides.{nat_tests}
@@ -30,7 +31,7 @@ use Rattle.rma_round.specs.Meet.{waits_for_all, member_at, round_at, meet_of, me
 use Rattle.rma_round.specs.declared.name_rounds.NameRounds.{NameRounds}
 use Rattle.rma_round.specs.declared.rounds.Rounds.{Rounds}
 use Rattle.rma_round.specs.inside.Rounds.{listed, kept, numbers_in, of_kind, Represents}
-use Rattle.rma_round.specs.inside.Met.{longest, member_waits, met, before_round, name_meets, kind_meets, all_meets}
+use Rattle.rma_round.specs.inside.Met.{longest, member_waits, met, before_round, from_round, turn_start, name_meets, turn_meets, kind_meets, all_meets}
 use Rattle.rma_round.proofs.KeptLemmas.{Represents_of_kind}
 use Rattle.rma_round.proofs.NumberLemmas.{call_at, place_is, place_has}
 
@@ -234,13 +235,49 @@ listed_within rank (e ∷ es) n = by (is_at (nat_cmp rank) e.0) (listed_within r
     by true rest = let own = le-max_right n (length e.1) in let from = longest_from es (max n (length e.1)) in omega arith
     by false rest = rest
 
-module _ (ranks : List RankCalls) (rounds : Rounds) (in_order : AreInOrder ranks) (are : Represents (calls_of ranks) rounds) where
-  all_is : (meet : Meet) → Contains (all_meets ranks rounds) meet → IsRoundMeet ranks meet
+-- the first turn begins with no round, and the last one ends with all
+starts_at_none : (turns rounds : ℕ) → 0 < turns → turn_start turns rounds 0 ≡ 0
+starts_at_none turns rounds some = by (nat_eq 0 turns) refl
+  where
+    by : (b : Bool) → nat_eq 0 turns ≡ b → cond b rounds (min (0 * (rounds / turns)) rounds) ≡ 0
+    by true is = absurd (grind (arith, nat_tests))
+    by false is = omega arith
+
+ends_with_all : (turns rounds : ℕ) → turn_start turns rounds turns ≡ rounds
+ends_with_all turns rounds = ap (λ b. cond b rounds (min (turns * (rounds / turns)) rounds)) (nat_eq_equiv.refl turns)
+
+-- a round is had among those from one number up to another
+from_round_has : (f : ℕ → List Meet) (meet : Meet) (from to place : ℕ) → from ≤ place → place < to → Contains (f place) meet → Contains (from_round f from to) meet
+from_round_has f meet from to place at below has =
+    let is : place ≡ from + (place - from) = omega arith in
+    before_round_has (λ k. f (from + k)) meet (to - from) (place - from) (omega arith) (subst (λ p. Contains (f p) meet) is has)
+
+-- between 0 and a number at which something ends, each place lies between two starts
+between : (start : ℕ → ℕ) (n place : ℕ) → start 0 ≡ 0 → place < start n → (turn : ℕ) × (turn < n) × (start turn ≤ place) × (place < start (turn + 1))
+between start zero place first below = absurd (omega (arith, first, below))
+between start (suc n) place first below =
+    ⊎_elim
+    (λ (before : place < start n). let one = between start n place first before in (one.0, omega (arith, one.1), one.2, one.3))
+    (λ (from : start n ≤ place). (n, omega arith, from, subst (λ m. place < start m) (let same : suc n ≡ n + 1 = omega arith in same) below))
+    (cases_lt place (start n))
+
+module _ (ranks : List RankCalls) (rounds : Rounds) (in_order : AreInOrder ranks) (are : Represents (calls_of ranks) rounds) (turns : ℕ) (some : 0 < turns) where
+  -- the turn of a round
+  turn_of : (most place : ℕ) → place < most → (turn : ℕ) × (turn < turns) × (turn_start turns most turn ≤ place) × (place < turn_start turns most (turn + 1))
+  turn_of most place below =
+      between (turn_start turns most) turns place (starts_at_none turns most some) (subst (λ (n : ℕ). place < n) (sym (ends_with_all turns most)) below)
+
+  all_is : (meet : Meet) → Contains (all_meets ranks rounds turns) meet → IsRoundMeet ranks meet
   all_is meet has =
-      let k = in_flat_map (kind_meets ranks rounds) kinds meet has in
-      let e = in_flat_map (name_meets ranks k.0) (of_kind k.0 rounds).names.entries meet k.2 in
-      let p = in_before_round (λ place. met ranks (round_at k.0 e.0.0 ranks place)) meet (longest e.0.1.ranks.entries) e.2 in
-      of_met ranks in_order k.0 e.0.0 p.0 meet (list_any (member_waits ranks) (round_at k.0 e.0.0 ranks p.0)) refl p.1
+      let k = in_flat_map (kind_meets ranks rounds turns) kinds meet has in
+      let names = (of_kind k.0 rounds).names.entries in
+      let t = in_before_round (turn_meets ranks k.0 turns names) meet turns k.2 in
+      let e = in_flat_map (name_meets ranks k.0 turns t.0) names meet t.1 in
+      let most = longest e.0.1.ranks.entries in
+      let from = turn_start turns most t.0 in
+      let p = in_before_round (λ n. met ranks (round_at k.0 e.0.0 ranks (from + n))) meet (turn_start turns most (t.0 + 1) - from) e.2 in
+      let place = from + p.0 in
+      of_met ranks in_order k.0 e.0.0 place meet (list_any (member_waits ranks) (round_at k.0 e.0.0 ranks place)) refl p.1
 
   -- a round of which a call waits has its meet
   met_has : (meet : Meet) (is : IsRoundMeet ranks meet) → Contains (met ranks (round_at is.kind is.name ranks is.place)) meet
@@ -256,9 +293,9 @@ module _ (ranks : List RankCalls) (rounds : Rounds) (in_order : AreInOrder ranks
       let any : list_any (member_waits ranks) (round_at is.kind is.name ranks is.place) ≡ true = has_any (member_waits ranks) (round_at is.kind is.name ranks is.place) own waits has_own in
       rw any (meet_of_has (round_at is.kind is.name ranks is.place) meet is.several is.calls_are)
 
-  is_all : (meet : Meet) → IsRoundMeet ranks meet → Contains (all_meets ranks rounds) meet
+  is_all : (meet : Meet) → IsRoundMeet ranks meet → Contains (all_meets ranks rounds turns) meet
   is_all meet is =
-      flat_map_has (kind_meets ranks rounds) kinds is.kind meet (kinds_have is.kind)
+      flat_map_has (kind_meets ranks rounds turns) kinds is.kind meet (kinds_have is.kind)
       (by (kept names is.name) refl ((Represents_of_kind is.kind (calls_of ranks) rounds are).numbers_are is.name is.own.rank.0))
     where
       names : List (List ℕ × NameRounds)
@@ -267,22 +304,26 @@ module _ (ranks : List RankCalls) (rounds : Rounds) (in_order : AreInOrder ranks
       at : slice_get (numbers is.kind is.name (calls_of ranks is.own.rank.0)) is.place ≡ Some is.number
       at = place_has is.kind is.name (calls_of ranks is.own.rank.0) is.place is.number is.is_at
 
-      by : (o : Option NameRounds) → kept names is.name ≡ o → numbers_in o is.own.rank.0 ≡ numbers is.kind is.name (calls_of ranks is.own.rank.0) → Contains (kind_meets ranks rounds is.kind) meet
+      by : (o : Option NameRounds) → kept names is.name ≡ o → numbers_in o is.own.rank.0 ≡ numbers is.kind is.name (calls_of ranks is.own.rank.0) → Contains (kind_meets ranks rounds turns is.kind) meet
       by None found same = let none = ap (λ l. slice_get l is.place) same ∙ at in absurd (cc)
       by (Some own) found same =
           let there = slice_get_within (numbers is.kind is.name (calls_of ranks is.own.rank.0)) is.place is.number at in
           let few = listed_within is.own.rank.0 own.ranks.entries 0 in
           let long : length (listed own.ranks.entries is.own.rank.0) ≡ length (numbers is.kind is.name (calls_of ranks is.own.rank.0)) = ap length same in
-          flat_map_has (name_meets ranks is.kind) names (is.name, own) meet (Contains-from_lookup (λ x y e. same_text x y (sym e)) is.name own names found)
-          (before_round_has (λ place. met ranks (round_at is.kind is.name ranks place)) meet (longest own.ranks.entries) is.place (omega arith) (met_has meet is))
+          let most = longest own.ranks.entries in
+          let f : ℕ → List Meet = λ place. met ranks (round_at is.kind is.name ranks place) in
+          let t = turn_of most is.place (omega arith) in
+          before_round_has (turn_meets ranks is.kind turns names) meet turns t.0 t.1
+          (flat_map_has (name_meets ranks is.kind turns t.0) names (is.name, own) meet (Contains-from_lookup (λ x y e. same_text x y (sym e)) is.name own names found)
+          (from_round_has f meet (turn_start turns most t.0) (turn_start turns most (t.0 + 1)) is.place t.2 t.3 (met_has meet is)))
 
   -- so the meets are those of the run
-  pub has_meets : (before : List Meet) → HasMeets (before ++ all_meets ranks rounds) before (round_meets ranks)
+  pub has_meets : (before : List Meet) → HasMeets (before ++ all_meets ranks rounds turns) before (round_meets ranks)
   has_meets before meet = (
-    (λ has. ⊎_elim (λ old. inl old) (λ new. inr (meet_has ranks meet (all_is meet new))) (Contains-append_cases before (all_meets ranks rounds) meet has)),
+    (λ has. ⊎_elim (λ old. inl old) (λ new. inr (meet_has ranks meet (all_is meet new))) (Contains-append_cases before (all_meets ranks rounds turns) meet has)),
     (λ either. ⊎_elim
-        (λ old. Contains-append_left before (all_meets ranks rounds) meet old)
-        (λ new. Contains-append_right before (all_meets ranks rounds) meet (is_all meet (meet_is ranks meet new)))
+        (λ old. Contains-append_left before (all_meets ranks rounds turns) meet old)
+        (λ new. Contains-append_right before (all_meets ranks rounds turns) meet (is_all meet (meet_is ranks meet new)))
         either),
   )
 

@@ -1,7 +1,10 @@
 -- The ranks that have calls on one name, with their calls.
-use Rattle.std.proofs.Common.{◌≡◌, ℕ, ◌<◌, ◌∷◌, List, [], length, Option, Some, None, Result, Ok, Err, nat_cmp, get_or, slice_get, refl, sym, ap, subst, ◌∙◌, arith}
+use Rattle.std.proofs.Common.{◌≡◌, ℕ, ◌+◌, ◌<◌, Bool, true, false, map, nat_lt, ◌∷◌, List, [], length, Option, Some, None, Result, Ok, Err, nat_cmp, get_or, slice_get, refl, sym, ap, subst, ◌∙◌, arith}
 use Rattle.std.specs.Prelude.{option_map, unwrap_or, IsSome, IfOk, Contains}
 use Rattle.std.specs.List.Sorted.{IsStrictlyIncreasing}
+use Rattle.std.proofs.lemmas.Bool.Decides.{nat_tests}
+use Rattle.std.proofs.lemmas.List.Elements.{All-contains}
+use Rattle.rma_run.proofs.ContainLemmas.{has_first, has_later, has_none, first_or_later}
 use Rattle.std.specs.Map.{keys_of}
 use Rattle.std.specs.BTreeMap.{IsOrdered, get}
 use Rattle.std.proofs.lemmas.Cmp.{nat_cmp_total}
@@ -12,7 +15,7 @@ use Rattle.std.proofs.lemmas.Map.Views.{btree_map_contains_key_iff}
 use Rattle.std.proofs.lemmas.Option.{slice_get-map, slice_get-get_or}
 use Rattle.rma_round.specs.declared.name_rounds.NameRounds.{NameRounds}
 use Rattle.rma_round.specs.declared.name_rounds.RankRounds.{RankRounds}
-use Rattle.rma_round.specs.inside.Rounds.{ranks_of, row_entry, row_entries, AreRows}
+use Rattle.rma_round.specs.inside.Rounds.{ranks_of, row_entry, row_entries, AreRows, calls_in}
 
 ranks_are_keys : (rows : List RankRounds) → ranks_of rows ≡ keys_of (row_entries rows)
 ranks_are_keys [] = refl
@@ -42,3 +45,36 @@ module _ (rounds : NameRounds) (ordered : IsOrdered nat_cmp rounds.ranks) (rows 
 pub IfOk_map : {T E : Type 0} {P Q : T → Type 0} (r : Result T E) → ((x : T) → P x → Q x) → IfOk r P → IfOk r Q
 IfOk_map (Ok x) f p = f x p
 IfOk_map (Err e) f p = tt
+
+pub in_map : {X Y : Type 0} (f : X → Y) (xs : List X) (y : Y) → Contains (map f xs) y → (x : X) × Contains xs x × (f x ≡ y)
+in_map f [] y has = has_none y has
+in_map f (x ∷ xs) y has =
+    first_or_later (f x) y (map f xs)
+    (λ is. (x, has_first x xs, is))
+    (λ later. let one = in_map f xs y later in (one.0, has_later x one.0 xs one.1, one.2))
+    has
+
+pub some_within : {X : Type 0} (xs : List X) (x : X) → Contains xs x → 0 < length xs
+some_within [] x has = has_none x has
+some_within (y ∷ ys) x has = omega arith
+
+pub some_there : (l : List ℕ) (number index : ℕ) → slice_get l number ≡ Some index → 0 < length l
+some_there [] number index is = absurd (let no : ⊥ = cc in no)
+some_there (n ∷ ns) number index is = omega arith
+
+-- a rank that makes a call has a row
+module _ (rounds : NameRounds) (rows : List RankRounds) (are_rows : AreRows rounds rows) where
+  pub row_of : (rank : ℕ) → 0 < length (calls_in rounds rank) → (row : RankRounds) × Contains rows row × (row.rank.0 ≡ rank)
+  row_of rank some = in_map (λ row. row.rank.0) rows rank (are_rows.each rank some)
+
+  -- and a row has the calls of its rank
+  pub calls_of_row : (row : RankRounds) → Contains rows row → row.numbers.now ≡ calls_in rounds row.rank.0
+  calls_of_row row has = All-contains (λ (r : RankRounds). r.numbers.now ≡ calls_in rounds r.rank.0) rows row are_rows.numbers_are has
+
+-- the names before, or this one
+pub before_or_here : (P : Type 0) (j i : ℕ) → j < i + 1 → (j < i → P) → (j ≡ i → P) → P
+before_or_here P j i below before here = by (nat_lt j i) refl
+  where
+    by : (b : Bool) → nat_lt j i ≡ b → P
+    by true is = before (grind (arith, nat_tests))
+    by false is = here (grind (arith, nat_tests))

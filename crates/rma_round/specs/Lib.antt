@@ -2,4 +2,5 @@ pub mod Kind
 pub mod Round
 pub mod Edge
 pub mod Meet
+pub mod Step
 pub mod inside

@@ -9,9 +9,10 @@ ghost use Rattle.rma_round.specs.Round.{numbers, place_in, match_of, matched_at}
 ghost use Rattle.rma_round.specs.Kind.{named};
 ghost use Rattle.rma_round.specs.inside.Rounds.{kept, numbers_in, names_in, AreOnName, AreFoundOnName, AreOfKind};
 ghost use Rattle.rma_round.specs.inside.Lists.{list_of};
-ghost use Rattle.rma_round.specs.inside.Met.{name_meets};
+ghost use Rattle.rma_round.specs.inside.Met.{before_round, turn_meets};
 
 use crate::kind::{Kind, named};
+use crate::meet::Turn;
 use crate::name_rounds::{NameRounds, place_in};
 use indexmap::IndexMap;
 use rma_base::{Memory, Name, Rank, Sequence};
@@ -148,22 +149,52 @@ impl KindRounds {
         self.names.is_empty()
     }
 
-    /// Appends the meet of each round of which a call waits for all.
+    /// Appends the meet of each round of which a call waits for all, in so many turns.
     pub(crate) fn push_meets(
         &self,
         alloc: Global,
         ranks: &[RankCalls],
+        turns: usize,
         links: &mut Links,
     ) -> Result<(), Memory>
         requires run { IsRun ranks.now }
         ensures edges { OnOk result (links.new.edges ≡ links.old.edges) }
         ensures meets { OnOk result ((kind : Kind) → AreOfKind kind (calls_of ranks.now) self.now
-            → links.new.meets ≡ links.old.meets ++ flat_map (name_meets ranks.now kind) self.now.names.entries) }
+            → links.new.meets ≡ links.old.meets ++ before_round (turn_meets ranks.now kind turns self.now.names.entries) turns) }
     {
-        for (_, rounds) in self.names.iter() {
-            rounds.push_meets(alloc, ranks, links)?;
+        for number in 0..turns {
+            self.push_turn(alloc, ranks, Turn { number, of: turns }, links)?;
         }
         Ok(())
+    }
+
+    /// Appends those of the rounds of a turn, name by name.
+    fn push_turn(
+        &self,
+        alloc: Global,
+        ranks: &[RankCalls],
+        turn: Turn,
+        links: &mut Links,
+    ) -> Result<(), Memory>
+        requires run { IsRun ranks.now }
+        requires turn { turn.number < turn.of }
+        ensures edges { OnOk result (links.new.edges ≡ links.old.edges) }
+        ensures meets { OnOk result ((kind : Kind) → AreOfKind kind (calls_of ranks.now) self.now
+            → links.new.meets ≡ links.old.meets ++ turn_meets ranks.now kind turn.of self.now.names.entries turn.number) }
+    {
+        for (_, rounds) in self.names.iter() {
+            rounds.push_meets(alloc, ranks, turn, links)?;
+        }
+        Ok(())
+    }
+
+    /// How many rounds there are on all names, cut off where a count ends.
+    pub(crate) fn rounds_in_all(&self) -> usize {
+        let mut all: usize = 0;
+        for (_, rounds) in self.names.iter() {
+            all = all.saturating_add(rounds.len());
+        }
+        all
     }
 }
 

@@ -24,6 +24,7 @@ mod meet;
 mod name_rounds;
 mod own_calls;
 mod rounds;
+mod step;
 
 pub use edge::{Rooted, rooted_of};
 pub use kind::{Kind, moved_on, named};

@@ -15,25 +15,20 @@ use rma_base::{Memory, Rank};
 use rma_call::{RankCalls, WhatRef};
 use rma_link::{Edge, Links};
 
+/// How many rounds of each name a turn has or more, where there are more turns than one.
+const ROUNDS: usize = 16;
+
+/// How many turns there are at most.
+const TURNS: usize = 256;
+
 impl Rounds {
-    /// Appends the edges and the meets of a run whose calls are taken: an edge between the call of a root and that of each other
-    /// rank, where data moves from the one to the other; and a meet for each round of which a call waits for all, once.
+    /// Appends the edges of a run whose calls are taken: one between the call of a root and that of each other rank, where data
+    /// moves from the one to the other. Only a call that moves data has one.
     ///
     /// # Errors
     ///
-    /// `Memory`, and then some of the links may be there.
-    pub fn push_links(&self, ranks: &[RankCalls], links: &mut Links) -> Result<(), Memory>
-        requires run { IsRun ranks.now }
-        requires represents { Represents (calls_of ranks.now) self.now }
-        ensures edges { OnOk result (links.new.edges ≡ links.old.edges ++ round_edges ranks.now) }
-        ensures meets { OnOk result (HasMeets links.new.meets links.old.meets (round_meets ranks.now)) }
-    {
-        self.push_edges(ranks, links)?;
-        self.push_meets(ranks, links)
-    }
-
-    /// Appends the edges. Only a call that moves data has one.
-    fn push_edges(&self, ranks: &[RankCalls], links: &mut Links) -> Result<(), Memory>
+    /// `Memory`, and then some of them may be there.
+    pub fn push_edges(&self, ranks: &[RankCalls], links: &mut Links) -> Result<(), Memory>
         requires run { IsRun ranks.now }
         requires represents { Represents (calls_of ranks.now) self.now }
         ensures edges { OnOk result (links.new.edges ≡ links.old.edges ++ round_edges ranks.now) }
@@ -79,17 +74,47 @@ impl Rounds {
         Ok(())
     }
 
-    /// Appends the meets, kind by kind.
-    fn push_meets(&self, ranks: &[RankCalls], links: &mut Links) -> Result<(), Memory>
+    /// Appends the meets of a run whose calls are taken: one for each round of which a call waits for all, once.
+    ///
+    /// # Errors
+    ///
+    /// `Memory`, and then some of them may be there.
+    pub fn push_meets(&self, ranks: &[RankCalls], links: &mut Links) -> Result<(), Memory>
         requires run { IsRun ranks.now }
         requires represents { Represents (calls_of ranks.now) self.now }
         ensures edges { OnOk result (links.new.edges ≡ links.old.edges) }
-        ensures meets { OnOk result (links.new.meets ≡ links.old.meets ++ all_meets ranks.now self.now) }
+        ensures meets { OnOk result (HasMeets links.new.meets links.old.meets (round_meets ranks.now)) }
     {
-        self.collectives.push_meets(self.alloc, ranks, links)?;
-        self.frees.push_meets(self.alloc, ranks, links)?;
-        self.fences.push_meets(self.alloc, ranks, links)?;
-        self.movings.push_meets(self.alloc, ranks, links)
+        self.push_kinds(ranks, self.turns(), links)
+    }
+
+    /// In how many turns the meets are made: so many that a turn has some rounds of each name, and one where there are few rounds
+    /// of each. Ranks mostly make rounds on several names by turns, so who goes over the meets in their order then goes over the
+    /// calls of each rank nearly in theirs.
+    fn turns(&self) -> usize
+        ensures { 0 < result }
+    {
+        let mut names: usize = 0;
+        let mut rounds: usize = 0;
+        for kind in [&self.collectives, &self.frees, &self.fences, &self.movings] {
+            names = names.saturating_add(kind.len());
+            rounds = rounds.saturating_add(kind.rounds_in_all());
+        }
+        (rounds / names.max(1) / ROUNDS).min(TURNS).max(1)
+    }
+
+    /// Appends the meets, kind by kind, in so many turns each.
+    fn push_kinds(&self, ranks: &[RankCalls], turns: usize, links: &mut Links) -> Result<(), Memory>
+        requires run { IsRun ranks.now }
+        requires represents { Represents (calls_of ranks.now) self.now }
+        ensures edges { OnOk result (links.new.edges ≡ links.old.edges) }
+        ensures meets { OnOk result (links.new.meets ≡ links.old.meets ++ all_meets ranks.now self.now turns) }
+    {
+        self.collectives
+            .push_meets(self.alloc, ranks, turns, links)?;
+        self.frees.push_meets(self.alloc, ranks, turns, links)?;
+        self.fences.push_meets(self.alloc, ranks, turns, links)?;
+        self.movings.push_meets(self.alloc, ranks, turns, links)
     }
 
     /// The edge of a call, if it moves data from a root or to it.

@@ -1,11 +1,11 @@
 //! Calls that return only after all calls of their round are entered, and the meets that they give.
-ghost use Rattle.std.specs.Prelude.{◌≡◌, ◌++◌, [], false, slice_get, IfOk, OnOk};
+ghost use Rattle.std.specs.Prelude.{◌≡◌, ◌<◌, ◌+◌, ◌++◌, [], false, slice_get, IfOk, OnOk};
 ghost use Rattle.std.specs.List.{cons_option, filter_map, list_any};
 ghost use Rattle.std.specs.Option.{option_map_or};
 ghost use Rattle.rma_call.specs.Call.{what_of};
 ghost use Rattle.rma_round.specs.Meet.{waits_for_all};
 ghost use Rattle.rma_round.specs.inside.Rounds.{row_entry, row_entries};
-ghost use Rattle.rma_round.specs.inside.Met.{member_in, longest, member_waits, met, before_round};
+ghost use Rattle.rma_round.specs.inside.Met.{from_round, longest, member_in, member_waits, met, turn_start};
 
 use crate::name_rounds::RankRounds;
 use rma_base::{Memory, Sequence};
@@ -13,22 +13,49 @@ use rma_call::{CallList, EpochCall, FrameCall, MovingCall, RankCalls, WhatRef, W
 use rma_link::{Links, Meet, Member};
 use std::alloc::Global;
 
-/// Appends the meet of each round of which a call waits for all.
+/// One of the turns in which the rounds on each name are gone through.
+#[derive(Clone, Copy)]
+pub(crate) struct Turn {
+    /// Its number.
+    pub(crate) number: usize,
+    /// How many turns there are.
+    pub(crate) of: usize,
+}
+
+/// Appends the meet of each round of this turn of which a call waits for all.
 pub(crate) fn push_rounds(
     alloc: Global,
     ranks: &[RankCalls],
     rows: &[RankRounds<'_>],
+    turn: Turn,
     links: &mut Links,
 ) -> Result<(), Memory>
+    requires turn { turn.number < turn.of }
     ensures edges { OnOk result (links.new.edges ≡ links.old.edges) }
     ensures meets { OnOk result (links.new.meets ≡ links.old.meets
-        ++ before_round (λ place. met ranks.now (filter_map (member_in place) (row_entries rows.now))) (longest (row_entries rows.now))) }
+        ++ from_round (λ place. met ranks.now (filter_map (member_in place) (row_entries rows.now)))
+        (turn_start turn.of (longest (row_entries rows.now)) turn.number) (turn_start turn.of (longest (row_entries rows.now)) (turn.number + 1))) }
 {
-    for place in 0..longest(rows) {
-        let calls = members(alloc, rows, place)?;
+    let rounds = longest(rows);
+    let from = turn_start(turn.of, rounds, turn.number);
+    let to = turn_start(turn.of, rounds, turn.number + 1);
+    for k in 0..to.saturating_sub(from) {
+        let calls = members(alloc, rows, from + k)?;
         push_meet(ranks, calls, links)?;
     }
     Ok(())
+}
+
+/// With how many rounds a turn begins, of so many turns, where there are so many rounds: the last one has what is left.
+fn turn_start(turns: usize, rounds: usize, turn: usize) -> usize
+    requires { 0 < turns }
+    ensures { result ≡ turn_start turns rounds turn }
+{
+    if turn == turns {
+        rounds
+    } else {
+        turn.saturating_mul(rounds / turns).min(rounds)
+    }
 }
 
 /// The most calls that a rank has.
@@ -108,7 +135,7 @@ fn waits_at(calls: &CallList, number: u32) -> bool
     ensures { result ≡ option_map_or (λ call. waits_for_all call.what) (slice_get calls.now.calls number) false }
 {
     let i = number as usize;
-    i < calls.len() && waits_for_all(calls.get(i).what)
+    i < calls.len() && waits_for_all(calls.what(calls.what_number(i)))
 }
 
 /// Whether a call returns only after all calls of its round are entered.

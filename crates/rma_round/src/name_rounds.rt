@@ -1,5 +1,5 @@
 //! The rounds of one kind on one name.
-ghost use Rattle.std.specs.Prelude.{◌≡◌, ◌++◌, ◌∷◌, [], ℕ, List, nat_eq, IfOk, OnOk, if◌then◌else◌};
+ghost use Rattle.std.specs.Prelude.{◌≡◌, ◌<◌, ◌++◌, ◌∷◌, [], ℕ, List, nat_eq, IfOk, OnOk, if◌then◌else◌};
 ghost use Rattle.std.specs.Ordering.{nat_cmp};
 ghost use Rattle.std.specs.BTreeMap.{IsOrdered};
 ghost use Rattle.rma_call.specs.Call.{Call, RankCalls};
@@ -9,7 +9,7 @@ ghost use Rattle.rma_round.specs.Round.{numbers, place_in};
 ghost use Rattle.rma_round.specs.inside.Rounds.{listed, calls_in, row_entries, AreOnName, AreRows};
 ghost use Rattle.rma_round.specs.inside.Met.{name_meets};
 
-use crate::meet::push_rounds;
+use crate::meet::{Turn, push_rounds};
 use rma_base::{Memory, Rank, Sequence};
 use rma_call::RankCalls;
 use rma_link::Links;
@@ -99,20 +99,31 @@ impl NameRounds {
         Ok(rows)
     }
 
-    /// Appends the meet of each round of which a call waits for all.
+    /// Appends the meet of each round of this turn of which a call waits for all.
     pub(crate) fn push_meets(
         &self,
         alloc: Global,
         ranks: &[RankCalls],
+        turn: Turn,
         links: &mut Links,
     ) -> Result<(), Memory>
         requires run { IsRun ranks.now }
+        requires turn { turn.number < turn.of }
         ensures edges { OnOk result (links.new.edges ≡ links.old.edges) }
         ensures meets { OnOk result ((kind : Kind) (name : List ℕ) → AreOnName kind name (calls_of ranks.now) self.now
-            → links.new.meets ≡ links.old.meets ++ name_meets ranks.now kind (name, self.now)) }
+            → links.new.meets ≡ links.old.meets ++ name_meets ranks.now kind turn.of turn.number (name, self.now)) }
     {
         let rows = self.rows(alloc)?;
-        push_rounds(alloc, ranks, rows.as_slice(), links)
+        push_rounds(alloc, ranks, rows.as_slice(), turn, links)
+    }
+
+    /// How many rounds there are.
+    pub(crate) fn len(&self) -> usize {
+        let mut most = 0;
+        for (_, numbers) in self.ranks.iter() {
+            most = numbers.len().max(most);
+        }
+        most
     }
 }
 

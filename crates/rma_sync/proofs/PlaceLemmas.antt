@@ -22,7 +22,8 @@ use Rattle.rma_round.specs.inside.Rounds.{AreFoundOnName, AreOnName, AreRows, ca
 use Rattle.rma_round.proofs.NumberLemmas.{call_at, rises}
 use Rattle.rma_sync.specs.Collective.{place_of}
 use Rattle.rma_sync.specs.inside.Place.{AllPlaced, Ascend, RowIsPlaced, SharePlaces, place_among, place_in_round}
-use Rattle.rma_sync.proofs.RowLemmas.{IsUnused, calls_of_row, row_of, some_there, some_within}
+use Rattle.rma_round.proofs.RowLemmas.{calls_of_row, row_of, some_there, some_within}
+use Rattle.rma_sync.proofs.RowLemmas.{IsUnused}
 
 -- ---- numbers below one
 

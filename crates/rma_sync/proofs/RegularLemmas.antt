@@ -30,7 +30,8 @@ use Rattle.rma_member.specs.Member.{members}
 use Rattle.rma_sync.specs.inside.Agreement.{AgreeOn, AllAgree, IsInRound, IsRegular, RowAgrees, arguments_at}
 use Rattle.rma_sync.specs.inside.Place.{SharePlaces}
 use Rattle.rma_sync.specs.inside.Scan.{IsBalanced}
-use Rattle.rma_sync.proofs.RowLemmas.{IsUnused, calls_of_row, every_name, row_of, some_there, some_within}
+use Rattle.rma_round.proofs.RowLemmas.{calls_of_row, row_of, some_there, some_within}
+use Rattle.rma_sync.proofs.RowLemmas.{IsUnused, every_name}
 
 -- ---- lists
 

@@ -7,7 +7,7 @@ use Rattle.rma_link.specs.Link.{IsMet, IsLinked}
 use Rattle.rma_link.specs.Order.{IsDirectlyBefore, IsAtOrBefore, IsPossible}
 use Rattle.rma_link.specs.Order.IsAtOrBefore.{at, before}
 use Rattle.rma_link.proofs.OrderLemmas.{step_cases}
-use Rattle.rma_walk.specs.inside.Step.{AreInStep, IsEdgeOn, AreOfOneNumber}
+use Rattle.rma_walk.specs.Step.{AreInStep, IsEdgeOn, AreOfOneNumber}
 
 module _ (links : Links) (step : AreInStep links) where
   linked_on : (p q : Point) → IsLinked links p q → p.pos < q.pos

@@ -1,3 +1,4 @@
 pub mod Outcome
 pub mod Source
+pub mod Step
 pub mod inside

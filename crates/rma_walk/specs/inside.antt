@@ -4,4 +4,3 @@ pub mod Inbox
 pub mod Pending
 pub mod Search
 pub mod Stop
-pub mod Step

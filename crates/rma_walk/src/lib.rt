@@ -2,8 +2,7 @@
 //!
 //! [`walk`] passes each point after all points that come before it. Where it can pass all, it answers their order; where it
 //! cannot, two points wait for each other, and it answers the first call of each rank that is never left. [`Walked`] is one
-//! or the other. [`first_impossible_calls`] walks in the same way and answers such calls alone, so it keeps no order; and where
-//! the ranks go in step, so that no link leads back, it walks not at all.
+//! or the other. [`first_impossible_calls`] walks in the same way and answers such calls alone, so it keeps no order.
 //!
 //! It passes the points of one rank until a return has to wait for an entry of another rank, and then follows that rank up
 //! to a point that it can pass. The ranks that are followed stand in a line, so a cycle is found where the line comes back to
@@ -22,7 +21,6 @@ mod pending;
 mod run;
 mod search;
 mod source;
-mod step;
 mod waits;
 mod walked;
 mod walking;

@@ -7,7 +7,6 @@ ghost use Rattle.rma_walk.specs.inside.Stop.{AreStops, IsWhole, stopped_at};
 
 use crate::run::Run;
 use crate::search::Search;
-use crate::step::are_in_step;
 use crate::walked::Walked;
 use rma_base::{Memory, Sequence};
 use rma_link::Links;
@@ -39,8 +38,7 @@ pub fn walk(alloc: Global, lens: &[u32], links: &Links) -> Result<Walked, Memory
 /// By rank, the first call that is never left, where the run is not possible.
 ///
 /// The time that it takes grows with the points, the edges and the members of meets. The memory grows with the calls and the
-/// links, and not with the points, since no order is kept. Where the ranks go in step, the links are looked at once, and
-/// nothing is kept.
+/// links, and not with the points, since no order is kept.
 ///
 /// # Errors
 ///
@@ -55,9 +53,6 @@ pub fn first_impossible_calls(
     requires links { AreWithin lens.now links.now }
     ensures { IfOk result (λ firsts. MatchOption firsts (IsPossible links.now) (IsStuck lens.now links.now)) }
 {
-    if are_in_step(links) {
-        return Ok(None);
-    }
     let run = Run { lens, links };
     let mut search = Search::new(alloc, &run, None)?;
     search.settle_all(&run)?;

@@ -1,5 +1,5 @@
--- The meets of a run, each once: name by name, and round by round.
-use Rattle.std.specs.Prelude.{ℕ, zero, suc, List, [], ◌++◌, Bool, false, Option, option_map, slice_get, length, fold, max, if◌then◌else◌}
+-- The meets of a run, each once: turn by turn some rounds of each name.
+use Rattle.std.specs.Prelude.{ℕ, zero, suc, ◌+◌, ◌-◌, ◌*◌, ◌/◌, ◌==◌, min, List, [], ◌++◌, Bool, false, Option, option_map, slice_get, length, fold, max, if◌then◌else◌}
 use Rattle.std.specs.List.{flat_map, list_any}
 use Rattle.std.specs.Option.{option_map_or}
 use Rattle.rma_call.specs.Call.{RankCalls}
@@ -33,14 +33,28 @@ abbrev pub before_round : (ℕ → List Meet) → ℕ → List Meet
 before_round f zero = []
 before_round f (suc place) = before_round f place ++ f place
 
--- the meets of a kind on a name, by what is kept of the name
-abbrev pub name_meets : List RankCalls → Kind → List ℕ × NameRounds → List Meet
-name_meets ranks kind entry = before_round (λ place. met ranks (round_at kind entry.0 ranks place)) (longest entry.1.ranks.entries)
+-- what is had of the rounds from one number up to another
+abbrev pub from_round : (ℕ → List Meet) → ℕ → ℕ → List Meet
+from_round f from to = before_round (λ k. f (from + k)) (to - from)
+
+-- with how many rounds a turn begins, of so many turns, where there are so many rounds: the last one has what is left
+abbrev pub turn_start : ℕ → ℕ → ℕ → ℕ
+turn_start turns rounds turn = if turn == turns then rounds else min (turn * (rounds / turns)) rounds
+
+-- the meets of a turn of a kind on a name, by what is kept of the name
+abbrev pub name_meets : List RankCalls → Kind → ℕ → ℕ → List ℕ × NameRounds → List Meet
+name_meets ranks kind turns turn entry =
+    let most = longest entry.1.ranks.entries in
+    from_round (λ place. met ranks (round_at kind entry.0 ranks place)) (turn_start turns most turn) (turn_start turns most (turn + 1))
+
+-- the meets of a turn of a kind, by what is kept of its names
+abbrev pub turn_meets : List RankCalls → Kind → ℕ → List (List ℕ × NameRounds) → ℕ → List Meet
+turn_meets ranks kind turns names turn = flat_map (name_meets ranks kind turns turn) names
 
 -- the meets of a kind
-abbrev pub kind_meets : List RankCalls → Rounds → Kind → List Meet
-kind_meets ranks rounds kind = flat_map (name_meets ranks kind) (of_kind kind rounds).names.entries
+abbrev pub kind_meets : List RankCalls → Rounds → ℕ → Kind → List Meet
+kind_meets ranks rounds turns kind = before_round (turn_meets ranks kind turns (of_kind kind rounds).names.entries) turns
 
 -- the meets of all kinds
-abbrev pub all_meets : List RankCalls → Rounds → List Meet
-all_meets ranks rounds = flat_map (kind_meets ranks rounds) kinds
+abbrev pub all_meets : List RankCalls → Rounds → ℕ → List Meet
+all_meets ranks rounds turns = flat_map (kind_meets ranks rounds turns) kinds

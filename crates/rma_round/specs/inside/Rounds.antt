@@ -79,3 +79,8 @@ row_entry row = (row.rank.0, row.numbers.now)
 -- the same of each
 abbrev pub row_entries : List RankRounds → List (ℕ × List ℕ)
 row_entries rows = map row_entry rows
+
+-- all ranks have calls of the same numbers
+pub record AreTheSame (rows : List RankRounds) : Type 0 where
+  pub numbers : List ℕ
+  pub all : All (λ row. row.numbers.now ≡ numbers) rows

@@ -6,7 +6,7 @@ use Rattle.rma_member.specs.Member.{members}
 use Rattle.rma_sync.specs.inside.Agreement.{AgreeOn}
 use Rattle.rma_sync.specs.inside.Scan.{IsBalanced}
 use Rattle.rma_sync.proofs.RegularLemmas.{all_regular}
-use Rattle.rma_sync.proofs.RowLemmas.{before_or_here}
+use Rattle.rma_round.proofs.RowLemmas.{before_or_here}
 use Rattle.rma_sync.proofs.agreement.is_regular.Goals as goal
 
 pub loop-i-preserved : goal.loop-i-preserved

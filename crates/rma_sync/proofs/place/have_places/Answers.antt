@@ -2,7 +2,7 @@ use Rattle.std.proofs.Common.{◌≡◌, ◌<◌, length, get_or, slice_get, sym
 use Rattle.std.proofs.lemmas.Option.{slice_get_within}
 use Rattle.rma_sync.specs.inside.Place.{place_among, place_in_round}
 use Rattle.rma_sync.proofs.PlaceLemmas.{next_before, place_here}
-use Rattle.rma_sync.proofs.RowLemmas.{before_or_here}
+use Rattle.rma_round.proofs.RowLemmas.{before_or_here}
 use Rattle.rma_sync.proofs.place.have_places.Goals as goal
 
 pub loop-round-preserved : goal.loop-round-preserved

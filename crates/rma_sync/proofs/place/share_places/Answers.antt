@@ -5,7 +5,8 @@ use Rattle.rma_round.specs.declared.kind.Kind.TheVariants as kind
 use Rattle.rma_round.specs.inside.Rounds.{AreFoundOnName, names_in}
 use Rattle.rma_sync.specs.inside.Place.{SharePlaces}
 use Rattle.rma_sync.proofs.PlaceLemmas.{share_unused}
-use Rattle.rma_sync.proofs.RowLemmas.{before_or_here, every_name}
+use Rattle.rma_round.proofs.RowLemmas.{before_or_here}
+use Rattle.rma_sync.proofs.RowLemmas.{every_name}
 use Rattle.rma_sync.proofs.place.share_places.Goals as goal
 
 pub loop-i-preserved : goal.loop-i-preserved

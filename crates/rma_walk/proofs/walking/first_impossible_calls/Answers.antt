@@ -1,11 +1,10 @@
-use Rattle.std.proofs.Common.{List, ℕ, refl, subst}
+use Rattle.std.proofs.Common.{List, ℕ, subst}
 use Rattle.std.specs.Prelude.{IfOk, MatchOption}
 use Rattle.std.proofs.lemmas.Result.{IfOk-weaker}
 use Rattle.rma_link.specs.Order.{IsPossible}
 use Rattle.rma_walk.specs.Outcome.{IsStuck}
 use Rattle.rma_walk.specs.inside.Stop.{AreStops, IsWhole}
 use Rattle.rma_walk.proofs.OutcomeLemmas.{told_of}
-use Rattle.rma_walk.proofs.StepLemmas.{in_step_is_possible}
 use Rattle.rma_walk.proofs.walking.first_impossible_calls.Goals as goal
 
 pub returns : goal.returns
@@ -16,6 +15,3 @@ returns c =
     IfOk-weaker c.stops.result (λ stops. MatchOption stops (IsWhole lens c.settle_all.new.self.front.next.items) (AreStops lens c.settle_all.new.self.front.next.items))
     (λ stops. MatchOption stops (IsPossible links) (IsStuck lens links))
     (told_of lens links c.settle_all.new.self c.in_ok-settle_all.ensures.idle) (subst P c.deref.ensures.value c.stops.ensures)
-
-pub returns-then-are_in_step : goal.returns-then-are_in_step
-returns-then-are_in_step c = in_step_is_possible c.args.links.now (c.if-are_in_step.ensures refl)

@@ -1,7 +1,7 @@
-use Rattle.std.proofs.Common.{List, ℕ, ◌++◌, ap, ◌∙◌}
+use Rattle.std.proofs.Common.{List, ℕ, ◌+◌, ◌++◌, ap, ◌∙◌}
 use Rattle.std.specs.List.{filter_map}
 use Rattle.rma_round.specs.inside.Rounds.{row_entries}
-use Rattle.rma_round.specs.inside.Met.{member_in, longest, met, before_round}
+use Rattle.rma_round.specs.inside.Met.{member_in, longest, met, from_round, turn_start}
 use Rattle.rma_round.proofs.KeptLemmas.{OnOk_map}
 use Rattle.rma_round.proofs.MemberLemmas.{members_are}
 use Rattle.rma_round.proofs.name_rounds.NameRounds.push_meets.Goals as goal
@@ -11,9 +11,12 @@ returns-clause-meets c =
     let ranks = c.args.ranks.now in
     let kept = c.args.self.now.ranks.entries in
     let before = c.args.links.now.meets in
+    let turn = c.args.turn in
+    let start = turn_start turn.of in
     OnOk_map c.push_rounds.result
     (λ is kind name are.
     is
-    ∙ ap (λ (es : List (ℕ × List ℕ)). before ++ before_round (λ place. met ranks (filter_map (member_in place) es)) (longest es)) (ap row_entries c.as_slice.ensures ∙ c.in_ok-rows.ensures.entries)
-    ∙ (λ i. before ++ before_round (λ place. met ranks (members_are place kind name ranks kept c.requires.run.in_order c.rows.ensures.ordered are i)) (longest kept)))
+    ∙ ap (λ (es : List (ℕ × List ℕ)). before ++ from_round (λ place. met ranks (filter_map (member_in place) es)) (start (longest es) turn.number) (start (longest es) (turn.number + 1)))
+    (ap row_entries c.as_slice.ensures ∙ c.in_ok-rows.ensures.entries)
+    ∙ (λ i. before ++ from_round (λ place. met ranks (members_are place kind name ranks kept c.requires.run.in_order c.rows.ensures.ordered are i)) (start (longest kept) turn.number) (start (longest kept) (turn.number + 1))))
     c.push_rounds.ensures.meets

@@ -1,4 +1,4 @@
--- Ranks that go in step: the positions of points alone order them.
+-- Ranks that go in step, so that the positions of points alone order them (MPI 4.0, "MPI Terms and Conventions").
 use Rattle.std.specs.Prelude.{ℕ, ◌≡◌, ◌<◌, List, All}
 use Rattle.rma_link.specs.declared.edge.Edge.{Edge}
 use Rattle.rma_link.specs.declared.meet.Member.{Member}
