@@ -8,4 +8,5 @@ pub mod ElsewhereLemmas
 pub mod DoneLemmas
 pub mod WholeLemmas
 pub mod ReadingLemmas
+pub mod LineLemmas
 pub mod OutcomeLemmas

@@ -1,8 +1,9 @@
 -- Lines that are made of parts.
-use Rattle.std.proofs.Common.{◌≡◌, ℕ, zero, suc, ◌+◌, ◌<◌, ◌≤◌, true, List, [], ◌∷◌, ◌++◌, map, drop, length, get_or, slice_index_or, Ok, refl, sym, ap, subst, ◌∙◌, ⊎_elim, arith}
+use Rattle.std.proofs.Common.{◌≡◌, ℕ, zero, suc, ◌+◌, ◌<◌, ◌≤◌, true, List, [], ◌∷◌, ◌++◌, map, drop, length, get_or, slice_index_or, Ok, Option, Some, None, refl, sym, ap, subst, ◌∙◌, ⊎_elim, arith}
 use Rattle.std.proofs.lemmas.List.{append-nil}
 use Rattle.std.proofs.Math.ListN.{drop_of_length-le}
 use Rattle.std.proofs.Math.Seq.{drop-cons, drop-length, drop-nil}
+use Rattle.std.specs.Prelude.{IfSome}
 use Rattle.std.specs.List.{list_all}
 use Rattle.rma_base.specs.declared.version.Version.{Version}
 use Rattle.rma_field.specs.Numbers.{natural}
@@ -93,3 +94,7 @@ drop_twice n (suc at) (x ∷ xs) = let same : suc (at + n) ≡ suc at + n = omeg
 -- nothing is left
 pub no_parts : (v : Version) (parts : List Part) (words : List ℕ) (i at : ℕ) → length parts ≤ i → at ≡ length words → AreParts v (drop i parts) (drop at words) []
 no_parts v parts words i at past end = rw (drop_of_length-le parts {i = i} past, end, drop-length words) (refl, refl)
+
+pub some_then : {A : Type 0} {P Q : A → Type 0} (o : Option A) → ((x : A) → P x → Q x) → IfSome o P → IfSome o Q
+some_then None then none = tt
+some_then (Some x) then some = then x some

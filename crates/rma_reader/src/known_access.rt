@@ -126,12 +126,10 @@ impl KnownAccess {
         ensures version { IfSome result (λ _. self.now.known.version ≡ version) }
         ensures elsewhere { IfSome result (λ numbers. IsElsewhere self.now.known.version self.now.form self.now.known.words words.now numbers.items) }
     {
-        if !self.is_of(version) {
-            return None;
-        }
-        match numbers(version, self.parts.as_slice(), words) {
-            Some(to) => Some(to),
-            None => None,
+        if self.is_of(version) {
+            numbers(version, self.parts.as_slice(), words)
+        } else {
+            None
         }
     }
 }
@@ -169,7 +167,7 @@ fn first_of<'a>(rest: TokenIter<'a>) -> Option<&'a [u8]>
     }
 }
 
-/// The parts of the words of a line whose fields say this.
+/// The parts of the words of a line whose fields say this. That they do is asked of them behind it.
 fn parts_of(alloc: Global, words: &[u8], places: &[Place]) -> Result<Vec<Part>, Memory> {
     let mut parts = Vec::new(alloc);
     let mut rest = tokens(words);

@@ -37,8 +37,17 @@ pub(crate) struct FoundAccess<'a> {
 pub(crate) struct KnownAccesses {
     /// The slots: none, or `SLOTS` of them.
     slots: Vec<Option<KnownAccess>>,
-    /// The key of what came last to each slot.
-    last: Vec<u64>,
+    /// What came last to each slot, of what was not found in it.
+    last: Vec<Last>,
+}
+
+/// What came last to a slot.
+#[derive(Drop)]
+struct Last {
+    /// Its key.
+    key: u64,
+    /// How often the key came again, counted anew where that is too often.
+    times: u8,
 }
 
 impl Model for KnownAccesses {
@@ -57,7 +66,7 @@ impl KnownAccesses {
     {
         Ok(KnownAccesses {
             slots: Vec::new(alloc),
-            last: no_keys(alloc)?,
+            last: nothing_last(alloc)?,
         })
     }
 
@@ -164,16 +173,18 @@ fn packed(bytes: &[u8]) -> u64 {
     packed
 }
 
-/// Whether the key that came last to the slot of this one was the same. From now on this is the last.
-fn comes_again(last: &mut Vec<u64>, key: u64) -> bool {
-    match last.get_mut(slot_of(key)) {
-        Some(last) => {
-            let again = *last == key;
-            *last = key;
-            again
-        }
-        None => false,
+/// Whether an access of this key is to be kept: one of the same key came last to its slot. Where accesses of one key are not
+/// found though one is kept, they have several shapes, and it gives way to another more and more seldom.
+fn comes_again(last: &mut Vec<Last>, key: u64) -> bool {
+    let Some(last) = last.get_mut(slot_of(key)) else {
+        return false;
+    };
+    if last.key != key {
+        *last = Last { key, times: 0 };
+        return false;
     }
+    last.times = last.times.wrapping_add(1);
+    last.times.is_power_of_two()
 }
 
 /// Has the access in this slot, if there is such a slot.
@@ -196,16 +207,16 @@ fn no_accesses(alloc: Global) -> Result<Vec<Option<KnownAccess>>, Memory>
     Ok(slots)
 }
 
-/// The keys of slots to which nothing came.
-fn no_keys(alloc: Global) -> Result<Vec<u64>, Memory> {
-    let mut keys = Vec::with_capacity(alloc, SLOTS)?;
+/// Slots to which nothing came.
+fn nothing_last(alloc: Global) -> Result<Vec<Last>, Memory> {
+    let mut last = Vec::with_capacity(alloc, SLOTS)?;
     for _ in 0..SLOTS {
-        keys.push(0)?;
+        last.push(Last { key: 0, times: 0 })?;
     }
-    Ok(keys)
+    Ok(last)
 }
 
-/// The slot of a key.
+/// The slot of a key: its first seven bits, of which there are `SLOTS`.
 #[inline]
 fn slot_of(key: u64) -> usize {
     (key >> 57) as usize

@@ -1,4 +1,5 @@
-use Rattle.rma_book.proofs.ReadingLemmas.{OnOk_then, ReadsNext_elsewhere, ReadsNext_unsited}
+use Rattle.rma_book.proofs.ReadingLemmas.{OnOk_then}
+use Rattle.rma_book.proofs.LineLemmas.{ReadsNext_elsewhere, ReadsNext_unsited}
 use Rattle.rma_book.proofs.reader.Reader.read_elsewhere.Goals as goal
 
 pub returns-in-Ok : goal.returns-in-Ok

@@ -3,7 +3,8 @@ use Rattle.std.specs.Result.{OnOk}
 use Rattle.rma_reader.specs.Reading.{Reading}
 use Rattle.rma_book.specs.inside.Known.{IsCallOf}
 use Rattle.rma_book.specs.inside.Reading.{ReadsNext}
-use Rattle.rma_book.proofs.ReadingLemmas.{OnOk_then, ReadsNext_bad, ReadsNext_known}
+use Rattle.rma_book.proofs.ReadingLemmas.{OnOk_then}
+use Rattle.rma_book.proofs.LineLemmas.{ReadsNext_bad, ReadsNext_known}
 use Rattle.rma_book.proofs.reader.Reader.read_text.Goals as goal
 
 pub returns-in-Ok-Some : goal.returns-in-Ok-Some
