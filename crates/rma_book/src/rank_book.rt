@@ -94,6 +94,7 @@ impl RankBook {
         // It stays so unless the piece is read to its end.
         self.ran_out = true;
         self.cutter.feed(piece)?;
+        self.reader.prefetch(piece);
         read_lines(&mut self.cutter, &mut self.reader)?;
         self.cutter.shorten();
         self.fault = self.reader.fault;

@@ -58,6 +58,13 @@ impl Reader {
         })
     }
 
+    /// Brings near what the lines of this piece of the log need.
+    pub(crate) fn prefetch(&mut self, piece: &[u8])
+        ensures { self.new ≡ self.old }
+    {
+        self.lines.prefetch(piece);
+    }
+
     /// Reads the next line.
     fn read(&mut self, found: Result<Line<'_>, LexFault>) -> Result<(), Memory>
         ensures { OnOk result (ReadsNext self.old self.new (number found.entry) (content found.entry)) }

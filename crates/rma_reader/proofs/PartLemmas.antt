@@ -1,12 +1,17 @@
 -- Lines that are made of parts.
 use Rattle.std.proofs.Common.{◌≡◌, ℕ, zero, suc, ◌+◌, ◌<◌, ◌≤◌, true, List, [], ◌∷◌, ◌++◌, map, drop, length, get_or, slice_index_or, Ok, Option, Some, None, refl, sym, ap, subst, ◌∙◌, ⊎_elim, arith}
+use Rattle.std.proofs.lemmas.Bool.{le-leb}
+use Rattle.std.proofs.lemmas.Bool.Decides.{nat_tests}
 use Rattle.std.proofs.lemmas.List.{append-nil}
 use Rattle.std.proofs.Math.ListN.{drop_of_length-le}
 use Rattle.std.proofs.Math.Seq.{drop-cons, drop-length, drop-nil}
 use Rattle.std.specs.Prelude.{IfSome}
+use Rattle.std.specs.Char.{digit_value}
 use Rattle.std.specs.List.{list_all}
+use Rattle.std.specs.Str.Parse.{AllDigits, digits_value}
 use Rattle.rma_base.specs.declared.version.Version.{Version}
 use Rattle.rma_field.specs.Numbers.{natural}
+use Rattle.rma_field.proofs.DecimalLemmas.{number_digits}
 use Rattle.rma_form.specs.Forms.{form_of}
 use Rattle.rma_lex.specs.Field.{is_blank, is_field}
 use Rattle.rma_reader.specs.Elsewhere.{AreElsewhere, IsElsewhere, form_of_access}
@@ -15,7 +20,7 @@ use Rattle.rma_reader.specs.declared.access_form.Place.{Place}
 use Rattle.rma_reader.specs.declared.access_form.Place.TheVariants.{Same}
 use Rattle.rma_reader.specs.declared.known_access.Part.{Part}
 use Rattle.rma_reader.specs.declared.known_access.Part.TheVariants as part
-use Rattle.rma_reader.specs.inside.Accesses.{AreParts, BeginsWith, IsGap, IsOfParts, IsPart, places_in, spread, words_in}
+use Rattle.rma_reader.specs.inside.Accesses.{AreParts, BeginsWith, IsGap, IsNumberWord, IsOfParts, IsPart, places_in, spread, words_in}
 use Rattle.rma_reader.proofs.WordLemmas.{runs, runs_apart, runs_word, texts_fields_from}
 
 -- the words of a text are those of its front, and of what comes behind the gap
@@ -33,6 +38,20 @@ gap_words text front rest later parted gap =
 pub word_alone : (limit n : ℕ) (word : List ℕ) → list_all is_field word ≡ true → natural 0 limit word ≡ Ok n → words_in word ≡ word ∷ []
 word_alone limit n [] all reads = let bad = reads in cc bad
 word_alone limit n (byte ∷ word) all reads = texts_fields_from 0 (byte ∷ word) ∙ runs_word byte word all
+
+field_digit : (byte : ℕ) → digit_value byte < 10 → is_field byte ≡ true
+field_digit byte low = grind (arith, nat_tests)
+
+field_digits : (digits : List ℕ) → AllDigits 10 digits → list_all is_field digits ≡ true
+field_digits [] all = refl
+field_digits (byte ∷ digits) all = rw (field_digit byte all.0, field_digits digits all.1)
+
+-- decimal digits are a word that is a number
+pub number_word : (limit : ℕ) (digits : List ℕ) → 0 < length digits → AllDigits 10 digits → digits_value 10 digits ≤ limit → IsNumberWord limit digits (digits_value 10 digits)
+number_word limit digits some all within =
+    let n = digits_value 10 digits in
+    let reads : natural 0 limit digits ≡ Ok n = rw (number_digits digits (some, all), le-leb 0 n (omega arith), le-leb n limit within) refl in
+    record { reads = reads; is_word = word_alone limit n digits (field_digits digits all) reads }
 
 -- ---- the words of lines that are made of the same parts
 

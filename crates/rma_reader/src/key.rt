@@ -31,6 +31,30 @@ pub(crate) fn key_of(text: &[u8]) -> u64 {
     )
 }
 
+/// A number that most lines of one form and shape have in common, and few others: it depends on the letters at the front of
+/// their words, and on those at the end where no digit is the last.
+#[inline]
+pub(crate) fn shape_of(words: &[u8]) -> u64 {
+    let len = words.len();
+    if len < WORD {
+        return 0;
+    }
+    let front = letters(word(words, 0));
+    let shape = if words[len - 1].is_ascii_digit() {
+        front
+    } else {
+        front ^ letters(word(words, len - WORD)).rotate_left(11)
+    };
+    shape.wrapping_mul(MIXER)
+}
+
+/// The letters among eight bytes, each where it stands, with zeros for all other bytes.
+#[inline]
+fn letters(word: u64) -> u64 {
+    let marks = word >> 6 & 0x0101_0101_0101_0101;
+    word & marks.wrapping_mul(0xff)
+}
+
 /// The halves of a product, put together.
 #[inline]
 fn mixed(a: u64, b: u64) -> u64 {

@@ -8,6 +8,7 @@ ghost use Rattle.rma_reader.specs.Elsewhere.{IsElsewhere, form_of_access};
 ghost use Rattle.rma_reader.specs.inside.Accesses.{AreParts, BeginsWith, IsGap, IsNumberWord, IsPart, places_in, spread, words_in};
 
 use crate::access_form::{AccessForm, Place};
+use crate::decimal::front_digits;
 use arrayvec::ArrayVec;
 use rma_base::limits::SPACE;
 use rma_base::{Memory, Version};
@@ -364,6 +365,30 @@ fn same_len(own: &[u8], text: &[u8]) -> Option<usize>
 /// How many bytes the first word of a text has, if it is a number up to this, which is taken.
 #[inline]
 fn number_len(limit: u64, text: &[u8], numbers: &mut Numbers) -> Option<usize>
+    requires { limit ≤ SPACE }
+    ensures within { IfSome result (λ len. len ≤ length text.now) }
+    ensures taken { IfSome result (λ len. (n : ℕ) × IsNumberWord limit (take len text.now) n × (numbers.new.items ≡ numbers.old.items ++ n ∷ [])) }
+{
+    let front = front_digits(text);
+    if front.len > 0 && ends_word(text, front.len) && front.number <= limit && !numbers.is_full() {
+        numbers.push(front.number);
+        return Some(front.len);
+    }
+    word_number_len(limit, text, numbers)
+}
+
+/// Whether a word that stands before a position of a text ends there.
+#[inline]
+fn ends_word(text: &[u8], at: usize) -> bool {
+    match text.get(at) {
+        Some(byte) => is_blank(*byte),
+        None => true,
+    }
+}
+
+/// How many bytes the first word of a text has, if it is a number up to this, which is taken, in whatever way it is written.
+#[inline(never)]
+fn word_number_len(limit: u64, text: &[u8], numbers: &mut Numbers) -> Option<usize>
     requires { limit ≤ SPACE }
     ensures within { IfSome result (λ len. len ≤ length text.now) }
     ensures taken { IfSome result (λ len. (n : ℕ) × IsNumberWord limit (take len text.now) n × (numbers.new.items ≡ numbers.old.items ++ n ∷ [])) }

@@ -5,6 +5,7 @@ ghost use Rattle.rma_reader.specs.Known.{Known};
 ghost use Rattle.rma_reader.specs.inside.Accesses.{IsKnownAmong, IsPlacedAmong, Placed};
 
 use crate::access_form::AccessForm;
+use crate::key::shape_of;
 use crate::known_access::{KnownAccess, Numbers};
 use rma_base::{Memory, Version};
 use std::alloc::Global;
@@ -12,15 +13,6 @@ use std::marker::Model;
 
 /// How many accesses are kept.
 const SLOTS: usize = 128;
-
-/// So many bytes at the front of a line tell accesses apart.
-const FRONT: usize = 8;
-
-/// So many bytes at the end of a line tell them apart, where no digit is the last.
-const BACK: usize = 4;
-
-/// What mixes keys: 2 to the 64th, divided by the golden ratio.
-const MIXER: u64 = 11_400_714_819_323_198_485;
 
 /// An access that was found elsewhere.
 #[derive(Drop)]
@@ -31,7 +23,7 @@ pub(crate) struct FoundAccess<'a> {
     pub(crate) to: Numbers,
 }
 
-/// Accesses that came before, each in the slot that its key gives, if one of its key came twice running to it. What they do
+/// Accesses that came before, each in the slot that its shape gives, if one of its shape came twice running to it. What they do
 /// depends on the datatypes: they are known until those change.
 #[derive(Drop)]
 pub(crate) struct KnownAccesses {
@@ -44,9 +36,9 @@ pub(crate) struct KnownAccesses {
 /// What came last to a slot.
 #[derive(Drop)]
 struct Last {
-    /// Its key.
-    key: u64,
-    /// How often the key came again, counted anew where that is too often.
+    /// Its shape.
+    shape: u64,
+    /// How often the shape came again, counted anew where that is too often.
     times: u8,
 }
 
@@ -79,10 +71,7 @@ impl KnownAccesses {
         if self.slots.is_empty() {
             return None;
         }
-        let Some(key) = key_of(words) else {
-            return None;
-        };
-        let Some(Some(access)) = self.slots.get(slot_of(key)) else {
+        let Some(Some(access)) = self.slots.get(slot_of(shape_of(words))) else {
             return None;
         };
         match access.elsewhere(version, words) {
@@ -103,14 +92,12 @@ impl KnownAccesses {
         ensures { (known : Known) → IsKnownAmong self.new known
             → IsKnownAmong self.old known ⊎ (known ≡ record { version = version; words = words.now; what = what; request = None; lasts = false }) }
     {
-        let Some(key) = key_of(words) else {
-            return Ok(());
-        };
-        if !comes_again(&mut self.last, key) {
+        let shape = shape_of(words);
+        if !comes_again(&mut self.last, shape) {
             return Ok(());
         }
         match KnownAccess::new(alloc, version, words, form, what) {
-            Ok(Some(access)) => self.keep(alloc, slot_of(key), access),
+            Ok(Some(access)) => self.keep(alloc, slot_of(shape), access),
             Ok(None) => Ok(()),
             Err(Memory) => Err(Memory),
         }
@@ -147,40 +134,14 @@ impl KnownAccesses {
     }
 }
 
-/// A number that most accesses of one form and shape have in common, and few others.
-#[inline]
-fn key_of(words: &[u8]) -> Option<u64> {
-    if words.len() < FRONT {
-        return None;
-    }
-    let front = packed(&words[..FRONT]);
-    let back = packed(&words[words.len() - BACK..]);
-    let ends = if words[words.len() - 1].is_ascii_digit() {
-        front
-    } else {
-        front ^ back << 16
-    };
-    Some((ends ^ ends >> 32).wrapping_mul(MIXER))
-}
-
-/// The bytes as one number, in which all digits are alike, and blanks.
-#[inline]
-fn packed(bytes: &[u8]) -> u64 {
-    let mut packed = 0;
-    for byte in bytes {
-        packed = packed << 8 | u64::from((*byte).max(b'9'));
-    }
-    packed
-}
-
-/// Whether an access of this key is to be kept: one of the same key came last to its slot. Where accesses of one key are not
-/// found though one is kept, they have several shapes, and it gives way to another more and more seldom.
-fn comes_again(last: &mut Vec<Last>, key: u64) -> bool {
-    let Some(last) = last.get_mut(slot_of(key)) else {
+/// Whether an access of this shape is to be kept: one of the same shape came last to its slot. Where accesses of one shape are
+/// not found though one is kept, they differ in other words, and it gives way to another more and more seldom.
+fn comes_again(last: &mut Vec<Last>, shape: u64) -> bool {
+    let Some(last) = last.get_mut(slot_of(shape)) else {
         return false;
     };
-    if last.key != key {
-        *last = Last { key, times: 0 };
+    if last.shape != shape {
+        *last = Last { shape, times: 0 };
         return false;
     }
     last.times = last.times.wrapping_add(1);
@@ -211,13 +172,13 @@ fn no_accesses(alloc: Global) -> Result<Vec<Option<KnownAccess>>, Memory>
 fn nothing_last(alloc: Global) -> Result<Vec<Last>, Memory> {
     let mut last = Vec::with_capacity(alloc, SLOTS)?;
     for _ in 0..SLOTS {
-        last.push(Last { key: 0, times: 0 })?;
+        last.push(Last { shape: 0, times: 0 })?;
     }
     Ok(last)
 }
 
-/// The slot of a key: its first seven bits, of which there are `SLOTS`.
+/// The slot of a shape: its first seven bits, of which there are `SLOTS`.
 #[inline]
-fn slot_of(key: u64) -> usize {
-    (key >> 57) as usize
+fn slot_of(shape: u64) -> usize {
+    (shape >> 57) as usize
 }

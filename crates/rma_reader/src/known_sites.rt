@@ -4,6 +4,9 @@ ghost use Rattle.rma_call.specs.Call.{CallTable};
 ghost use Rattle.rma_reader.specs.Sites.{IsNumbered};
 ghost use Rattle.rma_reader.specs.inside.SiteSlots.{AreNumbered};
 
+use crate::key::key_of;
+use arrayvec::ArrayVec;
+use memchr::{memchr, memchr_iter};
 use rma_base::{Memory, Site};
 use std::alloc::Global;
 
@@ -15,6 +18,15 @@ const MOST: usize = 65_536;
 
 /// How many slots a site may stand in.
 const PROBES: usize = 8;
+
+/// Where there are fewer slots, they are near without being brought.
+const FAR: usize = 2_048;
+
+/// So many bytes of a piece are looked at: what is brought near for more would be far again.
+const NEAR: usize = 65_536;
+
+/// The keys of some texts.
+type Keys = ArrayVec<u64, 64>;
 
 /// A site and its number.
 #[derive(Drop)]
@@ -43,6 +55,8 @@ impl KnownSite {
 pub(crate) struct KnownSites {
     /// The slots: none, or a power of two.
     slots: Vec<Option<KnownSite>>,
+    /// What came of reading ahead. It says nothing: that it is kept keeps the reads.
+    seen: u64,
 }
 
 impl KnownSites {
@@ -52,7 +66,68 @@ impl KnownSites {
     {
         KnownSites {
             slots: Vec::new(alloc),
+            seen: 0,
         }
+    }
+
+    /// Brings near the slots and the texts of the sites that stand in this piece of the log: memory answers many reads at once,
+    /// where each would wait for the one before it.
+    pub(crate) fn prefetch(&mut self, piece: &[u8])
+        ensures { self.new.slots ≡ self.old.slots }
+    {
+        if self.slots.len() < FAR {
+            return;
+        }
+        let mut seen = self.seen;
+        let mut keys = Keys::new();
+        for at in memchr_iter(b'@', &piece[..piece.len().min(NEAR)]) {
+            if keys.is_full() {
+                seen ^= self.read_ahead(keys.as_slice());
+                keys.clear();
+            }
+            keys.push(key_of(site_at(piece, at)));
+        }
+        self.seen = seen ^ self.read_ahead(keys.as_slice());
+    }
+
+    /// Reads the first slots of these keys, and then the texts of their sites.
+    fn read_ahead(&self, keys: &[u64]) -> u64 {
+        self.read_slots(keys) ^ self.read_texts(keys)
+    }
+
+    /// Reads the first slots of these keys.
+    fn read_slots(&self, keys: &[u64]) -> u64 {
+        let mut seen = 0;
+        for key in keys {
+            if let Some(Some(site)) = self.slots.get(self.slot_of(*key, 0)) {
+                seen ^= u64::from(site.key);
+            }
+        }
+        seen
+    }
+
+    /// Reads the texts of the sites of these keys.
+    fn read_texts(&self, keys: &[u64]) -> u64 {
+        let mut seen = 0;
+        for key in keys {
+            if let Some(site) = self.site(*key) {
+                seen ^= site.bytes().len() as u64;
+            }
+        }
+        seen
+    }
+
+    /// A site that has this key, mostly.
+    fn site(&self, key: u64) -> Option<&Site> {
+        for step in 0..PROBES {
+            let Some(Some(site)) = self.slots.get(self.slot_of(key, step)) else {
+                return None;
+            };
+            if site.key == part_of(key) {
+                return Some(&site.site);
+            }
+        }
+        None
     }
 
     /// The number of the site of this text, if it is known. This is the key of the text.
@@ -111,6 +186,17 @@ impl KnownSites {
     #[inline]
     fn slot_of(&self, key: u64, step: usize) -> usize {
         (key as usize).wrapping_add(step) & self.slots.len().wrapping_sub(1)
+    }
+}
+
+/// The text of the site whose `@` stands at a position of a text, if a line ends with it.
+fn site_at(text: &[u8], at: usize) -> &[u8] {
+    let Some([_, rest @ ..]) = text.get(at..) else {
+        return &[];
+    };
+    match memchr(b'\n', rest) {
+        Some(end) => &rest[..end],
+        None => rest,
     }
 }
 

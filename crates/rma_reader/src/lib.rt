@@ -11,6 +11,7 @@
 #![tactic(auto)]
 
 mod access_form;
+mod decimal;
 mod key;
 mod known_access;
 mod known_accesses;

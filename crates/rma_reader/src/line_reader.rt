@@ -75,6 +75,13 @@ impl LineReader {
         })
     }
 
+    /// Brings near what the sites of the lines of this piece of the log are looked up in. The lines themselves come later.
+    pub fn prefetch(&mut self, piece: &[u8])
+        ensures { self.new ≡ self.old }
+    {
+        self.calls.prefetch(piece);
+    }
+
     /// Reads lines in this version from now on.
     pub fn set_version(&mut self, version: Version)
         ensures { self.new ≡ record self.old { version = version } }

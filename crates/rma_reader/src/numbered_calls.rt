@@ -66,6 +66,13 @@ impl NumberedCalls {
         &self.list
     }
 
+    /// Brings near what the sites of the lines of this piece of the log are looked up in.
+    pub(crate) fn prefetch(&mut self, piece: &[u8])
+        ensures { self.new ≡ self.old }
+    {
+        self.known.prefetch(piece);
+    }
+
     /// The calls, where no more are read.
     pub(crate) fn into_list(self) -> CallList
         ensures { result ≡ self }

@@ -1,7 +1,7 @@
 use Rattle.std.proofs.Common.{◌++◌, take, refl, ap, sym, ◌∙◌, subst}
 use Rattle.rma_lex.specs.Cutting.{Cutting}
 use Rattle.rma_lex.specs.Checked.{checked_lines}
-use Rattle.rma_book.specs.inside.Reading.{HasRead}
+use Rattle.rma_book.specs.inside.Reading.{HasRead, IsReading}
 use Rattle.rma_book.specs.inside.RankState.{Represents}
 use Rattle.rma_book.proofs.ReadingLemmas.{IsReading_fed}
 use Rattle.rma_book.proofs.WholeLemmas.{whole_handed}
@@ -13,8 +13,9 @@ returns-clause-text c = λ rank logs bytes h.
     let piece = c.args.piece.now in
     let held = subst (λ reading. Represents rank logs reading bytes) (sym c.self.view_is) h in
     let fed = c.in_ok-feed.ensures in
-    let start = IsReading_fed rank logs inside.cutter c.feed.new.self bytes piece inside.reader held.goes_on (ap (λ (cutting : Cutting). cutting.handed) fed.ok)
-    (fed.text bytes held.fed) (record { represents = held.fed; read = held.read }) in
+    let start = subst (IsReading rank logs c.feed.new.self (bytes ++ piece)) (sym c.prefetch.ensures)
+    (IsReading_fed rank logs inside.cutter c.feed.new.self bytes piece inside.reader held.goes_on (ap (λ (cutting : Cutting). cutting.handed) fed.ok)
+    (fed.text bytes held.fed) (record { represents = held.fed; read = held.read })) in
     let read = c.in_ok-read_lines.ensures.read rank logs (bytes ++ piece) start in
     let same = ap (λ (cutting : Cutting). cutting.handed) c.shorten.ensures.same in
     let goes_on = c.in_ok-read_lines.ensures.closed ∙ ap (λ (cutting : Cutting). cutting.closed) fed.ok ∙ held.goes_on in
