@@ -4,7 +4,6 @@ use Rattle.std.proofs.lemmas.Bool.{false≢true}
 use Rattle.rma_base.specs.declared.form_reason.FormReason.{FormReason}
 use Rattle.rma_base.specs.declared.line.LineNo.{LineNo}
 use Rattle.rma_lex.specs.Line.{lines}
-use Rattle.rma_lex.specs.Cutting as cutting
 use Rattle.rma_form.specs.declared.event.Event.{Event}
 use Rattle.rma_form.specs.declared.event.Stated.{Stated}
 use Rattle.rma_form.specs.Lines.{reading, site_of}
@@ -22,7 +21,6 @@ use Rattle.rma_book.specs.Types.{types_after}
 use Rattle.rma_book.specs.Calls.{events_of}
 use Rattle.rma_book.specs.Logs.{Checked, entries, judged}
 use Rattle.rma_book.specs.declared.reader.Reader.{Reader}
-use Rattle.rma_book.specs.declared.book.access.JudgedAccess.TheVariants as access
 use Rattle.rma_book.specs.inside.BookState.{BookState, Represents}
 use Rattle.rma_book.specs.inside.Elsewhere.{StatesWhat}
 use Rattle.rma_book.specs.inside.Known.{IsCallOf, IsKnownCall, IsStatedBy}

@@ -18,7 +18,6 @@ use Rattle.rma_lex.proofs.CutterLemmas.{handed_stay}
 use Rattle.rma_form.specs.declared.event.Event.{Event}
 use Rattle.rma_form.specs.declared.event.Event.TheVariants.{Header, End, Call, Datatype, Rma, Local}
 use Rattle.rma_form.specs.declared.event.Stated.{Stated}
-use Rattle.rma_form.specs.Lines.{reading}
 use Rattle.rma_call.specs.Call.{Call as CallOf, CallTable}
 use Rattle.rma_call.specs.declared.what.What.{What}
 use Rattle.rma_reader.specs.Known.{Known, IsAmong}
