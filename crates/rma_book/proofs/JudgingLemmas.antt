@@ -2,20 +2,21 @@
 use Rattle.std.proofs.Common.{◌≡◌, ℕ, Bool, true, false, not, ◌||◌, ◌&&◌, List, [], ◌∷◌, Option, Some, None, is_some, is_none, option_map, cond, eqb, nat_lt, refl, sym, ap, ◌∙◌, ⊎_elim, arith}
 use Rattle.std.specs.Map.{lookup}
 use Rattle.std.proofs.lemmas.Bool.{cases_Bool}
-use Rattle.std.specs.Option.{option_or}
+use Rattle.std.specs.Option.{option_map_or, option_or}
+use Rattle.rma_base.specs.RankSet.{has_number}
 use Rattle.rma_base.specs.declared.rank.Rank.{Rank}
 use Rattle.rma_base.specs.declared.version.Version.{Version}
 use Rattle.rma_base.specs.declared.form_reason.FormReason.{FormReason}
-use Rattle.rma_base.specs.declared.form_reason.FormReason.TheVariants.{BadHeader, WrongHeader, AfterEnd, UnknownComm, UnknownWindow, RankTooLarge, RequestPending}
+use Rattle.rma_base.specs.declared.form_reason.FormReason.TheVariants.{BadHeader, WrongHeader, AfterEnd, UnknownComm, UnknownWindow, RankTooLarge, RequestPending, RootNotMember}
 use Rattle.rma_form.specs.declared.event.Event.{Event}
 use Rattle.rma_call.specs.declared.what.What.{What}
 use Rattle.rma_form.specs.declared.event.Event.TheVariants.{Header, End, Call, Datatype, Rma, Local}
 use Rattle.rma_buffer.specs.Operands.{operand_of, operands_of}
 use Rattle.rma_type.specs.Table.{Table}
-use Rattle.rma_book.specs.Naming.{Attributes, attributes_of, no_attributes, on_comm, on_window, with_peer, with_target, is_header, is_end}
+use Rattle.rma_book.specs.Naming.{Attributes, attributes_of, no_attributes, on_comm, on_window, with_peer, with_root, with_target, is_header, is_end}
 use Rattle.rma_book.specs.Judging.{is_far, is_of_another_log, place_reason, name_reason, use_reason, lacks_type, type_reason, reason_of}
 use Rattle.rma_book.specs.Types.{is_datatype, types_after}
-use Rattle.rma_book.specs.Names.{is_same, world, has_comm, is_there, window_state}
+use Rattle.rma_book.specs.Names.{is_same, world, has_comm, is_there, members, window_state}
 use Rattle.rma_book.specs.inside.BookState.{BookState, Represents, IsTaken, IsJudged}
 use Rattle.rma_book.proofs.StateLemmas.{Represents_taken}
 use Rattle.rma_book.specs.inside.Known.{IsCall, IsCallOf}
@@ -131,6 +132,11 @@ stands book rest none =
     (λ (new : book.begun ≡ false). absurd (let wrong = rw new at none in cc wrong))
     (cases_Bool book.begun)
 
+-- the first reason, and the rest
+pub cond_or : (b : Bool) (first : FormReason) (rest : Option FormReason) → cond b (Some first) rest ≡ option_or (cond b (Some first) None) rest
+cond_or true first rest = refl
+cond_or false first rest = refl
+
 module _ (book : BookState) (event : Event) (is_call : IsCall book.types event) (reason : Option FormReason) where
   IsTaken_kept : (it : Attributes) → attributes_of event ≡ it → it.declared ≡ None → it.window ≡ None → it.made ≡ None → it.awaited ≡ None
       → book.begun ≡ true → IsTaken book book event
@@ -187,11 +193,6 @@ module _ (book : BookState) (event : Event) (is_call : IsCall book.types event) 
     logs = refl;
   }
 
-  -- the first reason, and the rest
-  cond_or : (b : Bool) (first : FormReason) (rest : Option FormReason) → cond b (Some first) rest ≡ option_or (cond b (Some first) None) rest
-  cond_or true first rest = refl
-  cond_or false first rest = refl
-
   pub IsJudged_with_peer : (comm : List ℕ) (rank : ℕ) → with_peer comm rank ≡ attributes_of event
       → reason ≡ option_or (later book)
       (cond (not (is_same world comm || is_some (lookup (is_same comm) book.comms))) (Some UnknownComm) (cond (is_far book.logs rank) (Some RankTooLarge) None))
@@ -220,6 +221,25 @@ module _ (book : BookState) (event : Event) (is_call : IsCall book.types event) 
         ∙ of_call book.rank book.logs book events event (with_target window rank) h is_call says;
     taken = λ none events h.
         Represents_taken book book events event (IsTaken_kept (with_target window rank) (sym says) refl refl refl refl (stands book _ (sym is ∙ none)).0) h;
+    rank = refl;
+    logs = refl;
+  }
+
+  pub IsJudged_with_root : (comm : List ℕ) (root : ℕ) → with_root comm root ≡ attributes_of event
+      → reason ≡ option_or (later book)
+      (cond (not (is_same world comm || is_some (lookup (is_same comm) book.comms))) (Some UnknownComm)
+      (cond (is_far book.logs root) (Some RankTooLarge)
+      (cond (not (option_map_or (has_number root) (lookup (is_same comm) book.comms) (nat_lt root book.logs))) (Some RootNotMember) None)))
+      → IsJudged book book event reason
+  IsJudged_with_root comm root says is = record {
+    judged = λ events h.
+        let rest = λ (known : Option (List ℕ)). cond (is_far book.logs root) (Some RankTooLarge) (cond (not (option_map_or (has_number root) known (nat_lt root book.logs))) (Some RootNotMember) None) in
+        is
+        ∙ ap (λ known. option_or (later book) (cond (not (is_same world comm || is_some known)) (Some UnknownComm) (rest known))) (h.comms comm)
+        ∙ ap (option_or (later book)) (cond_or (not (has_comm events comm)) UnknownComm (rest (members events comm)))
+        ∙ of_call book.rank book.logs book events event (with_root comm root) h is_call says;
+    taken = λ none events h.
+        Represents_taken book book events event (IsTaken_kept (with_root comm root) (sym says) refl refl refl refl (stands book _ (sym is ∙ none)).0) h;
     rank = refl;
     logs = refl;
   }

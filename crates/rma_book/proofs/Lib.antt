@@ -1,6 +1,7 @@
 pub mod TypeLemmas
 pub mod StateLemmas
 pub mod JudgingLemmas
+pub mod RequestLemmas
 pub mod AccessLemmas
 pub mod EntryLemmas
 pub mod KnownLemmas

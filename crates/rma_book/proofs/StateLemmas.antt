@@ -17,7 +17,7 @@ option_or_assoc : {A : Type 0} → (a b c : Option A) → option_or (option_or a
 option_or_assoc (Some x) b c = refl
 option_or_assoc None b c = refl
 
-option_or_none : {A : Type 0} → (a : Option A) → option_or None a ≡ option_or a None
+pub option_or_none : {A : Type 0} → (a : Option A) → option_or None a ≡ option_or a None
 option_or_none (Some x) = refl
 option_or_none None = refl
 

@@ -1,5 +1,5 @@
 //! The book of one rank: it judges each event with those before it.
-ghost use Rattle.std.specs.Prelude.{◌≡◌, ℕ, ◌+◌, ◌<◌, ◌^◌, nat_lt, List, [], ◌∷◌, Some, None, true, false, not, ◌==◌, ◌&&◌, ◌||◌, Option, is_some, IfOk, IfSome, OnOk, if◌then◌else◌};
+ghost use Rattle.std.specs.Prelude.{◌≡◌, ℕ, ◌+◌, ◌<◌, ◌^◌, nat_lt, List, [], ◌∷◌, Some, None, true, false, not, ◌==◌, ◌&&◌, ◌||◌, Option, is_some, option_map, IfOk, IfSome, OnOk, if◌then◌else◌};
 ghost use Rattle.std.specs.List.{list_any};
 ghost use Rattle.std.specs.Map.{lookup};
 ghost use Rattle.std.specs.Option.{option_copied, option_map_or, option_or};
@@ -11,13 +11,14 @@ ghost use Rattle.rma_form.specs.declared.event.Event.TheVariants.{Header, End};
 ghost use Rattle.rma_book.specs.Naming.{attributes_of, is_end};
 ghost use Rattle.rma_book.specs.Types.{is_datatype};
 ghost use Rattle.rma_book.specs.Names.{is_same, of_name, world, has_comm, had_window, pending, is_there, is_fixed, request_number};
-ghost use Rattle.rma_book.specs.Judging.{first_that_holds, name_reason, use_reason, lacks_comm, lacks_window, lacks_request, is_far, leaves_out, waits_wrongly, differ, leaves_space, misses_root, attaches_wrongly};
+ghost use Rattle.rma_book.specs.Judging.{first_that_holds, name_reason, use_reason, lacks_comm, lacks_window, is_far, leaves_out, leaves_space, attaches_wrongly};
 ghost use Rattle.rma_book.specs.inside.BookState.{Represents, IsJudged, IsTaken, reason_in, number_in};
 ghost use Rattle.rma_book.specs.inside.Known.{IsCall, IsCallOf};
 ghost use Rattle.rma_book.specs.inside.Naming.{value_of};
 
 mod access;
 mod datatype;
+mod request;
 
 use crate::names::WindowState;
 use crate::naming::{Naming, Said};
@@ -162,6 +163,9 @@ impl Book {
             Said::WithTarget(window, rank) => {
                 Ok(self.judged_with(!self.is_there(window), FormReason::UnknownWindow, rank))
             }
+            Said::WithRoot(comm, root) => Ok(self.judged_for(self.root_reason(comm, root))),
+            Said::Making(new) => self.judge_making(&new),
+            Said::Waiting(request, from) => self.judge_waiting(request, from),
             Said::More(naming) => self.judge(&naming),
         }
     }
@@ -194,6 +198,34 @@ impl Book {
             None if lacks => Judged::Bad(reason),
             None if rank.0 >= self.logs => Judged::Bad(FormReason::RankTooLarge),
             None => Judged::Good { request: None },
+        }
+    }
+
+    // Judges a call of which there is nothing to note, with the reason that what it names gives, if it gives one.
+    #[inline]
+    fn judged_for(&self, found: Option<FormReason>) -> Judged
+        ensures reason { reason_in result ≡ option_or
+            (if not self.now.begun then Some FormReason.BadHeader else (if self.now.ended then Some FormReason.AfterEnd else None))
+            found }
+        ensures number { number_in result ≡ None }
+    {
+        match self.later_reason().or(found) {
+            Some(reason) => Judged::Bad(reason),
+            None => Judged::Good { request: None },
+        }
+    }
+
+    // Why a collective with this root is bad, if it is, where a call may stand.
+    fn root_reason(&self, comm: &Name, root: Rank) -> Option<FormReason>
+        ensures { result ≡ (if not (is_same world comm.now || is_some (lookup (is_same comm.now) self.now.comms)) then Some FormReason.UnknownComm
+            else (if is_far self.now.logs root.0 then Some FormReason.RankTooLarge
+            else (if not (option_map_or (has_number root.0) (lookup (is_same comm.now) self.now.comms) (nat_lt root.0 self.now.logs)) then Some FormReason.RootNotMember else None))) }
+    {
+        match self.comms.get(comm) {
+            None if !is_world(comm) => Some(FormReason::UnknownComm),
+            _ if root.0 >= self.logs => Some(FormReason::RankTooLarge),
+            Some(ranks) if !ranks.has(root) => Some(FormReason::RootNotMember),
+            _ => None,
         }
     }
 
@@ -278,7 +310,6 @@ impl Book {
         first_name_reason(
             self.lacks_comm(naming),
             self.lacks_window(naming),
-            self.lacks_request(naming),
             lacks_type,
             self.declares_used(naming) | (self.creates_used(naming) | self.makes_used(naming)),
         )
@@ -289,11 +320,9 @@ impl Book {
         ensures { (events : List Event) → Represents self.now events → result ≡ use_reason self.now.rank self.now.logs events (value_of naming.now) false }
     {
         first_use_reason(
-            self.has_far_member(naming) | self.has_far_rank(naming),
+            self.has_far_member(naming) | self.is_far(naming.rank),
             self.leaves_out(naming),
-            self.waits_wrongly(naming),
             leaves_space(naming),
-            self.misses_root(naming),
             self.attaches_wrongly(naming),
         )
     }
@@ -335,15 +364,6 @@ impl Book {
         }
     }
 
-    fn lacks_request(&self, naming: &Naming<'_>) -> bool
-        ensures { (events : List Event) → Represents self.now events → result ≡ lacks_request events (value_of naming.now) }
-    {
-        match naming.awaited {
-            Some((request, _)) => self.requests.get(request).is_none(),
-            None => false,
-        }
-    }
-
     fn declares_used(&self, naming: &Naming<'_>) -> bool
         ensures { (events : List Event) → Represents self.now events → result ≡ option_map_or (λ declared. has_comm events declared.0) (value_of naming.now).declared false }
     {
@@ -380,10 +400,11 @@ impl Book {
         }
     }
 
-    fn has_far_rank(&self, naming: &Naming<'_>) -> bool
-        ensures { result ≡ option_map_or (is_far self.now.logs) (value_of naming.now).rank false }
+    // Whether there is a rank that is that of no log.
+    fn is_far(&self, rank: Option<Rank>) -> bool
+        ensures { result ≡ option_map_or (is_far self.now.logs) (option_map (λ rank. rank.0) rank) false }
     {
-        match naming.rank {
+        match rank {
             Some(rank) => rank.0 >= self.logs,
             None => false,
         }
@@ -395,44 +416,6 @@ impl Book {
         match naming.declared {
             Some((_, ranks)) => !ranks.has(self.rank),
             None => false,
-        }
-    }
-
-    fn waits_wrongly(&self, naming: &Naming<'_>) -> bool
-        ensures { (events : List Event) → Represents self.now events → result ≡ waits_wrongly events (value_of naming.now) }
-    {
-        match naming.awaited {
-            Some((request, received)) => self.differs(request, received),
-            None => false,
-        }
-    }
-
-    // Whether the request is pending, and not of this kind.
-    fn differs(&self, request: &Name, receives: bool) -> bool
-        ensures { result ≡ option_map_or (λ request. differ request.receives receives) (lookup (is_same request.now) self.now.requests.pending) false }
-    {
-        match self.requests.get(request) {
-            Some(request) => request.receives != receives,
-            None => false,
-        }
-    }
-
-    fn misses_root(&self, naming: &Naming<'_>) -> bool
-        ensures { (events : List Event) → Represents self.now events → result ≡ misses_root self.now.logs events (value_of naming.now) }
-    {
-        match naming.root {
-            Some((comm, root)) => !self.has_member(comm, root),
-            None => false,
-        }
-    }
-
-    // Whether the rank is a member of the communicator.
-    fn has_member(&self, comm: &Name, rank: Rank) -> bool
-        ensures { result ≡ option_map_or (has_number rank.0) (lookup (is_same comm.now) self.now.comms) (nat_lt rank.0 self.now.logs) }
-    {
-        match self.comms.get(comm) {
-            Some(ranks) => ranks.has(rank),
-            None => rank.0 < self.logs,
         }
     }
 
@@ -466,9 +449,7 @@ impl Book {
         self.begun = true;
         self.declare(naming)?;
         self.mark(naming)?;
-        let completed = self.requests.complete(naming.awaited)?;
-        let made = self.requests.make(naming.made)?;
-        Ok(made.or(completed))
+        self.requests.make(naming.made)
     }
 
     // The communicator that is declared is there.
@@ -511,20 +492,16 @@ fn is_world(comm: &Name) -> bool
 fn first_name_reason(
     lacks_comm: bool,
     lacks_window: bool,
-    lacks_request: bool,
     lacks_type: bool,
     used: bool,
 ) -> Option<FormReason>
     ensures { result ≡ first_that_holds (
-        (FormReason.UnknownComm, lacks_comm) ∷ (FormReason.UnknownWindow, lacks_window) ∷ (FormReason.UnknownRequest, lacks_request)
-        ∷ (FormReason.UnknownType, lacks_type) ∷ (FormReason.NameInUse, used) ∷ []) }
+        (FormReason.UnknownComm, lacks_comm) ∷ (FormReason.UnknownWindow, lacks_window) ∷ (FormReason.UnknownType, lacks_type) ∷ (FormReason.NameInUse, used) ∷ []) }
 {
     if lacks_comm {
         Some(FormReason::UnknownComm)
     } else if lacks_window {
         Some(FormReason::UnknownWindow)
-    } else if lacks_request {
-        Some(FormReason::UnknownRequest)
     } else if lacks_type {
         Some(FormReason::UnknownType)
     } else if used {
@@ -535,28 +512,16 @@ fn first_name_reason(
 }
 
 /// The first of the reasons in what a call does that holds.
-fn first_use_reason(
-    far: bool,
-    left_out: bool,
-    wrong_wait: bool,
-    beyond: bool,
-    no_root: bool,
-    fixed: bool,
-) -> Option<FormReason>
+fn first_use_reason(far: bool, left_out: bool, beyond: bool, fixed: bool) -> Option<FormReason>
     ensures { result ≡ first_that_holds (
-        (FormReason.RankTooLarge, far) ∷ (FormReason.NotInGroup, left_out) ∷ (FormReason.WrongWait, wrong_wait) ∷ (FormReason.OutOfSpace, beyond)
-        ∷ (FormReason.RootNotMember, no_root) ∷ (FormReason.NotDynamic, fixed) ∷ []) }
+        (FormReason.RankTooLarge, far) ∷ (FormReason.NotInGroup, left_out) ∷ (FormReason.OutOfSpace, beyond) ∷ (FormReason.NotDynamic, fixed) ∷ []) }
 {
     if far {
         Some(FormReason::RankTooLarge)
     } else if left_out {
         Some(FormReason::NotInGroup)
-    } else if wrong_wait {
-        Some(FormReason::WrongWait)
     } else if beyond {
         Some(FormReason::OutOfSpace)
-    } else if no_root {
-        Some(FormReason::RootNotMember)
     } else if fixed {
         Some(FormReason::NotDynamic)
     } else {

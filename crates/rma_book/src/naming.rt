@@ -1,5 +1,5 @@
 //! What an event says of names and ranks.
-ghost use Rattle.std.specs.Prelude.{◌≡◌, ℕ, List, Option, Some};
+ghost use Rattle.std.specs.Prelude.{◌≡◌, ℕ, List, Option, Some, true, false, is_some, option_map};
 ghost use Rattle.std.specs.Option.{option_copied};
 ghost use Rattle.rma_call.specs.Call.{what_of};
 ghost use Rattle.rma_call.specs.declared.what.SyncCall.TheVariants as sync;
@@ -8,14 +8,15 @@ ghost use Rattle.rma_form.specs.declared.event.Event.TheVariants.{Call};
 ghost use Rattle.rma_type.specs.Table.{Table};
 ghost use Rattle.rma_book.specs.Calls.{what_in};
 ghost use Rattle.rma_book.specs.inside.Known.{request_of};
-ghost use Rattle.rma_book.specs.Naming.{attributes_of, created_state, request_that, with_access};
+ghost use Rattle.rma_book.specs.Naming.{attributes_of, created_state, no_attributes, on_comm, request_that, with_access, with_peer};
 ghost use Rattle.rma_book.specs.inside.Naming.{said_value, value_of, named, nothing};
 
 use crate::names::WindowState;
 use rma_base::{Name, Rank, RankSet};
-use rma_call::{EpochCall, FrameCall, MessageCall, MovingCall, WhatRef, WindowCall};
+use rma_call::{EpochCall, FrameCall, MessageCall, MovingCall, Received, WhatRef, WindowCall};
 
-/// What an event says of names and ranks. The fields are those of `specs/Naming.antt`.
+/// What an event says of names and ranks. The fields are those of `specs/Naming.antt`, but for the root of a collective and the
+/// request that is waited for, which `Said` has by themselves.
 #[derive(Clone, Copy)]
 pub(crate) struct Naming<'a> {
     /// The communicator that has to be there.
@@ -30,18 +31,27 @@ pub(crate) struct Naming<'a> {
     pub(crate) window: Option<(&'a Name, WindowState)>,
     /// The request that is made, and whether it is a receive.
     pub(crate) made: Option<(&'a Name, bool)>,
-    /// The request that is waited for, and whether a message came.
-    pub(crate) awaited: Option<(&'a Name, bool)>,
     /// A group of ranks that is named.
     pub(crate) group: Option<&'a RankSet>,
     /// A rank that is named by itself.
     pub(crate) rank: Option<Rank>,
     /// The memory of a window: its address, and its number of bytes.
     pub(crate) memory: Option<(u64, u64)>,
-    /// The root of a collective, with its communicator.
-    pub(crate) root: Option<(&'a Name, Rank)>,
     /// The window to which memory is attached, or from which it is detached.
     pub(crate) attached: Option<&'a Name>,
+}
+
+/// What a message says of names and ranks that makes a request.
+#[derive(Clone, Copy)]
+pub(crate) struct NewRequest<'a> {
+    /// The communicator that has to be there.
+    pub(crate) comm: &'a Name,
+    /// The rank to which the message goes, where it is known.
+    pub(crate) peer: Option<Rank>,
+    /// The request that is made.
+    pub(crate) name: &'a Name,
+    /// Whether it is a receive.
+    pub(crate) receives: bool,
 }
 
 /// What a call says of names and ranks. Most say one thing or two, and local accesses none.
@@ -56,6 +66,12 @@ pub(crate) enum Said<'a> {
     WithPeer(&'a Name, Rank),
     /// The window has to be there, and a log has to be that of the rank.
     WithTarget(&'a Name, Rank),
+    /// The communicator has to be there, and a log has to be that of the root, which has to be a member.
+    WithRoot(&'a Name, Rank),
+    /// The communicator has to be there, a log has to be that of the peer, and the request is made.
+    Making(NewRequest<'a>),
+    /// The request has to be pending, and a receive where a message came from a rank, of which there has to be a log.
+    Waiting(&'a Name, Option<Rank>),
     /// All this.
     More(Naming<'a>),
 }
@@ -97,20 +113,54 @@ fn of_message<'a>(call: &'a MessageCall, request: Option<&'a Name>) -> Said<'a>
     match call {
         MessageCall::Send { to, comm, .. } => Said::WithPeer(comm, *to),
         MessageCall::Recv { from, comm, .. } => Said::WithPeer(comm, *from),
-        MessageCall::Isend { to, comm, .. } => Said::More(Naming {
-            made: request_that(false, request),
-            ..with_peer(comm, *to)
+        MessageCall::Isend { to, comm, .. } => of_isend(comm, *to, request),
+        MessageCall::Irecv { comm } => of_irecv(comm, request),
+        MessageCall::Wait { received } => of_wait(*received, request),
+    }
+}
+
+fn of_isend<'a>(comm: &'a Name, to: Rank, request: Option<&'a Name>) -> Said<'a>
+    ensures { said_value result ≡ record (with_peer comm.now to.0) { made = request_that false (option_copied request.entry) } }
+{
+    match request {
+        Some(name) => Said::Making(NewRequest {
+            comm,
+            peer: Some(to),
+            name,
+            receives: false,
         }),
-        MessageCall::Irecv { comm } => Said::More(Naming {
-            made: request_that(true, request),
-            ..on_comm(comm)
+        None => Said::WithPeer(comm, to),
+    }
+}
+
+fn of_irecv<'a>(comm: &'a Name, request: Option<&'a Name>) -> Said<'a>
+    ensures { said_value result ≡ record (on_comm comm.now) { made = request_that true (option_copied request.entry) } }
+{
+    match request {
+        Some(name) => Said::Making(NewRequest {
+            comm,
+            peer: None,
+            name,
+            receives: true,
         }),
-        MessageCall::Wait { received } => Said::More(Naming {
-            awaited: request_that(received.is_some(), request),
-            rank: match received {
-                Some(received) => Some(received.from),
-                None => None,
-            },
+        None => Said::OnComm(comm),
+    }
+}
+
+fn of_wait(received: Option<Received>, request: Option<&Name>) -> Said<'_>
+    ensures { said_value result ≡ record no_attributes {
+      awaited = request_that (is_some received) (option_copied request.entry);
+      rank = option_map (λ it. it.from.0) received;
+    } }
+{
+    let from = match received {
+        Some(received) => Some(received.from),
+        None => None,
+    };
+    match request {
+        Some(request) => Said::Waiting(request, from),
+        None => Said::More(Naming {
+            rank: from,
             ..nothing()
         }),
     }
@@ -186,10 +236,10 @@ fn of_moving(call: &MovingCall) -> Said<'_>
     ensures { (request : Option (List ℕ)) → said_value result ≡ attributes_of (Call (sync.Moving call.now) request) }
 {
     match call {
-        MovingCall::Bcast { root, comm, .. } => Said::More(with_root(comm, *root)),
-        MovingCall::Scatter { root, comm, .. } => Said::More(with_root(comm, *root)),
-        MovingCall::Gather { root, comm, .. } => Said::More(with_root(comm, *root)),
-        MovingCall::Reduce { root, comm, .. } => Said::More(with_root(comm, *root)),
+        MovingCall::Bcast { root, comm, .. } => Said::WithRoot(comm, *root),
+        MovingCall::Scatter { root, comm, .. } => Said::WithRoot(comm, *root),
+        MovingCall::Gather { root, comm, .. } => Said::WithRoot(comm, *root),
+        MovingCall::Reduce { root, comm, .. } => Said::WithRoot(comm, *root),
         MovingCall::Allreduce { comm, .. } => Said::OnComm(comm),
         MovingCall::Allgather { comm, .. } => Said::OnComm(comm),
         MovingCall::Alltoall { comm, .. } => Said::OnComm(comm),
@@ -207,11 +257,9 @@ fn nothing<'a>() -> Naming<'a>
         created: None,
         window: None,
         made: None,
-        awaited: None,
         group: None,
         rank: None,
         memory: None,
-        root: None,
         attached: None,
     }
 }
@@ -223,26 +271,6 @@ fn on_comm(comm: &Name) -> Naming<'_>
     Naming {
         needed_comm: Some(comm),
         ..nothing()
-    }
-}
-
-/// A message on a communicator, to or from a rank.
-fn with_peer(comm: &Name, rank: Rank) -> Naming<'_>
-    ensures { result ≡ record nothing { needed_comm = Some comm.entry; rank = Some rank } }
-{
-    Naming {
-        rank: Some(rank),
-        ..on_comm(comm)
-    }
-}
-
-/// A collective with a root.
-fn with_root(comm: &Name, root: Rank) -> Naming<'_>
-    ensures { result ≡ record nothing { needed_comm = Some comm.entry; rank = Some root; root = Some (comm.entry, root) } }
-{
-    Naming {
-        root: Some((comm, root)),
-        ..with_peer(comm, root)
     }
 }
 

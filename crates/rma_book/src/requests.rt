@@ -57,18 +57,15 @@ impl Requests {
         self.completed < self.made
     }
 
-    /// Completes the request that is waited for, if one is, and answers its number.
-    pub(crate) fn complete(&mut self, awaited: Option<(&Name, bool)>) -> Result<Option<u32>, Memory>
-        ensures number { IfOk result (λ number. number ≡ option_and_then (λ wait. option_and_then number_of (lookup (is_same wait.0) self.old.pending)) (named awaited.entry)) }
+    /// Completes the request of this name, and answers its number, if it is pending.
+    pub(crate) fn complete(&mut self, name: &Name) -> Result<Option<u32>, Memory>
+        ensures number { IfOk result (λ number. number ≡ option_and_then number_of (lookup (is_same name.now) self.old.pending)) }
         ensures fits { IfOk result (λ number. IfSome number (λ n. n + 1 < 2 ^ 32)) }
-        ensures pending { OnOk result ((name : List ℕ) → lookup (is_same name) self.new.pending
-            ≡ unwrap_or (option_map (λ received. None) (of_name name (named awaited.entry))) (lookup (is_same name) self.old.pending)) }
+        ensures pending { OnOk result ((other : List ℕ) → lookup (is_same other) self.new.pending
+            ≡ (if is_same name.now other then None else lookup (is_same other) self.old.pending)) }
         ensures made { OnOk result (self.new.made ≡ self.old.made) }
-        ensures completed { OnOk result (self.new.completed ≡ self.old.completed + (if is_some (named awaited.entry) then 1 else 0)) }
+        ensures completed { OnOk result (self.new.completed ≡ self.old.completed + 1) }
     {
-        let Some((name, _)) = awaited else {
-            return Ok(None);
-        };
         match self.completed.checked_add(1) {
             Some(completed) => self.completed = completed,
             None => return Err(Memory),

@@ -1,19 +1,19 @@
 //! Judging calls that access the part of a target, and local accesses.
-ghost use Rattle.std.specs.Prelude.{◌≡◌, ◌+◌, ◌<◌, ◌^◌, ◌∷◌, [], List, length, not, is_some, option_map, IfOk, IfErr, IfSome, OnOk, None, Some, false, if◌then◌else◌};
+ghost use Rattle.std.specs.Prelude.{◌≡◌, ◌+◌, ◌<◌, ◌^◌, ◌∷◌, [], List, length, not, is_some, IfOk, IfErr, IfSome, OnOk, None, Some, false, if◌then◌else◌};
 ghost use Rattle.std.specs.Option.{option_copied, option_map_or, option_or};
 ghost use Rattle.rma_form.specs.declared.event.Event.{Event};
 ghost use Rattle.rma_form.specs.declared.event.Event.TheVariants.{Local, Rma};
 ghost use Rattle.rma_buffer.specs.Calls.{local_call_of, rma_call_of};
 ghost use Rattle.rma_buffer.specs.Operands.{AreOf, IsOf, kind_of, operands_of};
 ghost use Rattle.rma_buffer.specs.Rules.{IsErrorOf, buffers_reason, memory_reason};
-ghost use Rattle.rma_book.specs.Judging.{first_that_holds, is_far, name_reason, use_reason};
+ghost use Rattle.rma_book.specs.Judging.{first_that_holds, name_reason, use_reason};
 ghost use Rattle.rma_book.specs.Names.{pending, request_number};
 ghost use Rattle.rma_book.specs.Naming.{attributes_of, request_that, with_access};
 ghost use Rattle.rma_book.specs.inside.BookState.{FitsRequest, IsJudged, IsGoodAccess, IsTaken, Represents, fault_in};
 
 use crate::book::Book;
 use crate::naming::with_access;
-use rma_base::{FormReason, Memory, Name, Rank};
+use rma_base::{FormReason, Memory, Name};
 use rma_buffer::{BufferError, Operand, Operands, local_call, one_sided_call};
 use rma_call::{LocalCall, RmaCall, What};
 use rma_form::{LocalLine, RmaLine};
@@ -119,16 +119,6 @@ impl Book {
     {
         match request {
             Some(request) => self.requests.get(request).is_some(),
-            None => false,
-        }
-    }
-
-    // Whether there is a target that is the rank of no log.
-    fn is_far(&self, target: Option<Rank>) -> bool
-        ensures { result ≡ option_map_or (is_far self.now.logs) (option_map (λ rank. rank.0) target) false }
-    {
-        match target {
-            Some(rank) => rank.0 >= self.logs,
             None => false,
         }
     }

@@ -1,6 +1,6 @@
 use Rattle.std.proofs.Common.{Result, Ok, Err, IfOk}
 use Rattle.rma_book.specs.inside.BookState.{reason_in}
-use Rattle.rma_book.proofs.JudgingLemmas.{IsJudged_nothing, IsJudged_on_comm, IsJudged_on_window, IsJudged_with_peer, IsJudged_with_target, call_is}
+use Rattle.rma_book.proofs.JudgingLemmas.{IsJudged_nothing, IsJudged_on_comm, IsJudged_on_window, IsJudged_with_peer, IsJudged_with_root, IsJudged_with_target, call_is}
 use Rattle.rma_book.proofs.book.Book.call.Goals as goal
 
 IfOk_then : {X E : Type 0} {A B : X → Type 0} → (r : Result X E) → IfOk r A → ((x : X) → A x → B x) → IfOk r B
@@ -35,6 +35,22 @@ returns-in-WithTarget-clause-judged c = λ event is.
     let book = c.args.self.now in
     IsJudged_with_target book event (call_is book.types _ _ event is) (reason_in c.judged_with-in-WithTarget.result) c.in-WithTarget.window.now c.in-WithTarget.rank.0
     (c.in-WithTarget.ensures book.types event is.does is.request) (rw c.is_there-in-WithTarget.ensures at c.judged_with-in-WithTarget.ensures.reason)
+
+pub returns-in-WithRoot-clause-judged : goal.returns-in-WithRoot-clause-judged
+returns-in-WithRoot-clause-judged c = λ event is.
+    let book = c.args.self.now in
+    IsJudged_with_root book event (call_is book.types _ _ event is) (reason_in c.judged_for.result) c.in-WithRoot.comm.now c.in-WithRoot.root.0
+    (c.in-WithRoot.ensures book.types event is.does is.request) (rw c.root_reason.ensures at c.judged_for.ensures.reason)
+
+pub returns-in-Making-clause-judged : goal.returns-in-Making-clause-judged
+returns-in-Making-clause-judged c =
+    IfOk_then c.judge_making.result c.judge_making.ensures.judged
+    (λ judged told event is. let types = c.args.self.now.types in told event (c.in-Making.ensures types event is.does is.request) (call_is types _ _ event is))
+
+pub returns-in-Waiting-clause-judged : goal.returns-in-Waiting-clause-judged
+returns-in-Waiting-clause-judged c =
+    IfOk_then c.judge_waiting.result c.judge_waiting.ensures.judged
+    (λ judged told event is. let types = c.args.self.now.types in told event (c.in-Waiting.ensures types event is.does is.request) (call_is types _ _ event is))
 
 pub returns-in-More-clause-judged : goal.returns-in-More-clause-judged
 returns-in-More-clause-judged c =
