@@ -1,13 +1,10 @@
 -- The meets of a run, each once and each at every call that waits for all.
-use Rattle.std.proofs.Common.{◌≡◌, ℕ, zero, suc, max, min, fold, nat_cmp, nat_eq, unwrap_or, ◌+◌, ◌-◌, ◌*◌, ◌/◌, ◌<◌, ◌≤◌, inl, inr, ⊎_elim, Bool, true, false, cond, ◌||◌, ◌∷◌, ◌++◌, List, [], length, map, Option, Some, None, nat_le, get_or, slice_get, refl, sym, ap, subst, ◌∙◌, arith, append_assoc, append-nil}
+use Rattle.std.proofs.Common.{◌≡◌, ℕ, zero, suc, min, nat_eq, ◌+◌, ◌-◌, ◌*◌, ◌/◌, ◌<◌, ◌≤◌, inl, inr, ⊎_elim, Bool, true, false, cond, ◌||◌, ◌∷◌, ◌++◌, List, [], length, map, Option, Some, None, nat_le, get_or, slice_get, refl, sym, ap, subst, ◌∙◌, arith, append_assoc, append-nil}
 use Rattle.std.specs.Prelude.{All, Contains, option_map}
 use Rattle.std.specs.List.{flat_map, list_any, cons_option}
 use Rattle.std.specs.List.Sorted.{IsStrictlyIncreasing}
 use Rattle.std.specs.Option.{option_map_or}
-use Rattle.std.specs.Map.{lookup}
-use Rattle.std.specs.BTreeMap.{is_at}
 use Rattle.std.specs.Cmp.Lexicographic.{same_text}
-use Rattle.std.proofs.Math.Nat.{le-max_left, le-max_right}
 use Rattle.std.proofs.lemmas.Bool.{cases_lt}
 use Rattle.std.proofs.lemmas.Cmp.{nat_eq_equiv}
 use Rattle.std.proofs.lemmas.Option.{slice_get_within}
@@ -30,9 +27,10 @@ use Rattle.rma_round.specs.Round.{numbers, place_in}
 use Rattle.rma_round.specs.Meet.{waits_for_all, member_at, round_at, meet_of, meets_on, kinds, meets_at, round_meets, IsRoundMeet, HasMeets}
 use Rattle.rma_round.specs.declared.name_rounds.NameRounds.{NameRounds}
 use Rattle.rma_round.specs.declared.rounds.Rounds.{Rounds}
-use Rattle.rma_round.specs.inside.Rounds.{listed, kept, numbers_in, of_kind, Represents}
-use Rattle.rma_round.specs.inside.Met.{longest, member_waits, met, before_round, from_round, turn_start, name_meets, turn_meets, kind_meets, all_meets}
+use Rattle.rma_round.specs.inside.Rounds.{listed, kept, numbers_in, rounds_in, of_kind, Represents}
+use Rattle.rma_round.specs.inside.Met.{member_waits, met, before_round, from_round, turn_start, name_meets, turn_meets, kind_meets, all_meets}
 use Rattle.rma_round.proofs.KeptLemmas.{Represents_of_kind}
+use Rattle.rma_round.proofs.RowLemmas.{listed_within}
 use Rattle.rma_round.proofs.NumberLemmas.{call_at, place_is, place_has}
 
 pub four_appended : (x a b c d : List Meet) → (((x ++ a) ++ b) ++ c) ++ d ≡ x ++ (a ++ (b ++ (c ++ (d ++ []))))
@@ -221,20 +219,6 @@ module _ (f : ℕ → List Meet) (meet : Meet) where
       (λ (from : n ≤ place). let is : place ≡ n = omega arith in Contains-append_right (before_round f n) (f n) meet (subst (λ k. Contains (f k) meet) is has))
       (cases_lt place n)
 
-longest_from : (es : List (ℕ × List ℕ)) (n : ℕ) → n ≤ fold (λ most e. max most (length e.1)) n es
-longest_from [] n = omega arith
-longest_from (e ∷ es) n = let one = le-max_left n (length e.1) in let rest = longest_from es (max n (length e.1)) in omega arith
-
--- no rank has more calls than the longest
-listed_within : (rank : ℕ) (es : List (ℕ × List ℕ)) (n : ℕ) → length (listed es rank) ≤ fold (λ most e. max most (length e.1)) n es
-listed_within rank [] n = omega arith
-listed_within rank (e ∷ es) n = by (is_at (nat_cmp rank) e.0) (listed_within rank es (max n (length e.1)))
-  where
-    by : (b : Bool) → length (listed es rank) ≤ fold (λ most x. max most (length x.1)) (max n (length e.1)) es
-        → length (unwrap_or (cond b (Some e.1) (lookup (is_at (nat_cmp rank)) es)) []) ≤ fold (λ most x. max most (length x.1)) (max n (length e.1)) es
-    by true rest = let own = le-max_right n (length e.1) in let from = longest_from es (max n (length e.1)) in omega arith
-    by false rest = rest
-
 -- the first turn begins with no round, and the last one ends with all
 starts_at_none : (turns rounds : ℕ) → 0 < turns → turn_start turns rounds 0 ≡ 0
 starts_at_none turns rounds some = by (nat_eq 0 turns) refl
@@ -273,7 +257,7 @@ module _ (ranks : List RankCalls) (rounds : Rounds) (in_order : AreInOrder ranks
       let names = (of_kind k.0 rounds).names.entries in
       let t = in_before_round (turn_meets ranks k.0 turns names) meet turns k.2 in
       let e = in_flat_map (name_meets ranks k.0 turns t.0) names meet t.1 in
-      let most = longest e.0.1.ranks.entries in
+      let most = rounds_in e.0.1 in
       let from = turn_start turns most t.0 in
       let p = in_before_round (λ n. met ranks (round_at k.0 e.0.0 ranks (from + n))) meet (turn_start turns most (t.0 + 1) - from) e.2 in
       let place = from + p.0 in
@@ -310,7 +294,7 @@ module _ (ranks : List RankCalls) (rounds : Rounds) (in_order : AreInOrder ranks
           let there = slice_get_within (numbers is.kind is.name (calls_of ranks is.own.rank.0)) is.place is.number at in
           let few = listed_within is.own.rank.0 own.ranks.entries 0 in
           let long : length (listed own.ranks.entries is.own.rank.0) ≡ length (numbers is.kind is.name (calls_of ranks is.own.rank.0)) = ap length same in
-          let most = longest own.ranks.entries in
+          let most = rounds_in own in
           let f : ℕ → List Meet = λ place. met ranks (round_at is.kind is.name ranks place) in
           let t = turn_of most is.place (omega arith) in
           before_round_has (turn_meets ranks is.kind turns names) meet turns t.0 t.1

@@ -1,5 +1,5 @@
 -- The calls of a round, by what is kept of the ranks that make them.
-use Rattle.std.proofs.Common.{◌≡◌, ◌≢◌, ℕ, suc, ◌+◌, ◌-◌, ◌<◌, ◌≤◌, ◌⊎◌, inl, inr, true, false, ◌∷◌, ◌++◌, List, [], length, max, take, get_or, Some, None, nat_eq, nat_cmp, eqb, slice_get, refl, sym, ap, subst, ◌∙◌, arith}
+use Rattle.std.proofs.Common.{◌≡◌, ◌≢◌, ℕ, suc, ◌+◌, ◌-◌, ◌<◌, ◌≤◌, ◌⊎◌, inl, inr, true, false, ◌∷◌, ◌++◌, List, [], length, take, get_or, Some, None, nat_eq, nat_cmp, eqb, slice_get, refl, sym, ap, subst, ◌∙◌, arith}
 use Rattle.std.specs.Prelude.{option_map}
 use Rattle.std.specs.List.{filter_map, cons_option, AllByRecursion}
 use Rattle.std.specs.List.Sorted.{IsStrictlySortedBy}
@@ -8,8 +8,6 @@ use Rattle.std.specs.BTreeMap.{is_at}
 use Rattle.std.specs.Cmp.{ranked, unsigned_tied}
 use Rattle.std.proofs.lemmas.Bool.Decides.{nat_tests, eqb_tells}
 use Rattle.std.proofs.lemmas.Option.{slice_get_past, slice_get-map, slice_get-get_or}
-use Rattle.std.proofs.lemmas.List.{get_or-map, length-map}
-use Rattle.std.proofs.lemmas.List.Sums.{fold_more}
 use Rattle.std.specs.declared.cmp.Ordering.TheVariants.{Less}
 use Rattle.rma_base.specs.declared.rank.Rank.{Rank}
 use Rattle.rma_call.specs.Call.{RankCalls}
@@ -21,7 +19,7 @@ use Rattle.rma_round.specs.declared.name_rounds.RankRounds.{RankRounds}
 use Rattle.rma_round.specs.Round.{numbers}
 use Rattle.rma_round.specs.Meet.{member_at, round_at}
 use Rattle.rma_round.specs.inside.Rounds.{listed, row_entry, row_entries}
-use Rattle.rma_round.specs.inside.Met.{member_in, longest}
+use Rattle.rma_round.specs.inside.Met.{member_in}
 
 -- ranks ascend, from this one on
 abbrev Ascend : ℕ → List (ℕ × List ℕ) → Type 0
@@ -146,13 +144,6 @@ module _ (place : ℕ) (kind : Kind) (name : List ℕ) (ranks : List RankCalls) 
   members_are =
       members_from place kind name 0 ranks es (λ i own there. in_order i own there ∙ (let e : i ≡ 0 + i = omega arith in e)) (ascend_from 0 es (all_from_zero es) sorted)
       (λ d. ap (listed es) (let e : 0 + d ≡ d = omega arith in e) ∙ are d)
-
--- the longest with one rank more
-pub longest_taken : (rows : List RankRounds) (i : ℕ) (row : RankRounds) → i < length rows →
-    longest (take (i + 1) (row_entries rows)) ≡ max (longest (take i (row_entries rows))) (length (get_or rows i row).numbers.now)
-longest_taken rows i row lt =
-    fold_more (λ most e. max most (length e.1)) 0 (row_entries rows) i (row_entry row) (rw length-map lt)
-    ∙ ap (λ e. max (longest (take i (row_entries rows))) (length e.1)) (get_or-map row_entry rows i row (row_entry row) lt)
 
 -- the calls of a round with those of one rank more
 pub members_taken : (place : ℕ) (rows : List RankRounds) (i : ℕ) (row : RankRounds) → i < length rows →

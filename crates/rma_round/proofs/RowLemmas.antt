@@ -1,12 +1,13 @@
 -- The ranks that have calls on one name, with their calls.
-use Rattle.std.proofs.Common.{◌≡◌, ℕ, ◌+◌, ◌<◌, Bool, true, false, map, nat_lt, ◌∷◌, List, [], length, Option, Some, None, Result, Ok, Err, nat_cmp, get_or, slice_get, refl, sym, ap, subst, ◌∙◌, arith}
+use Rattle.std.proofs.Common.{◌≡◌, ℕ, ◌+◌, ◌<◌, ◌≤◌, Bool, true, false, cond, fold, map, max, nat_lt, ◌∷◌, List, [], length, Option, Some, None, Result, Ok, Err, nat_cmp, get_or, slice_get, refl, sym, ap, subst, ◌∙◌, arith}
 use Rattle.std.specs.Prelude.{option_map, unwrap_or, IsSome, IfOk, Contains}
 use Rattle.std.specs.List.Sorted.{IsStrictlyIncreasing}
+use Rattle.std.proofs.Math.Nat.{le-max_left, le-max_right}
 use Rattle.std.proofs.lemmas.Bool.Decides.{nat_tests}
 use Rattle.std.proofs.lemmas.List.Elements.{All-contains}
 use Rattle.rma_run.proofs.ContainLemmas.{has_first, has_later, has_none, first_or_later}
-use Rattle.std.specs.Map.{keys_of}
-use Rattle.std.specs.BTreeMap.{IsOrdered, get}
+use Rattle.std.specs.Map.{keys_of, lookup}
+use Rattle.std.specs.BTreeMap.{IsOrdered, get, is_at}
 use Rattle.std.proofs.lemmas.Cmp.{nat_cmp_total}
 use Rattle.std.proofs.lemmas.Map.Entries.{btree_map_get_place}
 use Rattle.std.proofs.lemmas.Map.Keys.{IsStrictlyIncreasing-from_sorted}
@@ -15,7 +16,7 @@ use Rattle.std.proofs.lemmas.Map.Views.{btree_map_contains_key_iff}
 use Rattle.std.proofs.lemmas.Option.{slice_get-map, slice_get-get_or}
 use Rattle.rma_round.specs.declared.name_rounds.NameRounds.{NameRounds}
 use Rattle.rma_round.specs.declared.name_rounds.RankRounds.{RankRounds}
-use Rattle.rma_round.specs.inside.Rounds.{ranks_of, row_entry, row_entries, AreRows, calls_in}
+use Rattle.rma_round.specs.inside.Rounds.{listed, ranks_of, row_entry, row_entries, AreRows, calls_in}
 
 ranks_are_keys : (rows : List RankRounds) → ranks_of rows ≡ keys_of (row_entries rows)
 ranks_are_keys [] = refl
@@ -78,3 +79,17 @@ before_or_here P j i below before here = by (nat_lt j i) refl
     by : (b : Bool) → nat_lt j i ≡ b → P
     by true is = before (grind (arith, nat_tests))
     by false is = here (grind (arith, nat_tests))
+
+longest_from : (es : List (ℕ × List ℕ)) (n : ℕ) → n ≤ fold (λ most e. max most (length e.1)) n es
+longest_from [] n = omega arith
+longest_from (e ∷ es) n = let one = le-max_left n (length e.1) in let rest = longest_from es (max n (length e.1)) in omega arith
+
+-- no rank has more calls than the longest
+pub listed_within : (rank : ℕ) (es : List (ℕ × List ℕ)) (n : ℕ) → length (listed es rank) ≤ fold (λ most e. max most (length e.1)) n es
+listed_within rank [] n = omega arith
+listed_within rank (e ∷ es) n = by (is_at (nat_cmp rank) e.0) (listed_within rank es (max n (length e.1)))
+  where
+    by : (b : Bool) → length (listed es rank) ≤ fold (λ most x. max most (length x.1)) (max n (length e.1)) es
+        → length (unwrap_or (cond b (Some e.1) (lookup (is_at (nat_cmp rank)) es)) []) ≤ fold (λ most x. max most (length x.1)) (max n (length e.1)) es
+    by true rest = let own = le-max_right n (length e.1) in let from = longest_from es (max n (length e.1)) in omega arith
+    by false rest = rest

@@ -1,3 +1,4 @@
 pub mod Rounds
 pub mod Lists
 pub mod Met
+pub mod Step

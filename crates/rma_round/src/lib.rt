@@ -6,9 +6,13 @@
 //! so many, are one round.
 //!
 //! [`Rounds`] takes the calls of the ranks one at a time, in any order of the ranks, or those of whole logs at once. It answers
-//! the call of another rank that is of the round of a call, and appends the links: a meet for each round that waits for all its
-//! calls, and the edges of data that moves from a root or to it. A call that is taken alone costs a look-up in a table by its name
-//! and one by its rank.
+//! the call of another rank that is of the round of a call. A call that is taken alone costs a look-up in a table by its name and
+//! one by its rank.
+//!
+//! Who orders a run asks for its links. [`Rounds::push_edges`] appends the edges of data that moves from a root or to it, each between
+//! the root's call of a round and that of another rank. [`Rounds::push_meets`] appends a meet for each round of which a call waits
+//! for all its calls. [`Rounds::are_in_step`] tells whether the calls of each round have one number, so that their numbers alone
+//! order them and no meet has to be made; where it says no, some two ranks make other calls.
 //!
 //! The rounds of a kind are read name by name: [`KindRounds`] has the names, [`NameRounds`] the ranks that make calls on one name,
 //! and [`RankRounds`] the calls of one of those ranks. So all rounds are gone through with no look-up. A name that is known is

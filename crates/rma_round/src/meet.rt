@@ -5,7 +5,7 @@ ghost use Rattle.std.specs.Option.{option_map_or};
 ghost use Rattle.rma_call.specs.Call.{what_of};
 ghost use Rattle.rma_round.specs.Meet.{waits_for_all};
 ghost use Rattle.rma_round.specs.inside.Rounds.{row_entry, row_entries};
-ghost use Rattle.rma_round.specs.inside.Met.{from_round, longest, member_in, member_waits, met, turn_start};
+ghost use Rattle.rma_round.specs.inside.Met.{from_round, member_in, member_waits, met, turn_start};
 
 use crate::name_rounds::RankRounds;
 use rma_base::{Memory, Sequence};
@@ -22,11 +22,12 @@ pub(crate) struct Turn {
     pub(crate) of: usize,
 }
 
-/// Appends the meet of each round of this turn of which a call waits for all.
+/// Appends the meet of each round of this turn of which a call waits for all, where there are so many rounds.
 pub(crate) fn push_rounds(
     alloc: Global,
     ranks: &[RankCalls],
     rows: &[RankRounds<'_>],
+    rounds: usize,
     turn: Turn,
     links: &mut Links,
 ) -> Result<(), Memory>
@@ -34,9 +35,8 @@ pub(crate) fn push_rounds(
     ensures edges { OnOk result (links.new.edges ≡ links.old.edges) }
     ensures meets { OnOk result (links.new.meets ≡ links.old.meets
         ++ from_round (λ place. met ranks.now (filter_map (member_in place) (row_entries rows.now)))
-        (turn_start turn.of (longest (row_entries rows.now)) turn.number) (turn_start turn.of (longest (row_entries rows.now)) (turn.number + 1))) }
+        (turn_start turn.of rounds turn.number) (turn_start turn.of rounds (turn.number + 1))) }
 {
-    let rounds = longest(rows);
     let from = turn_start(turn.of, rounds, turn.number);
     let to = turn_start(turn.of, rounds, turn.number + 1);
     for k in 0..to.saturating_sub(from) {
@@ -56,17 +56,6 @@ fn turn_start(turns: usize, rounds: usize, turn: usize) -> usize
     } else {
         turn.saturating_mul(rounds / turns).min(rounds)
     }
-}
-
-/// The most calls that a rank has.
-fn longest(rows: &[RankRounds<'_>]) -> usize
-    ensures { result ≡ longest (row_entries rows.now) }
-{
-    let mut most = 0;
-    for row in rows {
-        most = most.max(row.numbers.len());
-    }
-    most
 }
 
 /// The calls of the round of this number, by rank.

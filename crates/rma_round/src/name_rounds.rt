@@ -1,12 +1,12 @@
 //! The rounds of one kind on one name.
-ghost use Rattle.std.specs.Prelude.{◌≡◌, ◌<◌, ◌++◌, ◌∷◌, [], ℕ, List, nat_eq, IfOk, OnOk, if◌then◌else◌};
+ghost use Rattle.std.specs.Prelude.{◌≡◌, ◌≤◌, ◌<◌, ◌++◌, ◌∷◌, [], ℕ, List, length, nat_eq, IfOk, OnOk, if◌then◌else◌};
 ghost use Rattle.std.specs.Ordering.{nat_cmp};
 ghost use Rattle.std.specs.BTreeMap.{IsOrdered};
 ghost use Rattle.rma_call.specs.Call.{Call, RankCalls};
 ghost use Rattle.rma_run.specs.Run.{IsRun, calls_of};
 ghost use Rattle.rma_round.specs.declared.kind.Kind.{Kind};
 ghost use Rattle.rma_round.specs.Round.{numbers, place_in};
-ghost use Rattle.rma_round.specs.inside.Rounds.{listed, calls_in, row_entries, AreOnName, AreRows};
+ghost use Rattle.rma_round.specs.inside.Rounds.{listed, calls_in, rounds_in, row_entries, AreOnName, AreRows};
 ghost use Rattle.rma_round.specs.inside.Met.{name_meets};
 
 use crate::meet::{Turn, push_rounds};
@@ -73,6 +73,18 @@ impl NameRounds {
         }
     }
 
+    /// How many rounds there are, which is the most calls that a rank has.
+    pub fn len(&self) -> usize
+        ensures count { result ≡ rounds_in self.now }
+        ensures most { (rank : ℕ) → length (calls_in self.now rank) ≤ result }
+    {
+        let mut most: usize = 0;
+        for (_, numbers) in self.ranks.iter() {
+            most = most.max(numbers.len());
+        }
+        most
+    }
+
     /// The ranks that have calls, with their calls, by rank.
     ///
     /// # Errors
@@ -114,16 +126,7 @@ impl NameRounds {
             → links.new.meets ≡ links.old.meets ++ name_meets ranks.now kind turn.of turn.number (name, self.now)) }
     {
         let rows = self.rows(alloc)?;
-        push_rounds(alloc, ranks, rows.as_slice(), turn, links)
-    }
-
-    /// How many rounds there are.
-    pub(crate) fn len(&self) -> usize {
-        let mut most = 0;
-        for (_, numbers) in self.ranks.iter() {
-            most = numbers.len().max(most);
-        }
-        most
+        push_rounds(alloc, ranks, rows.as_slice(), self.len(), turn, links)
     }
 }
 

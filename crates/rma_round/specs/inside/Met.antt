@@ -1,5 +1,5 @@
 -- The meets of a run, each once: turn by turn some rounds of each name.
-use Rattle.std.specs.Prelude.{ℕ, zero, suc, ◌+◌, ◌-◌, ◌*◌, ◌/◌, ◌==◌, min, List, [], ◌++◌, Bool, false, Option, option_map, slice_get, length, fold, max, if◌then◌else◌}
+use Rattle.std.specs.Prelude.{ℕ, zero, suc, ◌+◌, ◌-◌, ◌*◌, ◌/◌, ◌==◌, min, List, [], ◌++◌, Bool, false, Option, option_map, slice_get, if◌then◌else◌}
 use Rattle.std.specs.List.{flat_map, list_any}
 use Rattle.std.specs.Option.{option_map_or}
 use Rattle.rma_call.specs.Call.{RankCalls}
@@ -10,15 +10,11 @@ use Rattle.rma_round.specs.declared.kind.Kind.{Kind}
 use Rattle.rma_round.specs.declared.name_rounds.NameRounds.{NameRounds}
 use Rattle.rma_round.specs.declared.rounds.Rounds.{Rounds}
 use Rattle.rma_round.specs.Meet.{waits_for_all, round_at, meet_of, kinds}
-use Rattle.rma_round.specs.inside.Rounds.{of_kind}
+use Rattle.rma_round.specs.inside.Rounds.{of_kind, rounds_in}
 
 -- the call of a rank in the round of this number, by what is kept of the rank
 abbrev pub member_in : ℕ → ℕ × List ℕ → Option Member
 member_in place entry = option_map (λ call. record { rank = record { 0 = entry.0 }; call = call }) (slice_get entry.1 place)
-
--- the most calls that are kept of a rank
-abbrev pub longest : List (ℕ × List ℕ) → ℕ
-longest entries = fold (λ most entry. max most (length entry.1)) 0 entries
 
 -- whether a call of a round waits for all
 abbrev pub member_waits : List RankCalls → Member → Bool
@@ -44,7 +40,7 @@ turn_start turns rounds turn = if turn == turns then rounds else min (turn * (ro
 -- the meets of a turn of a kind on a name, by what is kept of the name
 abbrev pub name_meets : List RankCalls → Kind → ℕ → ℕ → List ℕ × NameRounds → List Meet
 name_meets ranks kind turns turn entry =
-    let most = longest entry.1.ranks.entries in
+    let most = rounds_in entry.1 in
     from_round (λ place. met ranks (round_at kind entry.0 ranks place)) (turn_start turns most turn) (turn_start turns most (turn + 1))
 
 -- the meets of a turn of a kind, by what is kept of its names

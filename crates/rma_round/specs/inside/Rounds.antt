@@ -1,5 +1,5 @@
 -- What is kept of the rounds of a run.
-use Rattle.std.specs.Prelude.{◌≡◌, ◌<◌, ℕ, List, [], Option, Some, None, nat_eq, unwrap_or, length, map, All, Contains}
+use Rattle.std.specs.Prelude.{◌≡◌, ◌<◌, ℕ, List, [], Option, Some, None, nat_eq, unwrap_or, length, map, fold, max, All, Contains}
 use Rattle.std.specs.Ordering.{nat_cmp}
 use Rattle.std.specs.List.Sorted.{IsStrictlyIncreasing}
 use Rattle.std.specs.Map.{lookup, keys_of}
@@ -21,6 +21,14 @@ listed entries rank = unwrap_or (lookup (is_at (nat_cmp rank)) entries) []
 -- the numbers that are kept of the calls of a rank on one name
 abbrev pub calls_in : NameRounds → ℕ → List ℕ
 calls_in rounds rank = listed rounds.ranks.entries rank
+
+-- the most calls that are kept of a rank
+abbrev pub longest : List (ℕ × List ℕ) → ℕ
+longest entries = fold (λ most entry. max most (length entry.1)) 0 entries
+
+-- how many rounds there are on one name: the most calls that are kept of a rank
+abbrev pub rounds_in : NameRounds → ℕ
+rounds_in rounds = longest rounds.ranks.entries
 
 -- what is kept under a name
 abbrev pub kept : List (List ℕ × NameRounds) → List ℕ → Option NameRounds
@@ -79,8 +87,3 @@ row_entry row = (row.rank.0, row.numbers.now)
 -- the same of each
 abbrev pub row_entries : List RankRounds → List (ℕ × List ℕ)
 row_entries rows = map row_entry rows
-
--- all ranks have calls of the same numbers
-pub record AreTheSame (rows : List RankRounds) : Type 0 where
-  pub numbers : List ℕ
-  pub all : All (λ row. row.numbers.now ≡ numbers) rows
