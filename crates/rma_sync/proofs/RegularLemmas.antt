@@ -1,6 +1,6 @@
 -- Rounds on whose names nothing is at fault.
-use Rattle.std.proofs.Common.{◌≡◌, ℕ, zero, suc, ◌+◌, ◌<◌, ◌≤◌, Bool, true, false, cond, ◌&&◌, List, [], ◌∷◌, length, Option, Some, None, nat_le, slice_get, refl, sym, ap, subst, ◌∙◌, arith}
-use Rattle.std.specs.Prelude.{All, Contains}
+use Rattle.std.proofs.Common.{◌≡◌, ℕ, ◌+◌, ◌<◌, ◌≤◌, Bool, true, false, cond, ◌&&◌, List, [], ◌∷◌, length, Option, Some, None, nat_le, slice_get, refl, sym, ap, subst, ◌∙◌, arith}
+use Rattle.std.specs.Prelude.{Contains}
 use Rattle.std.specs.List.{list_all}
 use Rattle.std.specs.Option.{option_map_or}
 use Rattle.std.proofs.lemmas.Bool.Decides.{nat_tests}
@@ -109,29 +109,21 @@ module _ (kind : Kind) (ranks : List RankCalls) (name : List ℕ) (none : IsUnus
 
 -- ---- a name whose rounds are kept
 
-module _ (kind : Kind) (ranks : List RankCalls) (name : List ℕ) (rounds : NameRounds) (rows : List RankRounds) (on_name : AreOnName kind name (calls_of ranks) rounds) (are_rows : AreRows rounds rows) where
+module _ (kind : Kind) (ranks : List RankCalls) (name : List ℕ) (rounds : NameRounds) (on_name : AreOnName kind name (calls_of ranks) rounds) where
   made_kept : (m : ℕ) → made kind ranks m name ≡ length (calls_in rounds m)
   made_kept m = made_counted kind name ranks m ∙ ap length (sym (on_name m))
 
-  pub kept_balanced : (own : List ℕ) → own ≡ members kind ranks name → (most : ℕ) → All (λ row. length row.numbers.now ≤ most) rows →
+  pub kept_balanced : (own : List ℕ) → own ≡ members kind ranks name → (most : ℕ) → ((rank : ℕ) → length (calls_in rounds rank) ≤ most) →
       list_all (λ m. nat_le most (length (calls_in rounds m))) own ≡ true → IsBalanced kind ranks name
   kept_balanced own has_to most few enough = (
     most,
-    λ m. subst (λ n. n ≤ most) (sym (made_kept m)) (below m (length (calls_in rounds m)) refl),
+    λ m. subst (λ n. n ≤ most) (sym (made_kept m)) (few m),
     same_all (λ m. nat_le most (made kind ranks m name)) (λ m. nat_le most (length (calls_in rounds m))) (members kind ranks name) (λ m. ap (nat_le most) (made_kept m))
         ∙ ap (list_all (λ m. nat_le most (length (calls_in rounds m)))) (sym has_to)
         ∙ enough,
   )
-    where
-      below : (m len : ℕ) → length (calls_in rounds m) ≡ len → length (calls_in rounds m) ≤ most
-      below m zero is = omega (arith, is)
-      below m (suc len) is =
-          let row = row_of rounds rows are_rows m (omega (arith, is)) in
-          let same : length row.0.numbers.now ≡ length (calls_in rounds m) =
-          ap length (calls_of_row rounds rows are_rows row.0 row.1) ∙ ap (λ n. length (calls_in rounds n)) row.2 in
-          let le : length row.0.numbers.now ≤ most = All-contains (λ (r : RankRounds). length r.numbers.now ≤ most) rows row.0 few row.1 in
-          omega (arith, same, le)
 
+module _ (kind : Kind) (ranks : List RankCalls) (name : List ℕ) (rounds : NameRounds) (rows : List RankRounds) (on_name : AreOnName kind name (calls_of ranks) rounds) (are_rows : AreRows rounds rows) where
   -- a call of a round agrees with the first rank's call, but for its place
   agrees : (all : AllAgree ranks rows) (number : ℕ) (arguments : Arguments) (one : IsInRound kind ranks name number arguments) → arguments_of 0 one.call.what ≡ arguments_at ranks all.0 number
   agrees all number arguments one =

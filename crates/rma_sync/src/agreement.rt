@@ -114,26 +114,14 @@ fn is_regular_on(
         → SharePlaces kind (calls_of ranks.now) name → IsBalanced kind ranks.now name × AgreeOn kind ranks.now name) }
 {
     let rows = rounds.ranks(alloc)?;
-    Ok(is_balanced(rounds, rows.as_slice(), own) && all_agree(ranks, rows.as_slice()))
+    Ok(is_balanced(rounds, own) && all_agree(ranks, rows.as_slice()))
 }
 
 /// Whether each of these ranks makes as many calls as any rank does.
-fn is_balanced(rounds: &NameRounds, rows: &[RankRounds<'_>], members: &[u32]) -> bool
-    ensures { result ≡ true → (most : ℕ) × All (λ row. length row.numbers.now ≤ most) rows.now × (list_all (λ m. nat_le most (length (calls_in rounds.now m))) members.now ≡ true) }
+fn is_balanced(rounds: &NameRounds, members: &[u32]) -> bool
+    ensures { result ≡ true → (most : ℕ) × ((rank : ℕ) → length (calls_in rounds.now rank) ≤ most) × (list_all (λ m. nat_le most (length (calls_in rounds.now m))) members.now ≡ true) }
 {
-    let most = longest(rows);
-    have_calls(rounds, members, most)
-}
-
-/// The most calls that a rank makes.
-fn longest(rows: &[RankRounds<'_>]) -> usize
-    ensures { All (λ row. length row.numbers.now ≤ result) rows.now }
-{
-    let mut most = 0;
-    for row in rows {
-        most = most.max(row.numbers.len());
-    }
-    most
+    have_calls(rounds, members, rounds.len())
 }
 
 /// Whether each of these ranks makes so many calls.

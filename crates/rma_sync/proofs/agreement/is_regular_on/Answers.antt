@@ -1,7 +1,5 @@
-use Rattle.std.proofs.Common.{◌<◌, length, sym, subst, ◌∙◌, ◌≤◌}
-use Rattle.std.specs.Prelude.{All}
+use Rattle.std.proofs.Common.{◌<◌, length, sym, subst, ◌∙◌}
 use Rattle.std.proofs.lemmas.Bool.{false≢true}
-use Rattle.rma_round.specs.declared.name_rounds.RankRounds.{RankRounds}
 use Rattle.rma_sync.specs.inside.Agreement.{AllAgree}
 use Rattle.rma_sync.proofs.RegularLemmas.{kept_agree, kept_balanced}
 use Rattle.rma_sync.proofs.agreement.is_regular_on.Goals as goal
@@ -16,9 +14,8 @@ returns c = λ regular kind name on_name has_to share.
     elim c.if-is_balanced.branch [
       | then-is_balanced w ↦
           let balanced = c.is_balanced.ensures w.if-is_balanced.true in
-          let few = subst (λ rs. All (λ (row : RankRounds). length row.numbers.now ≤ balanced.0) rs) c.as_slice.ensures balanced.1 in
-          let is = w.as_slice-then-is_balanced.ensures in (
-            kept_balanced kind ranks name rounds rows on_name are_rows c.args.own.now has_to balanced.0 few balanced.2,
+          let is = w.as_slice.ensures in (
+            kept_balanced kind ranks name rounds on_name c.args.own.now has_to balanced.0 balanced.1 balanced.2,
             kept_agree kind ranks name rounds rows on_name are_rows
                 (λ some. subst (AllAgree ranks) is (w.all_agree.ensures (sym w.result-is ∙ regular) (subst (λ rs. 0 < length rs) (sym is) some))) share,
           )
