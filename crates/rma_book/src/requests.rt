@@ -1,7 +1,7 @@
 //! The requests of a log.
 ghost use Rattle.std.specs.Prelude.{◌≡◌, ℕ, ◌+◌, ◌<◌, ◌^◌, List, None, Some, nat_lt, option_map, unwrap_or, is_some, IfOk, IfSome, OnOk, if◌then◌else◌};
 ghost use Rattle.std.specs.Map.{lookup};
-ghost use Rattle.std.specs.Option.{option_and_then, option_or};
+ghost use Rattle.std.specs.Option.{option_and_then};
 ghost use Rattle.rma_book.specs.Names.{is_same, of_name, number_of};
 ghost use Rattle.rma_book.specs.inside.Requests.{no_requests};
 ghost use Rattle.rma_book.specs.inside.Naming.{named};
