@@ -24,7 +24,7 @@ use rma_call::{RankCalls, SyncCall, What};
 use rma_field::ParseError;
 use rma_form::{Event, LocalLine, RmaLine, TypeLine};
 use rma_lex::{LexFault, Line, LineCutter};
-use rma_reader::{AccessForm, LineReader, ReadLine, SharedSites, SplitLine};
+use rma_reader::{AccessForm, LineReader, Numbers, ReadLine, SharedSites, SplitLine};
 use std::alloc::Global;
 
 /// What the good lines of a log state, and the first bad one, after which nothing is read.
@@ -115,12 +115,13 @@ impl Reader {
     fn elsewhere(&self, line: &SplitLine<'_>) -> Result<Option<What>, Memory>
         ensures { IfOk result (λ found. IfSome found (StatesWhat self.now.lines line.now.words)) }
     {
-        match self.lines.elsewhere(line) {
+        let mut to = Numbers::new();
+        match self.lines.elsewhere(line, &mut to) {
             Some(found) => elsewhere(
                 self.book.allocator(),
                 self.lines.what(found.what),
                 found.from,
-                found.to.as_slice(),
+                to.as_slice(),
             ),
             None => Ok(None),
         }

@@ -39,13 +39,21 @@ pub(crate) fn shape_of(words: &[u8]) -> u64 {
     if len < WORD {
         return 0;
     }
-    let front = letters(word(words, 0));
-    let shape = if words[len - 1].is_ascii_digit() {
-        front
+    let front = word(words, 0);
+    let back = word(words, len - WORD);
+    let shape = if ends_with_digit(back) {
+        letters(front)
     } else {
-        front ^ letters(word(words, len - WORD)).rotate_left(11)
+        letters(front) ^ letters(back).rotate_left(11)
     };
     shape.wrapping_mul(MIXER)
+}
+
+/// Whether the last of eight bytes is a digit.
+#[inline]
+fn ends_with_digit(word: u64) -> bool {
+    let last = word >> 56;
+    48 <= last && last <= 57
 }
 
 /// The letters among eight bytes, each where it stands, with zeros for all other bytes.

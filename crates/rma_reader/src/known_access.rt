@@ -83,9 +83,10 @@ impl KnownAccess {
         if !are_said(parts.as_slice(), form.places()) {
             return Ok(None);
         }
-        let Some(from) = numbers(version, parts.as_slice(), words) else {
+        let mut from = Numbers::new();
+        if !are_parts(version, parts.as_slice(), words, &mut from) {
             return Ok(None);
-        };
+        }
         Ok(Some(KnownAccess {
             version,
             words: Vec::from_slice(alloc, words)?,
@@ -122,16 +123,12 @@ impl KnownAccess {
         self.version == version
     }
 
-    /// The numbers that say where the access of these words is, read in this version, where it is the same access.
-    pub(crate) fn elsewhere(&self, version: Version, words: &[u8]) -> Option<Numbers>
-        ensures version { IfSome result (λ _. self.now.known.version ≡ version) }
-        ensures elsewhere { IfSome result (λ numbers. IsElsewhere self.now.known.version self.now.form self.now.known.words words.now numbers.items) }
+    /// Whether these words, read in this version, are those of the same access; then these numbers say where it is.
+    pub(crate) fn is_elsewhere(&self, version: Version, words: &[u8], to: &mut Numbers) -> bool
+        ensures version { result ≡ true → self.now.known.version ≡ version }
+        ensures elsewhere { result ≡ true → IsElsewhere self.now.known.version self.now.form self.now.known.words words.now to.new.items }
     {
-        if self.is_of(version) {
-            numbers(version, self.parts.as_slice(), words)
-        } else {
-            None
-        }
+        self.is_of(version) && are_parts(version, self.parts.as_slice(), words, to)
     }
 }
 
@@ -294,24 +291,20 @@ fn is_place(one: Place, other: Place) -> bool
     }
 }
 
-/// The numbers by which the words say where, if they are made of these parts.
-fn numbers(version: Version, parts: &[Part], words: &[u8]) -> Option<Numbers>
-    ensures { IfSome result (λ numbers. AreParts version parts.now words.now numbers.items) }
+/// Whether the words are made of these parts; then these are the numbers by which they say where.
+fn are_parts(version: Version, parts: &[Part], words: &[u8], numbers: &mut Numbers) -> bool
+    ensures { result ≡ true → AreParts version parts.now words.now numbers.new.items }
 {
-    let mut numbers = Numbers::new();
+    numbers.clear();
     let mut at = 0;
     for i in 0..parts.len() {
         let rest = behind(words, at);
-        let Some(next) = take_part(version, &parts[i], rest, &mut numbers) else {
-            return None;
+        let Some(next) = take_part(version, &parts[i], rest, numbers) else {
+            return false;
         };
         at += next;
     }
-    if at == words.len() {
-        Some(numbers)
-    } else {
-        None
-    }
+    at == words.len()
 }
 
 /// What stands in a text from a position on.
@@ -341,11 +334,12 @@ fn part_len(version: Version, part: &Part, text: &[u8], numbers: &mut Numbers) -
     ensures within { IfSome result (λ len. len ≤ length text.now) }
     ensures taken { IfSome result (λ len. (own : List ℕ) × (numbers.new.items ≡ numbers.old.items ++ own) × IsPart version part.now (take len text.now) own) }
 {
-    match part {
-        Part::Same(own) => same_len(own.as_slice(), text),
-        Part::Target => number_len(u64::from(version.ranks() - 1), text, numbers),
-        Part::Address => number_len(SPACE, text, numbers),
-    }
+    let limit = match part {
+        Part::Same(own) => return same_len(own.as_slice(), text),
+        Part::Target => u64::from(version.ranks() - 1),
+        Part::Address => SPACE,
+    };
+    number_len(limit, text, numbers)
 }
 
 /// How many bytes these words have, if the text begins with them.

@@ -14,15 +14,6 @@ use std::marker::Model;
 /// How many accesses are kept.
 const SLOTS: usize = 128;
 
-/// An access that was found elsewhere.
-#[derive(Drop)]
-pub(crate) struct FoundAccess<'a> {
-    /// The access.
-    pub(crate) access: &'a KnownAccess,
-    /// Where it is.
-    pub(crate) to: Numbers,
-}
-
 /// Accesses that came before, each in the slot that its shape gives, if one of its shape came twice running to it. What they do
 /// depends on the datatypes: they are known until those change.
 #[derive(Drop)]
@@ -62,21 +53,23 @@ impl KnownAccesses {
         })
     }
 
-    /// The access of these words, read in this version, where it is known from another place.
-    pub(crate) fn find(&self, version: Version, words: &[u8]) -> Option<FoundAccess<'_>>
-        ensures among { IfSome result (λ found. IsPlacedAmong self.now found.access.now) }
-        ensures version { IfSome result (λ found. found.access.now.known.version ≡ version) }
-        ensures elsewhere { IfSome result (λ found. IsElsewhere version found.access.now.form found.access.now.known.words words.now found.to.items) }
+    /// The access that is known, where these words, read in this version, are those of it elsewhere: these numbers say then where.
+    pub(crate) fn find(
+        &self,
+        version: Version,
+        words: &[u8],
+        to: &mut Numbers,
+    ) -> Option<&KnownAccess>
+        ensures among { IfSome result (λ found. IsPlacedAmong self.now found.now) }
+        ensures version { IfSome result (λ found. found.now.known.version ≡ version) }
+        ensures elsewhere { IfSome result (λ found. IsElsewhere version found.now.form found.now.known.words words.now to.new.items) }
     {
         if self.slots.is_empty() {
             return None;
         }
-        let Some(Some(access)) = self.slots.get(slot_of(shape_of(words))) else {
-            return None;
-        };
-        match access.elsewhere(version, words) {
-            Some(to) => Some(FoundAccess { access, to }),
-            None => None,
+        match self.slots.get(slot_of(shape_of(words))) {
+            Some(Some(access)) if access.is_elsewhere(version, words, to) => Some(access),
+            _ => None,
         }
     }
 

@@ -7,7 +7,7 @@
 //! A program makes its calls at a few places over and over, so the reader remembers the words that come again with the number
 //! of what they state, as it is told by [`LineReader::note`], and it keeps each site once. What the words of an access state
 //! depends on the datatypes too: [`LineReader::forget_accesses`] is called where those change. Of accesses it also knows the line
-//! that states the same access of another target or at other addresses, as an [`Elsewhere`].
+//! that states the same access of another target or at other addresses, as a [`PlacedCall`].
 #![tactic(auto)]
 
 mod access_form;
@@ -27,6 +27,6 @@ mod split_line;
 pub use access_form::{AccessForm, Place};
 pub use known_access::Numbers;
 pub use line_reader::LineReader;
-pub use read_line::{Elsewhere, KnownCall, ReadLine};
+pub use read_line::{KnownCall, PlacedCall, ReadLine};
 pub use shared_sites::SharedSites;
 pub use split_line::SplitLine;

@@ -16,10 +16,11 @@ ghost use Rattle.rma_reader.specs.Split.{IsSplit};
 ghost use Rattle.rma_reader.specs.inside.Tables.{Reads};
 
 use crate::access_form::AccessForm;
+use crate::known_access::Numbers;
 use crate::known_accesses::KnownAccesses;
 use crate::known_lines::KnownLines;
 use crate::numbered_calls::NumberedCalls;
-use crate::read_line::{Elsewhere, KnownCall, ReadLine};
+use crate::read_line::{KnownCall, PlacedCall, ReadLine};
 use crate::shared_sites::SharedSites;
 use crate::split_line::{SplitLine, is_comment};
 use rma_base::{LineNo, Memory, Name, Version};
@@ -122,19 +123,19 @@ impl LineReader {
         }))
     }
 
-    /// The access of the line, where its words are those of one that is known but for where it is.
-    pub fn elsewhere(&self, line: &SplitLine<'_>) -> Option<Elsewhere<'_>>
-        ensures known { IfSome result (λ found. IsKnownElsewhere self.now.known self.now.version line.now.words found.what found.from.now found.to.items) }
+    /// The access that is known, where the words of the line are those of it but for where it is: these numbers say then where that
+    /// of the line is.
+    pub fn elsewhere(&self, line: &SplitLine<'_>, to: &mut Numbers) -> Option<PlacedCall<'_>>
+        ensures known { IfSome result (λ found. IsKnownElsewhere self.now.known self.now.version line.now.words found.what found.from.now to.new.items) }
         ensures within { IfSome result (λ found. found.what < length self.now.calls.whats) }
     {
-        let Some(found) = self.accesses.find(self.version, line.words()) else {
-            return None;
-        };
-        Some(Elsewhere {
-            what: found.access.what(),
-            from: found.access.from(),
-            to: found.to,
-        })
+        match self.accesses.find(self.version, line.words(), to) {
+            Some(access) => Some(PlacedCall {
+                what: access.what(),
+                from: access.from(),
+            }),
+            None => None,
+        }
     }
 
     /// The number of the site of the line, if it has one. It stands in the tables then.

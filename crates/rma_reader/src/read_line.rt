@@ -1,5 +1,4 @@
 //! What a line states, by numbers.
-use crate::known_access::Numbers;
 use rma_base::Name;
 use rma_form::Event;
 
@@ -25,13 +24,11 @@ pub struct KnownCall {
     pub site: Option<u32>,
 }
 
-/// An access that a line states which came before at another place.
-#[derive(Debug, Drop)]
-pub struct Elsewhere<'a> {
-    /// The number of what that one does.
+/// An access that came before.
+#[derive(Clone, Copy, Debug)]
+pub struct PlacedCall<'a> {
+    /// The number of what it does.
     pub what: u32,
-    /// Where that one is: the target and the displacement, if it is a call, and the addresses of its buffers.
+    /// Where it is: the target and the displacement, if it is a call, and the addresses of its buffers.
     pub from: &'a [u64],
-    /// Where the access of the line is.
-    pub to: Numbers,
 }

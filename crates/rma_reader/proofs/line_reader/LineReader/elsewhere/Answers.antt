@@ -4,10 +4,10 @@ use Rattle.rma_reader.specs.Elsewhere.{IsElsewhere}
 use Rattle.rma_reader.proofs.AccessLemmas.{found_among}
 use Rattle.rma_reader.proofs.line_reader.LineReader.elsewhere.Goals as goal
 
-pub returns-clause-known : goal.returns-clause-known
-returns-clause-known c =
+pub returns-in-Some-clause-known : goal.returns-in-Some-clause-known
+returns-in-Some-clause-known c =
     let own = c.self.inside in
-    let placed = c.in-Some.found.access.now in
+    let placed = c.in-Some.access.now in
     rw (← c.self.view_is)
     (record {
       known = placed.known;
@@ -21,7 +21,7 @@ returns-clause-known c =
       there = rw c.words.ensures at c.in-Some.ensures.elsewhere;
     })
 
-pub returns-clause-within : goal.returns-clause-within
-returns-clause-within c =
+pub returns-in-Some-clause-within : goal.returns-in-Some-clause-within
+returns-in-Some-clause-within c =
     rw (← c.self.view_is, c.what.ensures.what)
-    (c.self.invariant c.in-Some.found.access.now.known (found_among c.self.inside.lines c.self.inside.accesses c.in-Some.found.access.now c.in-Some.ensures.among))
+    (c.self.invariant c.in-Some.access.now.known (found_among c.self.inside.lines c.self.inside.accesses c.in-Some.access.now c.in-Some.ensures.among))

@@ -1,8 +1,9 @@
 use Rattle.std.proofs.Common.{◌≡◌, ◌≤◌, ◌+◌, ◌-◌, ◌++◌, [], List, ℕ, drop, length, sym, ap, subst, ◌∙◌, arith}
+use Rattle.std.proofs.lemmas.Bool.{eqb-true}
 use Rattle.std.proofs.lemmas.List.{append-nil, append_assoc, length-drop}
 use Rattle.rma_reader.specs.inside.Accesses.{AreParts, BeginsWith}
 use Rattle.rma_reader.proofs.PartLemmas.{no_parts, next_part, parts_more, drop_twice}
-use Rattle.rma_reader.proofs.known_access.numbers.Goals as goal
+use Rattle.rma_reader.proofs.known_access.are_parts.Goals as goal
 
 pub loop-i-preserved : goal.loop-i-preserved
 loop-i-preserved c =
@@ -25,7 +26,8 @@ loop-i-preserved c =
           subst (AreParts v parts words) (sym (append_assoc before taken.0 more) ∙ ap (λ them. them ++ more) (sym taken.1)) (c.loop-i.invariant.1 (taken.0 ++ more) here),
     )
 
-pub returns-then-at-words : goal.returns-then-at-words
-returns-then-at-words c =
+pub returns : goal.returns
+returns c whole =
+    let end = eqb-true c.loop-i.at (length c.args.words.now) whole in
     subst (AreParts c.args.version c.args.parts.now c.args.words.now) (append-nil c.loop-i.numbers.items)
-    (c.loop-i.invariant.1 [] (no_parts c.args.version c.args.parts.now c.args.words.now c.loop-i.i c.loop-i.at c.loop-i-test.false c.if-at-words.true))
+    (c.loop-i.invariant.1 [] (no_parts c.args.version c.args.parts.now c.args.words.now c.loop-i.i c.loop-i.at c.loop-i-test.false end))

@@ -1,6 +1,6 @@
 use Rattle.std.proofs.Common.{◌≤◌, ℕ, List, ◌++◌, drop, length}
 use Rattle.rma_reader.specs.inside.Accesses.{AreParts}
-use Rattle.rma_reader.proofs.known_access.numbers.Given as goal
+use Rattle.rma_reader.proofs.known_access.are_parts.Given as goal
 
 -- where the text that is left is made of the parts that are left, the whole is made of all
 abbrev pub invariant-loop-i : goal.invariant-loop-i
