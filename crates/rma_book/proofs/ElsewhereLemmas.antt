@@ -6,27 +6,28 @@ use Rattle.std.proofs.lemmas.Bool.{cases_Bool, eqb-true, false≢true, le-ltb, n
 use Rattle.std.proofs.lemmas.List.{drop_all}
 use Rattle.std.proofs.lemmas.Slice.Eq.{bytes_eq-Decides}
 use Rattle.rma_base.proofs.NameLemmas.{and_right}
+use Rattle.rma_base.specs.Limits.{address_limit}
 use Rattle.rma_base.specs.declared.form_reason.FormReason.{FormReason}
 use Rattle.rma_base.specs.declared.form_reason.FormReason.TheVariants.{BadNumber, WrongCount}
 use Rattle.rma_base.specs.declared.version.Version.{Version}
-use Rattle.rma_field.specs.Kinds.{Kind, name, operation, target, meaning, target_of, is_word, known, last_rank}
+use Rattle.rma_field.specs.Kinds.{Kind, name, operation, rank, target, meaning, rank_of, target_of, is_word, known, last_rank}
 use Rattle.rma_field.specs.Numbers.{natural}
 use Rattle.rma_field.specs.Sites as sites
 use Rattle.rma_field.specs.Steps.{◌>>=◌}
 use Rattle.rma_form.specs.Accesses.{address, count}
 use Rattle.rma_form.specs.Fields.{Made, Values, made_of}
-use Rattle.rma_form.specs.Forms.{form_at, form_of, form_of_kind, form_of_verb, forms, event_of, has_verb, has_words, kind_words}
+use Rattle.rma_form.specs.Forms.{tag, form_at, form_of, form_of_kind, form_of_verb, forms, event_of, has_verb, has_words, kind_words}
 use Rattle.rma_form.specs.Lines.{begins_with, behind_at, counted, last_or, read_words, site_of, site_text, stated_by, stated_in}
 use Rattle.rma_form.specs.Tails.{closed, tail_counted}
 use Rattle.rma_form.specs.declared.event.Event.{Event}
 use Rattle.rma_form.specs.declared.event.Stated.{Stated}
 use Rattle.rma_form.specs.declared.form.LineForm.{LineForm}
 use Rattle.rma_form.proofs.KindLemmas.{bind_ok, made_from}
-use Rattle.rma_reader.specs.Elsewhere.{AreElsewhere, IsElsewhere, form_of_access, places_of}
-use Rattle.rma_reader.specs.declared.access_form.AccessForm.{AccessForm}
-use Rattle.rma_reader.specs.declared.access_form.AccessForm.TheVariants.{Put, Get, Accumulate, GetAccumulate, FetchAndOp, CompareAndSwap, Load, Store, Poll}
-use Rattle.rma_reader.specs.declared.access_form.Place.{Place}
-use Rattle.rma_reader.specs.declared.access_form.Place.TheVariants.{Same, Target, Address}
+use Rattle.rma_reader.specs.Elsewhere.{AreElsewhere, IsElsewhere, form_of_call, places_of}
+use Rattle.rma_reader.specs.declared.call_form.CallForm.{CallForm}
+use Rattle.rma_reader.specs.declared.call_form.CallForm.TheVariants.{Put, Get, Accumulate, GetAccumulate, FetchAndOp, CompareAndSwap, Load, Store, Poll, Unlock, Flush, FlushLocal, Send, Recv, Bcast, Scatter, Gather, Reduce, Allreduce, Allgather, Alltoall}
+use Rattle.rma_reader.specs.declared.call_form.Place.{Place}
+use Rattle.rma_reader.specs.declared.call_form.Place.TheVariants.{Same, Rank, Address, Tag}
 use Rattle.rma_book.specs.inside.Elsewhere.{event_at}
 use Rattle.rma_book.specs.inside.Known.{IsStatedBy}
 
@@ -47,6 +48,10 @@ number_begins low high n (byte ∷ word) is =
     absurd (cc bad))
     (λ (other : eqb byte 64 ≡ false). other)
     (cases_Bool (eqb byte 64))
+
+-- it is a rank
+number_rank : (v : Version) (n : ℕ) (word : List ℕ) → natural 0 (last_rank v) word ≡ Ok n → rank_of v word ≡ Ok (record { 0 = n })
+number_rank v n word is = rw is refl
 
 -- it is a target
 number_target : (v : Version) (n : ℕ) (word : List ℕ) → natural 0 (last_rank v) word ≡ Ok n → target_of v word ≡ Ok (Some (record { 0 = n }))
@@ -70,11 +75,14 @@ unsited_elsewhere : (v : Version) (places : List Place) (own others : List (List
 unsited_elsewhere v [] own others to one two before at none = rw at.1 (before (subst (λ texts. behind_at (last_or one texts) ≡ None) at.0 none))
 unsited_elsewhere v (Same ∷ places) own others to one two before at none =
     rw at.4 (unsited_elsewhere v places at.1 at.2 to (Some at.0) (Some at.0) (λ same. same) at.5 (subst (λ texts. behind_at (last_or one texts) ≡ None) at.3 none))
-unsited_elsewhere v (Target ∷ places) own others to one two before at none =
+unsited_elsewhere v (Rank ∷ places) own others to one two before at none =
     rw at.7 (unsited_elsewhere v places at.2 at.3 at.5 (Some at.0) (Some at.1) (λ _. number_behind 0 (last_rank v) at.4 at.1 at.9) at.10
     (subst (λ texts. behind_at (last_or one texts) ≡ None) at.6 none))
 unsited_elsewhere v (Address ∷ places) own others to one two before at none =
-    rw at.7 (unsited_elsewhere v places at.2 at.3 at.5 (Some at.0) (Some at.1) (λ _. number_behind 0 281474976710656 at.4 at.1 at.9) at.10
+    rw at.7 (unsited_elsewhere v places at.2 at.3 at.5 (Some at.0) (Some at.1) (λ _. number_behind 0 address_limit at.4 at.1 at.9) at.10
+    (subst (λ texts. behind_at (last_or one texts) ≡ None) at.6 none))
+unsited_elsewhere v (Tag ∷ places) own others to one two before at none =
+    rw at.7 (unsited_elsewhere v places at.2 at.3 at.5 (Some at.0) (Some at.1) (λ _. number_behind 0 2147483647 at.4 at.1 at.9) at.10
     (subst (λ texts. behind_at (last_or one texts) ≡ None) at.6 none))
 
 -- ---- the fields of an access
@@ -83,41 +91,53 @@ unsited_elsewhere v (Address ∷ places) own others to one two before at none =
 data Part : Type 0 where
   kept : Kind → Part
   target_part : Part
+  rank_part : Part
   address_part : Part
+  tag_part : Part
 
 -- their kinds, and what they say
 abbrev kinds_of : List Part → List Kind
 kinds_of [] = []
 kinds_of (kept kind ∷ parts) = kind ∷ kinds_of parts
 kinds_of (target_part ∷ parts) = target ∷ kinds_of parts
+kinds_of (rank_part ∷ parts) = rank ∷ kinds_of parts
 kinds_of (address_part ∷ parts) = address ∷ kinds_of parts
+kinds_of (tag_part ∷ parts) = tag ∷ kinds_of parts
 
 abbrev places : List Part → List Place
 places [] = []
 places (kept kind ∷ parts) = Same ∷ places parts
-places (target_part ∷ parts) = Target ∷ places parts
+places (target_part ∷ parts) = Rank ∷ places parts
+places (rank_part ∷ parts) = Rank ∷ places parts
 places (address_part ∷ parts) = Address ∷ places parts
+places (tag_part ∷ parts) = Tag ∷ places parts
 
 -- the numbers that say where
 abbrev Numbers : List Part → Type 0
 Numbers [] = Unit {0}
 Numbers (kept kind ∷ parts) = Numbers parts
 Numbers (target_part ∷ parts) = ℕ × Numbers parts
+Numbers (rank_part ∷ parts) = ℕ × Numbers parts
 Numbers (address_part ∷ parts) = ℕ × Numbers parts
+Numbers (tag_part ∷ parts) = ℕ × Numbers parts
 
 -- these numbers in their order
 abbrev number_list : (parts : List Part) → Numbers parts → List ℕ
 number_list [] numbers = []
 number_list (kept kind ∷ parts) numbers = number_list parts numbers
 number_list (target_part ∷ parts) numbers = numbers.0 ∷ number_list parts numbers.1
+number_list (rank_part ∷ parts) numbers = numbers.0 ∷ number_list parts numbers.1
 number_list (address_part ∷ parts) numbers = numbers.0 ∷ number_list parts numbers.1
+number_list (tag_part ∷ parts) numbers = numbers.0 ∷ number_list parts numbers.1
 
 -- the values of the fields with these numbers
 abbrev values_at : (parts : List Part) → Values (kinds_of parts) → Numbers parts → Values (kinds_of parts)
 values_at [] values numbers = tt
 values_at (kept kind ∷ parts) values numbers = (values.0, values_at parts values.1 numbers)
 values_at (target_part ∷ parts) values numbers = (Some (record { 0 = numbers.0 }), values_at parts values.1 numbers.1)
+values_at (rank_part ∷ parts) values numbers = (record { 0 = numbers.0 }, values_at parts values.1 numbers.1)
 values_at (address_part ∷ parts) values numbers = (numbers.0, values_at parts values.1 numbers.1)
+values_at (tag_part ∷ parts) values numbers = (numbers.0, values_at parts values.1 numbers.1)
 
 -- This is made of the values of a line, and the other line has these values with these numbers.
 record MakesElsewhere {A : Type 0} (v : Version) (parts : List Part) (make : Made (kinds_of parts) A) (others : List (List ℕ)) (to : List ℕ) (made : A) : Type 0 where
@@ -151,8 +171,28 @@ made_elsewhere v (target_part ∷ parts) make own others to made at is =
       are = ap (λ them. at.4 ∷ them) rest.are ∙ sym at.8;
       other = λ m. rw at.7 (ap (λ read. read >>= λ value. made_of v (kinds_of parts) (m value) at.3) (number_target v at.4 at.1 at.9) ∙ rest.other (m (Some (record { 0 = at.4 }))));
     }
+made_elsewhere v (rank_part ∷ parts) make own others to made at is =
+    let step = bind_ok (rank_of v at.0) (λ value. made_of v (kinds_of parts) (make value) at.2) made (subst (λ them. made_of v (rank ∷ kinds_of parts) make them ≡ Ok made) at.6 is) in
+    let rest = made_elsewhere v parts (make step.0) at.2 at.3 at.5 made at.10 step.2 in
+    record {
+      values = (step.0, rest.values);
+      numbers = (at.4, rest.numbers);
+      own = rest.own;
+      are = ap (λ them. at.4 ∷ them) rest.are ∙ sym at.8;
+      other = λ m. rw at.7 (ap (λ read. read >>= λ value. made_of v (kinds_of parts) (m value) at.3) (number_rank v at.4 at.1 at.9) ∙ rest.other (m (record { 0 = at.4 })));
+    }
 made_elsewhere v (address_part ∷ parts) make own others to made at is =
     let step = bind_ok (meaning v address at.0) (λ value. made_of v (kinds_of parts) (make value) at.2) made (subst (λ them. made_of v (address ∷ kinds_of parts) make them ≡ Ok made) at.6 is) in
+    let rest = made_elsewhere v parts (make step.0) at.2 at.3 at.5 made at.10 step.2 in
+    record {
+      values = (step.0, rest.values);
+      numbers = (at.4, rest.numbers);
+      own = rest.own;
+      are = ap (λ them. at.4 ∷ them) rest.are ∙ sym at.8;
+      other = λ m. rw at.7 (ap (λ read. read >>= λ value. made_of v (kinds_of parts) (m value) at.3) at.9 ∙ rest.other (m at.4));
+    }
+made_elsewhere v (tag_part ∷ parts) make own others to made at is =
+    let step = bind_ok (meaning v tag at.0) (λ value. made_of v (kinds_of parts) (make value) at.2) made (subst (λ them. made_of v (tag ∷ kinds_of parts) make them ≡ Ok made) at.6 is) in
     let rest = made_elsewhere v parts (make step.0) at.2 at.3 at.5 made at.10 step.2 in
     record {
       values = (step.0, rest.values);
@@ -169,6 +209,8 @@ length_elsewhere : (v : Version) (parts : List Part) (own others : List (List �
 length_elsewhere v [] own others to at = rw at.1 refl
 length_elsewhere v (kept kind ∷ parts) own others to at = rw at.4 (ap suc (length_elsewhere v parts at.1 at.2 to at.5))
 length_elsewhere v (target_part ∷ parts) own others to at = rw at.7 (ap suc (length_elsewhere v parts at.2 at.3 at.5 at.10))
+length_elsewhere v (rank_part ∷ parts) own others to at = rw at.7 (ap suc (length_elsewhere v parts at.2 at.3 at.5 at.10))
+length_elsewhere v (tag_part ∷ parts) own others to at = rw at.7 (ap suc (length_elsewhere v parts at.2 at.3 at.5 at.10))
 length_elsewhere v (address_part ∷ parts) own others to at = rw at.7 (ap suc (length_elsewhere v parts at.2 at.3 at.5 at.10))
 
 -- the number of fields of a row that has nothing behind them
@@ -220,7 +262,7 @@ transfer_parts = kept name ∷ target_part ∷ address_part ∷ kept count ∷ k
 abbrev fetching_parts : List Part
 fetching_parts = kept name ∷ target_part ∷ address_part ∷ kept count ∷ kept name ∷ address_part ∷ kept count ∷ kept name ∷ buffer_parts
 
-abbrev parts_of : AccessForm → List Part
+abbrev parts_of : CallForm → List Part
 parts_of Put = transfer_parts
 parts_of Get = transfer_parts
 parts_of Accumulate = kept operation ∷ transfer_parts
@@ -230,14 +272,26 @@ parts_of CompareAndSwap = kept name ∷ target_part ∷ address_part ∷ kept na
 parts_of Load = buffer_parts
 parts_of Store = buffer_parts
 parts_of Poll = buffer_parts
+parts_of Unlock = kept name ∷ rank_part ∷ []
+parts_of Flush = kept name ∷ rank_part ∷ []
+parts_of FlushLocal = kept name ∷ rank_part ∷ []
+parts_of Send = rank_part ∷ tag_part ∷ kept name ∷ []
+parts_of Recv = rank_part ∷ tag_part ∷ kept name ∷ []
+parts_of Bcast = rank_part ∷ address_part ∷ kept name ∷ []
+parts_of Scatter = rank_part ∷ address_part ∷ kept name ∷ []
+parts_of Gather = rank_part ∷ address_part ∷ kept name ∷ []
+parts_of Reduce = rank_part ∷ address_part ∷ kept name ∷ []
+parts_of Allreduce = address_part ∷ kept name ∷ []
+parts_of Allgather = address_part ∷ kept name ∷ []
+parts_of Alltoall = address_part ∷ kept name ∷ []
 
 -- what the other line states is that of the line, elsewhere
-access_elsewhere : (v : Version) (access : AccessForm) (own others : List (List ℕ)) (to : List ℕ) (event : Event) → AreElsewhere v (places_of access) own others to
-    → stated_in v (form_of_access access) own None ≡ Ok (record { event = event; site = None })
-    → stated_in v (form_of_access access) others None ≡ Ok (record { event = event_at event to; site = None })
-access_elsewhere v Put own others to event at is = plain_elsewhere v (parts_of Put) (form_at (form_of_access Put)).event own others to event at (λ values numbers. refl) is
+access_elsewhere : (v : Version) (access : CallForm) (own others : List (List ℕ)) (to : List ℕ) (event : Event) → AreElsewhere v (places_of access) own others to
+    → stated_in v (form_of_call access) own None ≡ Ok (record { event = event; site = None })
+    → stated_in v (form_of_call access) others None ≡ Ok (record { event = event_at event to; site = None })
+access_elsewhere v Put own others to event at is = plain_elsewhere v (parts_of Put) (form_at (form_of_call Put)).event own others to event at (λ values numbers. refl) is
 access_elsewhere v access own others to event at is =
-    plain_elsewhere v (parts_of access) (form_at (form_of_access access)).event own others to event at (λ values numbers. refl) is
+    plain_elsewhere v (parts_of access) (form_at (form_of_call access)).event own others to event at (λ values numbers. refl) is
 
 -- ---- the form of a line
 
@@ -272,7 +326,7 @@ form_by_verb v verb (Some first) own others form none is =
     (cases_Bool (is_none (form_at first).kind_word))
 
 -- the forms of accesses have none
-plain_access : (access : AccessForm) → is_none (form_at (form_of_access access)).kind_word ≡ true
+plain_access : (access : CallForm) → is_none (form_at (form_of_call access)).kind_word ≡ true
 plain_access Put = refl
 plain_access _ = refl
 
@@ -307,16 +361,16 @@ read_stated v verb rest stated is =
     (cases_Bool (begins_with 35 verb))
 
 -- the words of the other line state the access elsewhere
-read_elsewhere : (v : Version) (access : AccessForm) (verb : List ℕ) (own others : List (List ℕ)) (to : List ℕ) (event : Event)
-    → form_of v verb own ≡ Ok (form_of_access access) → AreElsewhere v (places_of access) own others to
+read_elsewhere : (v : Version) (access : CallForm) (verb : List ℕ) (own others : List (List ℕ)) (to : List ℕ) (event : Event)
+    → form_of v verb own ≡ Ok (form_of_call access) → AreElsewhere v (places_of access) own others to
     → read_words v (verb ∷ own) ≡ Ok (Some (record { event = event; site = None })) → read_words v (verb ∷ others) ≡ Ok (Some (record { event = event_at event to; site = None }))
 read_elsewhere v access verb own others to event form at is =
     let stated = read_stated v verb own _ is in
     let found = bind_ok (form_of v verb _) _ _ stated.1 in
     let none : site_text own ≡ None = unsited v found.0 _ (site_text own) event found.2 in
-    let states : stated_in v (form_of_access access) own None ≡ Ok (record { event = event; site = None }) =
+    let states : stated_in v (form_of_call access) own None ≡ Ok (record { event = event; site = None }) =
     ap (λ read. read >>= λ it. stated_in v it own None) (sym form) ∙ sym (stated_unsited v verb own none) ∙ stated.1 in
-    let there : form_of v verb others ≡ Ok (form_of_access access) = form_by_verb v verb (find (has_verb v verb) forms) own others (form_of_access access) (plain_access access) form in
+    let there : form_of v verb others ≡ Ok (form_of_call access) = form_by_verb v verb (find (has_verb v verb) forms) own others (form_of_call access) (plain_access access) form in
     let says : stated_by v verb others ≡ Ok (record { event = event_at event to; site = None }) =
     stated_unsited v verb others (unsited_elsewhere v (places_of access) own others to None None (λ same. same) at none)
     ∙ ap (λ read. read >>= λ it. stated_in v it others None) there
@@ -324,14 +378,14 @@ read_elsewhere v access verb own others to event form at is =
     rw (stated.0, says) refl
 
 -- so does the other line
-elsewhere_states : (v : Version) (access : AccessForm) (words others to : List ℕ) (event : Event) → IsStatedBy v words event → IsElsewhere v access words others to
+elsewhere_states : (v : Version) (access : CallForm) (words others to : List ℕ) (event : Event) → IsStatedBy v words event → IsElsewhere v access words others to
     → IsStatedBy v others (event_at event to)
 elsewhere_states v access words others to event is at =
     ap (read_words v) at.others_are
     ∙ read_elsewhere v access at.verb at.own at.other to event at.has_form at.elsewhere (ap (read_words v) (sym at.words_are) ∙ is)
 
 -- Where a line states an access, each line of the same words but for where states it there, and it is itself where its own numbers say.
-pub stated_elsewhere : (v : Version) (access : AccessForm) (words others from to : List ℕ) (event : Event)
+pub stated_elsewhere : (v : Version) (access : CallForm) (words others from to : List ℕ) (event : Event)
     → IsStatedBy v words event → IsElsewhere v access words words from → IsElsewhere v access words others to
     → IsStatedBy v others (event_at event to) × (event_at event from ≡ event)
 stated_elsewhere v access words others from to event is own at =

@@ -327,10 +327,10 @@ Adds_noted old grown noted own what number request lasts grows is same more = re
       (known_grown types old.lines grown grows are);
 }
 
--- the same words may be noted once more
+-- the same words may be noted once more, for an era
 pub Adds_more : (old mid : Reader) (noted : Reading) (own : List ℕ) (what : What) (number : ℕ) (request : Option (List ℕ)) (lasts : Bool) → Adds old mid (Some own) what request lasts
     → slice_get mid.lines.calls.whats number ≡ Some what → noted ≡ record mid.lines { known = noted.known }
-    → ((known : Known) → IsAmong noted.known known → IsAmong mid.lines.known known ⊎ (known ≡ record { version = mid.lines.version; words = own; what = number; request = request; lasts = lasts }))
+    → ((known : Known) → IsAmong noted.known known → IsAmong mid.lines.known known ⊎ (known ≡ record { version = mid.lines.version; words = own; what = number; request = request; lasts = false }))
     → Adds old (record mid { lines = noted }) (Some own) what request lasts
 Adds_more old mid noted own what number request lasts adds is same more = record {
   same = ap (λ (r : Reader). record r { lines = noted }) adds.same;
@@ -338,8 +338,8 @@ Adds_more old mid noted own what number request lasts adds is same more = record
   calls = ap (λ (reading : Reading). reading.calls.calls) same ∙ adds.calls;
   sites = λ n value found. ap (λ (reading : Reading). slice_get reading.calls.sites n) same ∙ adds.sites n value found;
   known = λ types event are said call lasting.
-      known_noted types mid.lines noted (record { version = mid.lines.version; words = own; what = number; request = request; lasts = lasts }) (ap (λ (reading : Reading). reading.calls) same) more
-      (record { event = event; said = subst (λ v. IsStatedBy v own event) (sym adds.version) said; what = what; is = is; call = call; lasting = lasting })
+      known_noted types mid.lines noted (record { version = mid.lines.version; words = own; what = number; request = request; lasts = false }) (ap (λ (reading : Reading). reading.calls) same) more
+      (record { event = event; said = subst (λ v. IsStatedBy v own event) (sym adds.version) said; what = what; is = is; call = call; lasting = λ lasts. absurd (false≢true lasts) })
       (adds.known types event are said call lasting);
 }
 

@@ -1,17 +1,18 @@
-//! Accesses that a log repeats elsewhere.
+//! Calls that a log repeats elsewhere.
 ghost use Rattle.std.specs.Prelude.{◌≡◌, IfOk, IfSome};
 ghost use Rattle.rma_call.specs.Call.{what_of};
 ghost use Rattle.rma_book.specs.inside.Elsewhere.{DoesElsewhere};
 
+use crate::sync_elsewhere::{epoch_elsewhere, message_elsewhere, moving_elsewhere};
 use rma_base::Memory;
 use rma_buffer::{local_elsewhere, one_sided_elsewhere};
-use rma_call::{LocalAccess, What, WhatRef};
+use rma_call::{LocalAccess, SyncCall, What, WhatRef};
 use rma_form::Access;
-use rma_reader::AccessForm;
+use rma_reader::CallForm;
 use std::alloc::Global;
 
-/// What a call does that is another where some numbers say, where that one is where others say. None, where it is no access, or
-/// may be bad there.
+/// What a call does that is another where some numbers say, where that one is where others say. None, where it is of no such kind,
+/// or may be bad there.
 pub(crate) fn elsewhere(
     alloc: Global,
     what: WhatRef<'_>,
@@ -29,27 +30,39 @@ pub(crate) fn elsewhere(
             Some(call) => Ok(Some(What::Local(call))),
             None => Ok(None),
         },
+        WhatRef::Message(call) => match message_elsewhere(call, to)? {
+            Some(call) => Ok(Some(What::Sync(SyncCall::Message(call)))),
+            None => Ok(None),
+        },
+        WhatRef::Epoch(call) => match epoch_elsewhere(call, to)? {
+            Some(call) => Ok(Some(What::Sync(SyncCall::Epoch(call)))),
+            None => Ok(None),
+        },
+        WhatRef::Moving(call) => match moving_elsewhere(call, to)? {
+            Some(call) => Ok(Some(What::Sync(SyncCall::Moving(call)))),
+            None => Ok(None),
+        },
         _ => Ok(None),
     }
 }
 
 /// The form of a call that accesses the part of a target.
-pub(crate) fn form_of(access: &Access) -> AccessForm {
+pub(crate) fn form_of(access: &Access) -> CallForm {
     match access {
-        Access::Put(_) => AccessForm::Put,
-        Access::Get(_) => AccessForm::Get,
-        Access::Accumulate { .. } => AccessForm::Accumulate,
-        Access::GetAccumulate { .. } => AccessForm::GetAccumulate,
-        Access::FetchAndOp { .. } => AccessForm::FetchAndOp,
-        Access::CompareAndSwap { .. } => AccessForm::CompareAndSwap,
+        Access::Put(_) => CallForm::Put,
+        Access::Get(_) => CallForm::Get,
+        Access::Accumulate { .. } => CallForm::Accumulate,
+        Access::GetAccumulate { .. } => CallForm::GetAccumulate,
+        Access::FetchAndOp { .. } => CallForm::FetchAndOp,
+        Access::CompareAndSwap { .. } => CallForm::CompareAndSwap,
     }
 }
 
 /// The form of a local access.
-pub(crate) fn form_of_local(access: LocalAccess) -> AccessForm {
+pub(crate) fn form_of_local(access: LocalAccess) -> CallForm {
     match access {
-        LocalAccess::Load => AccessForm::Load,
-        LocalAccess::Store => AccessForm::Store,
-        LocalAccess::Poll => AccessForm::Poll,
+        LocalAccess::Load => CallForm::Load,
+        LocalAccess::Store => CallForm::Store,
+        LocalAccess::Poll => CallForm::Poll,
     }
 }

@@ -17,6 +17,7 @@ mod naming;
 mod rank_book;
 mod reader;
 mod requests;
+mod sync_elsewhere;
 
 pub use book::{Book, Judged};
 pub use fault::{BookEnd, FormFault};

@@ -19,12 +19,13 @@ ghost use Rattle.rma_book.specs.inside.Reading.{Adds, Appends, HasRead, IsReadin
 use crate::book::{Book, Judged, JudgedAccess};
 use crate::elsewhere::{elsewhere, form_of, form_of_local};
 use crate::fault::{BookEnd, FormFault};
+use crate::sync_elsewhere::form_of_sync;
 use rma_base::{FormReason, LineNo, Memory, Name, Rank, Version};
 use rma_call::{RankCalls, SyncCall, What};
 use rma_field::ParseError;
 use rma_form::{Event, LocalLine, RmaLine, TypeLine};
 use rma_lex::{LexFault, Line, LineCutter};
-use rma_reader::{AccessForm, LineReader, Numbers, ReadLine, SharedSites, SplitLine};
+use rma_reader::{CallForm, LineReader, Numbers, ReadLine, SharedSites, SplitLine};
 use std::alloc::Global;
 
 /// What the good lines of a log state, and the first bad one, after which nothing is read.
@@ -248,7 +249,8 @@ impl Reader {
         requires words { IfSome words (λ line. IsStatedBy self.old.lines.version line.now.words (Call call request)) }
         ensures { OnOk result ((text : Option (List ℕ)) → IsSite self.old.lines.calls site text → Reads self.old self.new no (record { event = Call call request; site = text })) }
     {
-        let what = self.add(words, What::Sync(call), request.as_ref(), true)?;
+        let form = form_of_sync(&call);
+        let what = self.add_placed(words, form, What::Sync(call), request.as_ref(), true)?;
         self.read_call(no, site, what, request)
     }
 
@@ -314,7 +316,7 @@ impl Reader {
         no: LineNo,
         words: Option<&SplitLine<'_>>,
         site: Option<u32>,
-        form: AccessForm,
+        form: CallForm,
         what: What,
         request: Option<&Name>,
         number: Option<u32>,
@@ -324,25 +326,27 @@ impl Reader {
         ensures { OnOk result ((text : Option (List ℕ)) → IsSite self.old.lines.calls site text
             → Appends self.old self.new (option_map (λ line. line.now.words) words.entry) (option_copied request.entry) (call_with no text number what)) }
     {
-        let what = self.add_access(words, form, what, request)?;
+        let what = self.add_placed(words, Some(form), what, request, false)?;
         self.lines.push(no, site, what, number)
     }
 
-    // Gives a number to what an access of this form does, whose request has this name. The words of its line are noted, if they
-    // state it by themselves; so is what they have in common with those of the same access elsewhere, if it has no request.
+    // Gives a number to what a call of this form does, whose request has this name. The words of its line are noted, if they
+    // state it by themselves; so is what they have in common with those of the same call elsewhere, if it has such a form, and no
+    // request. It is said whether they state it whatever the datatypes are.
     #[inline]
-    fn add_access(
+    fn add_placed(
         &mut self,
         words: Option<&SplitLine<'_>>,
-        form: AccessForm,
+        form: Option<CallForm>,
         what: What,
         request: Option<&Name>,
+        lasts: bool,
     ) -> Result<u32, Memory>
         ensures number { IfOk result (λ number. slice_get self.new.lines.calls.whats number ≡ Some what) }
-        ensures adds { OnOk result (Adds self.old self.new (option_map (λ line. line.now.words) words.entry) what (option_copied request.entry) false) }
+        ensures adds { OnOk result (Adds self.old self.new (option_map (λ line. line.now.words) words.entry) what (option_copied request.entry) lasts) }
     {
-        let number = self.add(words, what, request, false)?;
-        if let (Some(line), None) = (words, request) {
+        let number = self.add(words, what, request, lasts)?;
+        if let (Some(line), Some(form), None) = (words, form, request) {
             self.lines.note_access(line, form, number)?;
         }
         Ok(number)

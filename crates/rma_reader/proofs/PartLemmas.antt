@@ -14,10 +14,10 @@ use Rattle.rma_field.specs.Numbers.{natural}
 use Rattle.rma_field.proofs.DecimalLemmas.{number_digits}
 use Rattle.rma_form.specs.Forms.{form_of}
 use Rattle.rma_lex.specs.Field.{is_blank, is_field}
-use Rattle.rma_reader.specs.Elsewhere.{AreElsewhere, IsElsewhere, form_of_access}
-use Rattle.rma_reader.specs.declared.access_form.AccessForm.{AccessForm}
-use Rattle.rma_reader.specs.declared.access_form.Place.{Place}
-use Rattle.rma_reader.specs.declared.access_form.Place.TheVariants.{Same}
+use Rattle.rma_reader.specs.Elsewhere.{AreElsewhere, IsElsewhere, form_of_call}
+use Rattle.rma_reader.specs.declared.call_form.CallForm.{CallForm}
+use Rattle.rma_reader.specs.declared.call_form.Place.{Place}
+use Rattle.rma_reader.specs.declared.call_form.Place.TheVariants.{Same}
 use Rattle.rma_reader.specs.declared.known_access.Part.{Part}
 use Rattle.rma_reader.specs.declared.known_access.Part.TheVariants as part
 use Rattle.rma_reader.specs.inside.Accesses.{AreParts, BeginsWith, IsGap, IsNumberWord, IsOfParts, IsPart, places_in, spread, words_in}
@@ -63,9 +63,11 @@ same_words v (word ∷ same) places own others numbers is = (word, same ++ own, 
 part_elsewhere : (v : Version) (it : Part) (own other from to : List ℕ) (places : List Place) (owns others : List (List ℕ)) (more : List ℕ) → IsPart v it own from → IsPart v it other to
     → AreElsewhere v places owns others more → AreElsewhere v (places_in it ++ places) (words_in own ++ owns) (words_in other ++ others) (to ++ more)
 part_elsewhere v (part.Same text) own other from to places owns others more is at rest = rw (is.0, at.0, at.1) (same_words v (words_in text.items) places owns others more rest)
-part_elsewhere v part.Target own other from to places owns others more is at rest =
+part_elsewhere v part.Rank own other from to places owns others more is at rest =
     rw (is.1.is_word, at.1.is_word, at.2) (own, other, owns, others, at.0, more, refl, refl, refl, at.1.reads, rest)
 part_elsewhere v part.Address own other from to places owns others more is at rest =
+    rw (is.1.is_word, at.1.is_word, at.2) (own, other, owns, others, at.0, more, refl, refl, refl, at.1.reads, rest)
+part_elsewhere v part.Tag own other from to places owns others more is at rest =
     rw (is.1.is_word, at.1.is_word, at.2) (own, other, owns, others, at.0, more, refl, refl, refl, at.1.reads, rest)
 
 parts_elsewhere : (v : Version) (parts : List Part) (words others from to : List ℕ) → AreParts v parts words from → AreParts v parts others to
@@ -77,7 +79,7 @@ parts_elsewhere v (it ∷ parts) words others from to own other =
     (part_elsewhere v it own.3.front other.3.front own.0 other.0 (spread parts) (words_in own.1) (words_in other.1) other.2 own.3.is_part other.3.is_part rest)
 
 -- the words of another line that is made of the same parts are those of a line, elsewhere
-pub elsewhere_of : (v : Version) (words : List ℕ) (parts : List Part) (form : AccessForm) (from others to : List ℕ) → IsOfParts v words parts form from → AreParts v parts others to
+pub elsewhere_of : (v : Version) (words : List ℕ) (parts : List Part) (form : CallForm) (from others to : List ℕ) → IsOfParts v words parts form from → AreParts v parts others to
     → IsElsewhere v form words others to
 elsewhere_of v words parts form from others to is at =
     let all = subst (λ places. AreElsewhere v places (words_in words) (words_in others) to) is.says (parts_elsewhere v parts words others from to is.parts_are at) in
@@ -90,7 +92,7 @@ elsewhere_of v words parts form from others to is at =
       other = all.2;
       words_are = all.3;
       others_are = all.4;
-      has_form = subst (λ fields. form_of v all.0 fields ≡ Ok (form_of_access form)) own (subst (λ word. form_of v word is.own ≡ Ok (form_of_access form)) verb is.has_form);
+      has_form = subst (λ fields. form_of v all.0 fields ≡ Ok (form_of_call form)) own (subst (λ word. form_of v word is.own ≡ Ok (form_of_call form)) verb is.has_form);
       elsewhere = all.5;
     }
 

@@ -4,10 +4,10 @@ ghost use Rattle.std.specs.List.{list_all};
 ghost use Rattle.rma_lex.specs.Field.{is_blank, is_field, texts};
 ghost use Rattle.rma_field.specs.Numbers.{natural};
 ghost use Rattle.rma_form.specs.Forms.{form_of};
-ghost use Rattle.rma_reader.specs.Elsewhere.{IsElsewhere, form_of_access};
+ghost use Rattle.rma_reader.specs.Elsewhere.{IsElsewhere, form_of_call};
 ghost use Rattle.rma_reader.specs.inside.Accesses.{AreParts, BeginsWith, IsGap, IsNumberWord, IsPart, places_in, spread, words_in};
 
-use crate::access_form::{AccessForm, Place};
+use crate::call_form::{CallForm, Place};
 use crate::decimal::front_digits;
 use arrayvec::ArrayVec;
 use rma_base::limits::SPACE;
@@ -18,7 +18,11 @@ use rma_lex::{TokenIter, tokens};
 use std::alloc::Global;
 use std::marker::Model;
 
-/// The numbers that say where an access is: the target, the displacement, and up to three addresses.
+/// The greatest tag of a message.
+const TAG: u64 = 2_147_483_647;
+
+/// The numbers that say where a call is made: of an access the target, the displacement, and up to three addresses; of any other
+/// call the rank, and the tag or the number of bytes.
 pub type Numbers = ArrayVec<u64, 5>;
 
 /// A part of the line of an access.
@@ -26,10 +30,12 @@ pub type Numbers = ArrayVec<u64, 5>;
 pub(crate) enum Part {
     /// Words that say what is accessed, and how.
     Same(Vec<u8>),
-    /// A word that says the target.
-    Target,
-    /// A word that says an address, or the displacement.
+    /// A word that says a rank.
+    Rank,
+    /// A word that says an address, a displacement, or a number of bytes.
     Address,
+    /// A word that says a tag.
+    Tag,
 }
 
 /// An access that came before, by the words of its line.
@@ -42,7 +48,7 @@ pub(crate) struct KnownAccess {
     /// The number of what the access does.
     what: u32,
     /// Its form.
-    form: AccessForm,
+    form: CallForm,
     /// The parts of the words, with a blank between each two.
     parts: Vec<Part>,
     /// Where it accesses memory.
@@ -71,7 +77,7 @@ impl KnownAccess {
         alloc: Global,
         version: Version,
         words: &[u8],
-        form: AccessForm,
+        form: CallForm,
         what: u32,
     ) -> Result<Option<KnownAccess>, Memory>
         ensures { IfOk result (λ own. IfSome own (λ own. own.known ≡ record { version = version; words = words.now; what = what; request = None; lasts = false })) }
@@ -141,8 +147,8 @@ fn is_same(own: &[u8], other: &[u8]) -> bool
 }
 
 /// Whether a line of these words has the form.
-fn is_of_form(version: Version, words: &[u8], form: AccessForm) -> bool
-    ensures { result ≡ true → (verb : List ℕ) × (own : List (List ℕ)) × (words_in words.now ≡ verb ∷ own) × (form_of version verb own ≡ Ok (form_of_access form)) }
+fn is_of_form(version: Version, words: &[u8], form: CallForm) -> bool
+    ensures { result ≡ true → (verb : List ℕ) × (own : List (List ℕ)) × (words_in words.now ≡ verb ∷ own) × (form_of version verb own ≡ Ok (form_of_call form)) }
 {
     let mut rest = tokens(words);
     let Some(verb) = rest.next() else {
@@ -208,7 +214,8 @@ fn push_same(
 /// The part that is a word that says where.
 fn part_of(place: Place) -> Part {
     match place {
-        Place::Target => Part::Target,
+        Place::Rank => Part::Rank,
+        Place::Tag => Part::Tag,
         _ => Part::Address,
     }
 }
@@ -234,7 +241,8 @@ fn said(part: &Part, places: &[Place], at: usize) -> Option<usize>
 {
     match part {
         Part::Same(text) => same_said(text.as_slice(), places, at),
-        Part::Target => one_said(Place::Target, places, at),
+        Part::Rank => one_said(Place::Rank, places, at),
+        Part::Tag => one_said(Place::Tag, places, at),
         Part::Address => one_said(Place::Address, places, at),
     }
 }
@@ -285,7 +293,8 @@ fn is_place(one: Place, other: Place) -> bool
 {
     match (one, other) {
         (Place::Same, Place::Same) => true,
-        (Place::Target, Place::Target) => true,
+        (Place::Rank, Place::Rank) => true,
+        (Place::Tag, Place::Tag) => true,
         (Place::Address, Place::Address) => true,
         _ => false,
     }
@@ -336,7 +345,8 @@ fn part_len(version: Version, part: &Part, text: &[u8], numbers: &mut Numbers) -
 {
     let limit = match part {
         Part::Same(own) => return same_len(own.as_slice(), text),
-        Part::Target => u64::from(version.ranks() - 1),
+        Part::Rank => u64::from(version.ranks() - 1),
+        Part::Tag => TAG,
         Part::Address => SPACE,
     };
     number_len(limit, text, numbers)

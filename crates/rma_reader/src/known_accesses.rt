@@ -4,7 +4,7 @@ ghost use Rattle.rma_reader.specs.Elsewhere.{IsElsewhere};
 ghost use Rattle.rma_reader.specs.Known.{Known};
 ghost use Rattle.rma_reader.specs.inside.Accesses.{IsKnownAmong, IsPlacedAmong, Placed};
 
-use crate::access_form::AccessForm;
+use crate::call_form::CallForm;
 use crate::key::shape_of;
 use crate::known_access::{KnownAccess, Numbers};
 use rma_base::{Memory, Version};
@@ -79,7 +79,7 @@ impl KnownAccesses {
         alloc: Global,
         version: Version,
         words: &[u8],
-        form: AccessForm,
+        form: CallForm,
         what: u32,
     ) -> Result<(), Memory>
         ensures { (known : Known) → IsKnownAmong self.new known

@@ -10,7 +10,7 @@
 //! that states the same access of another target or at other addresses, as a [`PlacedCall`].
 #![tactic(auto)]
 
-mod access_form;
+mod call_form;
 mod decimal;
 mod key;
 mod known_access;
@@ -24,7 +24,7 @@ mod read_line;
 mod shared_sites;
 mod split_line;
 
-pub use access_form::{AccessForm, Place};
+pub use call_form::{CallForm, Place};
 pub use known_access::Numbers;
 pub use line_reader::LineReader;
 pub use read_line::{KnownCall, PlacedCall, ReadLine};

@@ -15,7 +15,7 @@ ghost use Rattle.rma_reader.specs.Sites.{IsSiteOf};
 ghost use Rattle.rma_reader.specs.Split.{IsSplit};
 ghost use Rattle.rma_reader.specs.inside.Tables.{Reads};
 
-use crate::access_form::AccessForm;
+use crate::call_form::CallForm;
 use crate::known_access::Numbers;
 use crate::known_accesses::KnownAccesses;
 use crate::known_lines::KnownLines;
@@ -248,7 +248,7 @@ impl LineReader {
     pub fn note_access(
         &mut self,
         line: &SplitLine<'_>,
-        form: AccessForm,
+        form: CallForm,
         what: u32,
     ) -> Result<(), Memory>
         requires { what < length self.old.calls.whats }

@@ -1,20 +1,60 @@
--- The events of accesses that a log repeats elsewhere.
-use Rattle.std.specs.Prelude.{◌≡◌, ℕ, List, None}
+-- The events of calls that a log repeats elsewhere.
+use Rattle.std.specs.Prelude.{◌≡◌, ℕ, List, [], ◌∷◌, None}
+use Rattle.rma_call.specs.declared.epoch.EpochCall.{EpochCall}
+use Rattle.rma_call.specs.declared.epoch.EpochCall.TheVariants.{Unlock, Flush, FlushLocal}
+use Rattle.rma_call.specs.declared.message.MessageCall.{MessageCall}
+use Rattle.rma_call.specs.declared.message.MessageCall.TheVariants.{Send, Recv}
+use Rattle.rma_call.specs.declared.moving.MovingCall.{MovingCall}
+use Rattle.rma_call.specs.declared.moving.MovingCall.TheVariants.{Bcast, Scatter, Gather, Reduce, Allreduce, Allgather, Alltoall}
+use Rattle.rma_call.specs.declared.what.SyncCall.{SyncCall}
+use Rattle.rma_call.specs.declared.what.SyncCall.TheVariants.{Message, Epoch, Moving}
 use Rattle.rma_call.specs.declared.what.What.{What}
 use Rattle.rma_form.specs.declared.event.Event.{Event}
-use Rattle.rma_form.specs.declared.event.Event.TheVariants.{Rma, Local}
+use Rattle.rma_form.specs.declared.event.Event.TheVariants.{Call, Rma, Local}
 use Rattle.rma_buffer.specs.Elsewhere.{line_at, local_at}
 use Rattle.rma_reader.specs.Reading.{Reading}
 use Rattle.rma_type.specs.Table.{Table}
 use Rattle.rma_book.specs.inside.Known.{AreKnown, IsCallOf, IsStatedBy}
 
--- the event of an access, where these numbers say
+-- a message with the rank and the tag of these numbers
+abbrev pub message_at : MessageCall → List ℕ → MessageCall
+message_at (Send to tag comm) (rank ∷ number ∷ []) = Send (record { 0 = rank }) number comm
+message_at (Recv source tag comm) (rank ∷ number ∷ []) = Recv (record { 0 = rank }) number comm
+message_at call _ = call
+
+-- a call for the target of this number
+abbrev pub epoch_at : EpochCall → List ℕ → EpochCall
+epoch_at (Unlock window target) (rank ∷ []) = Unlock window (record { 0 = rank })
+epoch_at (Flush window target) (rank ∷ []) = Flush window (record { 0 = rank })
+epoch_at (FlushLocal window target) (rank ∷ []) = FlushLocal window (record { 0 = rank })
+epoch_at call _ = call
+
+-- a collective with the root and the bytes of these numbers
+abbrev pub moving_at : MovingCall → List ℕ → MovingCall
+moving_at (Bcast root bytes comm) (rank ∷ number ∷ []) = Bcast (record { 0 = rank }) number comm
+moving_at (Scatter root bytes comm) (rank ∷ number ∷ []) = Scatter (record { 0 = rank }) number comm
+moving_at (Gather root bytes comm) (rank ∷ number ∷ []) = Gather (record { 0 = rank }) number comm
+moving_at (Reduce root bytes comm) (rank ∷ number ∷ []) = Reduce (record { 0 = rank }) number comm
+moving_at (Allreduce bytes comm) (number ∷ []) = Allreduce number comm
+moving_at (Allgather bytes comm) (number ∷ []) = Allgather number comm
+moving_at (Alltoall bytes comm) (number ∷ []) = Alltoall number comm
+moving_at call _ = call
+
+-- a call that accesses no memory, where these numbers say
+abbrev pub sync_at : SyncCall → List ℕ → SyncCall
+sync_at (Message call) numbers = Message (message_at call numbers)
+sync_at (Epoch call) numbers = Epoch (epoch_at call numbers)
+sync_at (Moving call) numbers = Moving (moving_at call numbers)
+sync_at call _ = call
+
+-- the event of a call, where these numbers say
 abbrev pub event_at : Event → List ℕ → Event
 event_at (Rma line request) numbers = Rma (line_at line numbers) request
 event_at (Local line) numbers = Local (local_at line numbers)
+event_at (Call call request) numbers = Call (sync_at call numbers) request
 event_at event numbers = event
 
--- whatever access this does that is where some numbers say: where others say it is one that does that
+-- whatever call this does that is where some numbers say: where others say it is one that does that
 abbrev pub DoesElsewhere : What → List ℕ → List ℕ → What → Type 0
 DoesElsewhere what from to moved = (types : Table) (event : Event) → event_at event from ≡ event → IsCallOf types what None event → IsCallOf types moved None (event_at event to)
 

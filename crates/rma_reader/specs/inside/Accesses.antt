@@ -1,22 +1,23 @@
 -- What is kept of accesses that came before.
 use Rattle.std.specs.Prelude.{◌≡◌, ◌⊎◌, ℕ, true, List, [], ◌∷◌, ◌++◌, Ok, Option, Some, map, flat_map, option_map, slice_get}
+use Rattle.rma_base.specs.Limits.{address_limit}
 use Rattle.rma_base.specs.declared.version.Version.{Version}
 use Rattle.rma_field.specs.Kinds.{last_rank}
 use Rattle.rma_field.specs.Numbers.{natural}
 use Rattle.rma_lex.specs.Field.{fields, is_blank, texts}
 use Rattle.rma_form.specs.Forms.{form_of}
-use Rattle.rma_reader.specs.declared.access_form.AccessForm.{AccessForm}
-use Rattle.rma_reader.specs.declared.access_form.Place.{Place}
-use Rattle.rma_reader.specs.declared.access_form.Place.TheVariants.{Same, Target, Address}
+use Rattle.rma_reader.specs.declared.call_form.CallForm.{CallForm}
+use Rattle.rma_reader.specs.declared.call_form.Place.{Place}
+use Rattle.rma_reader.specs.declared.call_form.Place.TheVariants.{Same, Rank, Address, Tag}
 use Rattle.rma_reader.specs.declared.known_access.Part.{Part}
 use Rattle.rma_reader.specs.declared.known_access.Part.TheVariants as part
-use Rattle.rma_reader.specs.Elsewhere.{form_of_access, places_of}
+use Rattle.rma_reader.specs.Elsewhere.{form_of_call, places_of}
 use Rattle.rma_reader.specs.Known.{Known, IsAmong}
 
 -- an access that came before, with its form and where it accesses memory
 pub record Placed : Type 0 where
   pub known : Known
-  pub form : AccessForm
+  pub form : CallForm
   pub from : List ℕ
 
 -- it stands among these
@@ -30,8 +31,9 @@ words_in text = texts (fields text)
 -- what each word of a part says
 abbrev pub places_in : Part → List Place
 places_in (part.Same text) = map (λ _. Same) (words_in text.items)
-places_in part.Target = Target ∷ []
+places_in part.Rank = Rank ∷ []
 places_in part.Address = Address ∷ []
+places_in part.Tag = Tag ∷ []
 
 -- what each word of some parts says
 abbrev pub spread : List Part → List Place
@@ -45,8 +47,9 @@ pub record IsNumberWord (limit : ℕ) (text : List ℕ) (number : ℕ) : Type 0 
 -- the text is that of a part, and says where by these numbers
 abbrev pub IsPart : Version → Part → List ℕ → List ℕ → Type 0
 IsPart v (part.Same own) text numbers = (text ≡ own.items) × (numbers ≡ [])
-IsPart v part.Target text numbers = (n : ℕ) × IsNumberWord (last_rank v) text n × (numbers ≡ n ∷ [])
-IsPart v part.Address text numbers = (n : ℕ) × IsNumberWord 281474976710656 text n × (numbers ≡ n ∷ [])
+IsPart v part.Rank text numbers = (n : ℕ) × IsNumberWord (last_rank v) text n × (numbers ≡ n ∷ [])
+IsPart v part.Address text numbers = (n : ℕ) × IsNumberWord address_limit text n × (numbers ≡ n ∷ [])
+IsPart v part.Tag text numbers = (n : ℕ) × IsNumberWord 2147483647 text n × (numbers ≡ n ∷ [])
 
 -- nothing is left, or a blank and what comes behind it
 abbrev pub IsGap : List ℕ → List ℕ → Type 0
@@ -66,11 +69,11 @@ AreParts v [] text numbers = (text ≡ []) × (numbers ≡ [])
 AreParts v (own ∷ parts) text numbers = (first later more : List ℕ) × BeginsWith v own text first later × AreParts v parts later more × (numbers ≡ first ++ more)
 
 -- the words are made of these parts, have the form, and say where by these numbers
-pub record IsOfParts (v : Version) (words : List ℕ) (parts : List Part) (form : AccessForm) (from : List ℕ) : Type 0 where
+pub record IsOfParts (v : Version) (words : List ℕ) (parts : List Part) (form : CallForm) (from : List ℕ) : Type 0 where
   pub verb : List ℕ
   pub own : List (List ℕ)
   pub words_are : words_in words ≡ verb ∷ own
-  pub has_form : form_of v verb own ≡ Ok (form_of_access form)
+  pub has_form : form_of v verb own ≡ Ok (form_of_call form)
   pub parts_are : AreParts v parts words from
   pub says : spread parts ≡ Same ∷ places_of form
 

@@ -1,5 +1,5 @@
 use Rattle.std.proofs.Common.{◌≡◌, ◌∷◌, drop}
-use Rattle.rma_reader.specs.declared.access_form.Place.TheVariants.{Same}
+use Rattle.rma_reader.specs.declared.call_form.Place.TheVariants.{Same}
 use Rattle.rma_reader.specs.inside.Accesses.{spread}
 use Rattle.rma_reader.proofs.known_access.are_said.Given as goal
 

@@ -1,6 +1,6 @@
 use Rattle.std.proofs.Common.{◌≡◌, ℕ, ◌∷◌, ◌++◌, drop, length, map}
 use Rattle.rma_lex.specs.Field.{texts}
-use Rattle.rma_reader.specs.declared.access_form.Place.TheVariants.{Same}
+use Rattle.rma_reader.specs.declared.call_form.Place.TheVariants.{Same}
 use Rattle.rma_reader.proofs.known_access.same_said.Given as goal
 
 -- where the words that are left say the same, all do

@@ -12,7 +12,7 @@ returns c =
     OnOk_then c.read_call.result c.read_call.ensures
     (λ reads text site.
     let old = c.args.self.now in
-    let added = c.add.new.self in
+    let added = c.add_placed.new.self in
     let event = Call c.args.call c.args.request in
     let adds = rw c.as_ref.ensures.value at c.in_ok-what.ensures.adds in
     Reads_before old c.read_call.new.self added.lines c.args.no (record { event = event; site = text }) adds.version adds.calls

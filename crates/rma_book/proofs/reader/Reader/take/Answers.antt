@@ -6,5 +6,5 @@ pub returns : goal.returns
 returns c =
     OnOk_then c.push.result c.push.ensures.ok
     (λ pushed text site.
-    Appends_added c.args.self.now c.add_access.new.self _ _ _ c.args.what c.args.no c.args.site text c.args.number c.push.new.self c.in_ok-what.ensures.adds site refl
+    Appends_added c.args.self.now c.add_placed.new.self _ _ _ c.args.what c.args.no c.args.site text c.args.number c.push.new.self c.in_ok-what.ensures.adds site refl
     (pushed c.args.what c.in_ok-what.ensures.number))

@@ -1,9 +1,0 @@
-use Rattle.std.proofs.Common.{false}
-use Rattle.rma_book.proofs.ReadingLemmas.{Adds_more}
-use Rattle.rma_book.proofs.reader.Reader.add_access.Goals as goal
-
-pub returns-in_ok-note_access-clause-adds : goal.returns-in_ok-note_access-clause-adds
-returns-in_ok-note_access-clause-adds c =
-    rw (c.in-Some-None.is-0, c.in-Some-None.is-1)
-    (Adds_more c.args.self.now c.add.new.self c.note_access.new.self c.in-Some-None.line.now.words c.args.what c.in_ok-number.number _ false
-    (rw (c.in-Some-None.is-0, c.in-Some-None.is-1) at c.in_ok-number.ensures.adds) c.in_ok-number.ensures.number c.note_access.ensures.same c.note_access.ensures.known)
