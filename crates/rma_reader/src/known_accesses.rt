@@ -24,11 +24,16 @@ pub(crate) struct KnownAccesses {
     last: Vec<Last>,
 }
 
+/// Where so many calls stand between two that were not found in a slot, those of its shape between them were.
+const FAR: usize = 64;
+
 /// What came last to a slot.
 #[derive(Drop)]
 struct Last {
     /// Its shape.
     shape: u64,
+    /// How many calls were before it.
+    at: usize,
     /// How often the shape came again, counted anew where that is too often.
     times: u8,
 }
@@ -73,7 +78,7 @@ impl KnownAccesses {
         }
     }
 
-    /// Notes that these words, read in this version, state an access of this form that does this.
+    /// Notes that these words, read in this version behind so many calls, state an access of this form that does this.
     pub(crate) fn note(
         &mut self,
         alloc: Global,
@@ -81,12 +86,13 @@ impl KnownAccesses {
         words: &[u8],
         form: CallForm,
         what: u32,
+        at: usize,
     ) -> Result<(), Memory>
         ensures { (known : Known) → IsKnownAmong self.new known
             → IsKnownAmong self.old known ⊎ (known ≡ record { version = version; words = words.now; what = what; request = None; lasts = false }) }
     {
         let shape = shape_of(words);
-        if !comes_again(&mut self.last, shape) {
+        if !comes_again(&mut self.last, shape, at) {
             return Ok(());
         }
         match KnownAccess::new(alloc, version, words, form, what) {
@@ -127,17 +133,25 @@ impl KnownAccesses {
     }
 }
 
-/// Whether an access of this shape is to be kept: one of the same shape came last to its slot. Where accesses of one shape are
-/// not found though one is kept, they differ in other words, and it gives way to another more and more seldom.
-fn comes_again(last: &mut Vec<Last>, shape: u64) -> bool {
+/// Whether an access of this shape, behind so many calls, is to be kept: one of the same shape came last to its slot. Where
+/// accesses of one shape are not found though one is kept, they differ in other words, and it gives way to another more and more
+/// seldom; but at once where all were found for long.
+fn comes_again(last: &mut Vec<Last>, shape: u64, at: usize) -> bool {
     let Some(last) = last.get_mut(slot_of(shape)) else {
         return false;
     };
+    let is_far = at.saturating_sub(last.at) > FAR;
+    last.at = at;
     if last.shape != shape {
-        *last = Last { shape, times: 0 };
+        last.shape = shape;
+        last.times = 0;
         return false;
     }
-    last.times = last.times.wrapping_add(1);
+    last.times = if is_far {
+        1
+    } else {
+        last.times.wrapping_add(1)
+    };
     last.times.is_power_of_two()
 }
 
@@ -165,7 +179,11 @@ fn no_accesses(alloc: Global) -> Result<Vec<Option<KnownAccess>>, Memory>
 fn nothing_last(alloc: Global) -> Result<Vec<Last>, Memory> {
     let mut last = Vec::with_capacity(alloc, SLOTS)?;
     for _ in 0..SLOTS {
-        last.push(Last { shape: 0, times: 0 })?;
+        last.push(Last {
+            shape: 0,
+            at: 0,
+            times: 0,
+        })?;
     }
     Ok(last)
 }

@@ -257,8 +257,9 @@ impl LineReader {
         ensures same { self.new ≡ record self.old { known = self.new.known } }
     {
         let alloc = self.texts.allocator();
+        let at = self.calls.list().len();
         self.accesses
-            .note(alloc, self.version, line.words(), form, what)
+            .note(alloc, self.version, line.words(), form, what, at)
     }
 
     /// The datatypes have changed: calls that depend on them are not known any more.
