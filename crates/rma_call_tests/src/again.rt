@@ -1,13 +1,14 @@
-//! Accesses whose lines the log repeats.
+//! Calls whose lines the log repeats, or makes again elsewhere.
+use crate::book::ended;
 use crate::buffers::{Case, check, ended_with};
 use rma_base::{FormReason, Rank};
 use rma_book::BookEnd;
 use rma_bytes::Layout;
-use rma_call::{CallList, WhatRef};
+use rma_call::{CallList, EpochCall, MessageCall, MovingCall, WhatRef};
 use std::process::Abort;
 use std::test::Fail;
 
-static CASES: [Case; 14] = [
+static CASES: [Case; 19] = [
     (
         "type contiguous d 1 INT\ntype commit d\nput W 1 0 1 d 8192 1 d\nput W 1 0 1 d 8192 1 d\nput W 1 0 1 d 8192 1 d\nput W 1 0 1 d 8192 1 d\ntype free d\nput W 1 0 1 d 8192 1 d\n",
         Err((10, FormReason::UnknownType)),
@@ -63,6 +64,26 @@ static CASES: [Case; 14] = [
     (
         "load 8192 1 INT\nload 8196 1 INT\nload 8200 1 INT\nload 281474976710653 1 INT\n",
         Err((6, FormReason::OutOfSpace)),
+    ),
+    (
+        "send 1 5 world\nsend 0 6 world\nsend 1 7 world\nsend 2 8 world\n",
+        Err((6, FormReason::RankTooLarge)),
+    ),
+    (
+        "send 1 5 world\nsend 0 6 world\nsend 1 7 world\nsend 1 2147483648 world\n",
+        Err((6, FormReason::OutOfRange)),
+    ),
+    (
+        "recv 1 5 world\nrecv 0 6 world\nrecv 1 7 world\nrecv 1 8 word\n",
+        Err((6, FormReason::UnknownComm)),
+    ),
+    (
+        "flush W 1\nflush W 0\nflush W 1\nwin free W\nflush W 0\n",
+        Err((7, FormReason::UnknownWindow)),
+    ),
+    (
+        "send 1 5 world\nsend 0 6 world\nsend 1 7 world\nsend 1 8 world 9\n",
+        Err((6, FormReason::WrongCount)),
     ),
 ];
 
@@ -148,6 +169,121 @@ fn an_access_that_comes_again_elsewhere_is_made_there(rt: HostRuntime) -> Result
     let end = ended_with(&rt, rt.alloc(), ELSEWHERE, "end\n", 1)?;
     match &end {
         BookEnd::Calls(calls) => check_elsewhere(&rt, calls.calls()),
+        BookEnd::Fault(_) => assert!(&rt; false),
+    }
+    Ok(())
+}
+
+/// The forms of calls that access no memory and come again elsewhere, four times each.
+static MOVED: &str =
+    "rma 2 0 2\nwin create W world 4096 64 1 unified same_op_no_op\nsend 0 100 world\nrecv 0 100 world\nunlock W 0\nflush W 0\nflushlocal W 0\nbcast 0 100 world\nscatter 0 100 world\ngather 0 100 world\nreduce 0 100 world\nallreduce 100 world\nallgather 100 world\nalltoall 100 world\nsend 1 101 world\nrecv 1 101 world\nunlock W 1\nflush W 1\nflushlocal W 1\nbcast 1 101 world\nscatter 1 101 world\ngather 1 101 world\nreduce 1 101 world\nallreduce 101 world\nallgather 101 world\nalltoall 101 world\nsend 0 102 world\nrecv 0 102 world\nunlock W 0\nflush W 0\nflushlocal W 0\nbcast 0 102 world\nscatter 0 102 world\ngather 0 102 world\nreduce 0 102 world\nallreduce 102 world\nallgather 102 world\nalltoall 102 world\nsend 1 103 world\nrecv 1 103 world\nunlock W 1\nflush W 1\nflushlocal W 1\nbcast 1 103 world\nscatter 1 103 world\ngather 1 103 world\nreduce 1 103 world\nallreduce 103 world\nallgather 103 world\nalltoall 103 world\nwin free W\nend\n";
+
+/// The form of each of these calls, its rank, and its tag or its number of bytes, where it has such.
+static MOVED_TO: [(usize, u32, u64); 48] = [
+    (0, 0, 100),
+    (1, 0, 100),
+    (2, 0, 100),
+    (3, 0, 100),
+    (4, 0, 100),
+    (5, 0, 100),
+    (6, 0, 100),
+    (7, 0, 100),
+    (8, 0, 100),
+    (9, 0, 100),
+    (10, 0, 100),
+    (11, 0, 100),
+    (0, 1, 101),
+    (1, 1, 101),
+    (2, 1, 101),
+    (3, 1, 101),
+    (4, 1, 101),
+    (5, 1, 101),
+    (6, 1, 101),
+    (7, 1, 101),
+    (8, 1, 101),
+    (9, 1, 101),
+    (10, 1, 101),
+    (11, 1, 101),
+    (0, 0, 102),
+    (1, 0, 102),
+    (2, 0, 102),
+    (3, 0, 102),
+    (4, 0, 102),
+    (5, 0, 102),
+    (6, 0, 102),
+    (7, 0, 102),
+    (8, 0, 102),
+    (9, 0, 102),
+    (10, 0, 102),
+    (11, 0, 102),
+    (0, 1, 103),
+    (1, 1, 103),
+    (2, 1, 103),
+    (3, 1, 103),
+    (4, 1, 103),
+    (5, 1, 103),
+    (6, 1, 103),
+    (7, 1, 103),
+    (8, 1, 103),
+    (9, 1, 103),
+    (10, 1, 103),
+    (11, 1, 103),
+];
+
+/// Whether the call is of the form of this place among them, for this rank, and with this number.
+fn is_moved(what: WhatRef<'_>, form: usize, rank: Rank, number: u64) -> bool {
+    match what {
+        WhatRef::Message(call) => is_message(call, form, rank, number),
+        WhatRef::Epoch(call) => is_epoch(call, form, rank),
+        WhatRef::Moving(call) => is_moving(call, form, rank, number),
+        _ => false,
+    }
+}
+
+fn is_message(call: &MessageCall, form: usize, rank: Rank, number: u64) -> bool {
+    match call {
+        MessageCall::Send { to, tag, .. } => form == 0 && *to == rank && u64::from(*tag) == number,
+        MessageCall::Recv { from, tag, .. } => {
+            form == 1 && *from == rank && u64::from(*tag) == number
+        }
+        _ => false,
+    }
+}
+
+fn is_epoch(call: &EpochCall, form: usize, rank: Rank) -> bool {
+    match call {
+        EpochCall::Unlock { target, .. } => form == 2 && *target == rank,
+        EpochCall::Flush { target, .. } => form == 3 && *target == rank,
+        EpochCall::FlushLocal { target, .. } => form == 4 && *target == rank,
+        _ => false,
+    }
+}
+
+fn is_moving(call: &MovingCall, form: usize, rank: Rank, number: u64) -> bool {
+    match call {
+        MovingCall::Bcast { root, bytes, .. } => form == 5 && *root == rank && *bytes == number,
+        MovingCall::Scatter { root, bytes, .. } => form == 6 && *root == rank && *bytes == number,
+        MovingCall::Gather { root, bytes, .. } => form == 7 && *root == rank && *bytes == number,
+        MovingCall::Reduce { root, bytes, .. } => form == 8 && *root == rank && *bytes == number,
+        MovingCall::Allreduce { bytes, .. } => form == 9 && *bytes == number,
+        MovingCall::Allgather { bytes, .. } => form == 10 && *bytes == number,
+        MovingCall::Alltoall { bytes, .. } => form == 11 && *bytes == number,
+    }
+}
+
+fn check_moved(rt: &impl Abort, calls: &CallList) {
+    assert!(rt; calls.len() == MOVED_TO.len() + 2);
+    for i in 0..MOVED_TO.len() {
+        let (form, rank, number) = MOVED_TO[i];
+        assert!(rt; is_moved(calls.get(i + 1).what, form, Rank(rank), number));
+    }
+}
+
+#[test]
+fn a_call_that_comes_again_elsewhere_has_its_own_numbers(rt: HostRuntime) -> Result<(), Fail> {
+    let end = ended(&rt, rt.alloc(), Rank(0), 2, MOVED.as_bytes(), 7)?;
+    match &end {
+        BookEnd::Calls(calls) => check_moved(&rt, calls.calls()),
         BookEnd::Fault(_) => assert!(&rt; false),
     }
     Ok(())
