@@ -1,4 +1,4 @@
-//! An access that came before.
+//! A call that came before, and may come again elsewhere.
 ghost use Rattle.std.specs.Prelude.{◌≡◌, ◌≤◌, ◌+◌, ◌++◌, ◌∷◌, [], ℕ, true, false, List, None, Ok, drop, length, map, take, IfOk, IfSome, MatchOption};
 ghost use Rattle.std.specs.List.{list_all};
 ghost use Rattle.rma_lex.specs.Field.{is_blank, is_field, texts};
@@ -25,10 +25,10 @@ const TAG: u64 = 2_147_483_647;
 /// call the rank, and the tag or the number of bytes.
 pub type Numbers = ArrayVec<u64, 5>;
 
-/// A part of the line of an access.
+/// A part of the line of such a call.
 #[derive(Debug, Drop)]
 pub(crate) enum Part {
-    /// Words that say what is accessed, and how.
+    /// Words that say what is done, and how.
     Same(Vec<u8>),
     /// A word that says a rank.
     Rank,
@@ -38,20 +38,20 @@ pub(crate) enum Part {
     Tag,
 }
 
-/// An access that came before, by the words of its line.
+/// A call that came before, by the words of its line: mostly an access.
 #[derive(Drop)]
 pub(crate) struct KnownAccess {
     /// The version of the format in which they were read.
     version: Version,
     /// The words.
     words: Vec<u8>,
-    /// The number of what the access does.
+    /// The number of what the call does.
     what: u32,
     /// Its form.
     form: CallForm,
     /// The parts of the words, with a blank between each two.
     parts: Vec<Part>,
-    /// Where it accesses memory.
+    /// Where it is made.
     from: Numbers,
 }
 
@@ -71,7 +71,7 @@ impl Model for KnownAccess {
 }
 
 impl KnownAccess {
-    /// The access of this form that these words state, which were read in this version. It does what has this number. None, where
+    /// The call of this form that these words state, which were read in this version. It does what has this number. None, where
     /// they are not of the form, or do not say by numbers where it is.
     pub(crate) fn new(
         alloc: Global,
@@ -103,7 +103,7 @@ impl KnownAccess {
         }))
     }
 
-    /// The number of what the access does.
+    /// The number of what the call does.
     #[inline]
     pub(crate) fn what(&self) -> u32
         ensures what { result ≡ self.now.known.what }
@@ -129,7 +129,7 @@ impl KnownAccess {
         self.version == version
     }
 
-    /// Whether these words, read in this version, are those of the same access; then these numbers say where it is.
+    /// Whether these words, read in this version, are those of the same call; then these numbers say where it is.
     pub(crate) fn is_elsewhere(&self, version: Version, words: &[u8], to: &mut Numbers) -> bool
         ensures version { result ≡ true → self.now.known.version ≡ version }
         ensures elsewhere { result ≡ true → IsElsewhere self.now.known.version self.now.form self.now.known.words words.now to.new.items }

@@ -1,4 +1,4 @@
-//! The accesses that a log repeats elsewhere.
+//! The calls that a log repeats elsewhere.
 ghost use Rattle.std.specs.Prelude.{◌≡◌, ◌⊎◌, Some, None, [], false, IfSome, IfOk, slice_set};
 ghost use Rattle.rma_reader.specs.Elsewhere.{IsElsewhere};
 ghost use Rattle.rma_reader.specs.Known.{Known};
@@ -11,11 +11,11 @@ use rma_base::{Memory, Version};
 use std::alloc::Global;
 use std::marker::Model;
 
-/// How many accesses are kept.
+/// How many calls are kept.
 const SLOTS: usize = 128;
 
-/// Accesses that came before, each in the slot that its shape gives, if one of its shape came twice running to it. What they do
-/// depends on the datatypes: they are known until those change.
+/// Calls that came before, mostly accesses, each in the slot that its shape gives, if one of its shape came twice running to it.
+/// What accesses do depends on the datatypes: all are known until those change.
 #[derive(Drop)]
 pub(crate) struct KnownAccesses {
     /// The slots: none, or `SLOTS` of them.
@@ -58,7 +58,7 @@ impl KnownAccesses {
         })
     }
 
-    /// The access that is known, where these words, read in this version, are those of it elsewhere: these numbers say then where.
+    /// The call that is known, where these words, read in this version, are those of it elsewhere: these numbers say then where.
     pub(crate) fn find(
         &self,
         version: Version,
@@ -78,7 +78,7 @@ impl KnownAccesses {
         }
     }
 
-    /// Notes that these words, read in this version behind so many calls, state an access of this form that does this.
+    /// Notes that these words, read in this version behind so many calls, state a call of this form that does this.
     pub(crate) fn note(
         &mut self,
         alloc: Global,
@@ -102,7 +102,7 @@ impl KnownAccesses {
         }
     }
 
-    /// Keeps an access in this slot.
+    /// Keeps a call in this slot.
     fn keep(&mut self, alloc: Global, at: usize, access: KnownAccess) -> Result<(), Memory>
         ensures { (known : Known) → IsKnownAmong self.new known → IsKnownAmong self.old known ⊎ (known ≡ access.known) }
     {
@@ -125,7 +125,7 @@ impl KnownAccesses {
         Ok(())
     }
 
-    /// No access is known any more.
+    /// No call is known any more.
     pub(crate) fn forget(&mut self)
         ensures { self.new ≡ [] }
     {
@@ -133,8 +133,8 @@ impl KnownAccesses {
     }
 }
 
-/// Whether an access of this shape, behind so many calls, is to be kept: one of the same shape came last to its slot. Where
-/// accesses of one shape are not found though one is kept, they differ in other words, and it gives way to another more and more
+/// Whether a call of this shape, behind so many calls, is to be kept: one of the same shape came last to its slot. Where
+/// calls of one shape are not found though one is kept, they differ in other words, and it gives way to another more and more
 /// seldom; but at once where all were found for long.
 fn comes_again(last: &mut Vec<Last>, shape: u64, at: usize) -> bool {
     let Some(last) = last.get_mut(slot_of(shape)) else {
@@ -155,7 +155,7 @@ fn comes_again(last: &mut Vec<Last>, shape: u64, at: usize) -> bool {
     last.times.is_power_of_two()
 }
 
-/// Has the access in this slot, if there is such a slot.
+/// Has the call in this slot, if there is such a slot.
 fn put(slots: &mut Vec<Option<KnownAccess>>, at: usize, access: KnownAccess)
     ensures { slots.new.items ≡ slice_set slots.old.items at (Some access) }
 {
@@ -164,7 +164,7 @@ fn put(slots: &mut Vec<Option<KnownAccess>>, at: usize, access: KnownAccess)
     }
 }
 
-/// Slots without accesses.
+/// Slots without calls.
 fn no_accesses(alloc: Global) -> Result<Vec<Option<KnownAccess>>, Memory>
     ensures { IfOk result (λ slots. (known : Known) → IsKnownAmong slots.items known → ⊥) }
 {

@@ -6,8 +6,9 @@
 //!
 //! A program makes its calls at a few places over and over, so the reader remembers the words that come again with the number
 //! of what they state, as it is told by [`LineReader::note`], and it keeps each site once. What the words of an access state
-//! depends on the datatypes too: [`LineReader::forget_accesses`] is called where those change. Of accesses it also knows the line
-//! that states the same access of another target or at other addresses, as a [`PlacedCall`].
+//! depends on the datatypes too: [`LineReader::forget_accesses`] is called where those change. Of accesses, messages, calls for a
+//! target and collectives that move data it also knows the line that states the same call elsewhere: with other ranks, tags,
+//! addresses or numbers of bytes, as a [`PlacedCall`].
 #![tactic(auto)]
 
 mod call_form;

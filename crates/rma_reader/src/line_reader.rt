@@ -39,7 +39,7 @@ pub struct LineReader {
     texts: Texts,
     /// The lines that come again.
     lines: KnownLines,
-    /// The accesses that come again elsewhere.
+    /// The calls that come again elsewhere.
     accesses: KnownAccesses,
     /// The calls that were appended, with their tables.
     calls: NumberedCalls,
@@ -123,8 +123,8 @@ impl LineReader {
         }))
     }
 
-    /// The access that is known, where the words of the line are those of it but for where it is: these numbers say then where that
-    /// of the line is.
+    /// The call that is known, where the words of the line are those of it but for where it is made: these numbers say then where
+    /// that of the line is.
     pub fn elsewhere(&self, line: &SplitLine<'_>, to: &mut Numbers) -> Option<PlacedCall<'_>>
         ensures known { IfSome result (λ found. IsKnownElsewhere self.now.known self.now.version line.now.words found.what found.from.now to.new.items) }
         ensures within { IfSome result (λ found. found.what < length self.now.calls.whats) }
@@ -243,8 +243,8 @@ impl LineReader {
             .note(alloc, self.version, line, what, request, lasts)
     }
 
-    /// Notes that the words of a line state an access of this form that does this, so that it is known when it comes again
-    /// elsewhere.
+    /// Notes that the words of a line state a call of this form that does this, so that it is known when it comes again elsewhere,
+    /// until the datatypes change.
     pub fn note_access(
         &mut self,
         line: &SplitLine<'_>,

@@ -24,11 +24,12 @@ pub struct KnownCall {
     pub site: Option<u32>,
 }
 
-/// An access that came before.
+/// A call that came before.
 #[derive(Clone, Copy, Debug)]
 pub struct PlacedCall<'a> {
     /// The number of what it does.
     pub what: u32,
-    /// Where it is: the target and the displacement, if it is a call, and the addresses of its buffers.
+    /// Where it is made: of an access the target and the displacement, if it has them, and the addresses of its buffers; of any
+    /// other call the rank, and the tag or the number of bytes, as far as it has them.
     pub from: &'a [u64],
 }

@@ -1,4 +1,4 @@
--- What is kept of accesses that came before.
+-- What is kept of calls that came before, and may come again elsewhere.
 use Rattle.std.specs.Prelude.{◌≡◌, ◌⊎◌, ℕ, true, List, [], ◌∷◌, ◌++◌, Ok, Option, Some, map, flat_map, option_map, slice_get}
 use Rattle.rma_base.specs.Limits.{address_limit}
 use Rattle.rma_base.specs.declared.version.Version.{Version}
@@ -14,7 +14,7 @@ use Rattle.rma_reader.specs.declared.known_access.Part.TheVariants as part
 use Rattle.rma_reader.specs.Elsewhere.{form_of_call, places_of}
 use Rattle.rma_reader.specs.Known.{Known, IsAmong}
 
--- an access that came before, with its form and where it accesses memory
+-- a call that came before, with its form and where it is made
 pub record Placed : Type 0 where
   pub known : Known
   pub form : CallForm
@@ -77,10 +77,10 @@ pub record IsOfParts (v : Version) (words : List ℕ) (parts : List Part) (form 
   pub parts_are : AreParts v parts words from
   pub says : spread parts ≡ Same ∷ places_of form
 
--- what is known of some accesses
+-- what is known of some calls
 abbrev pub known_of : List (Option Placed) → List (Option Known)
 known_of them = map (option_map (λ placed. placed.known)) them
 
--- it is known of one of these accesses
+-- it is known of one of these calls
 abbrev pub IsKnownAmong : List (Option Placed) → Known → Type 0
 IsKnownAmong them known = IsAmong (known_of them) known
