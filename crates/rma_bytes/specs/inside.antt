@@ -1,3 +1,4 @@
 pub mod Walks
 pub mod Region
 pub mod Layout
+pub mod Distance

@@ -6,11 +6,14 @@
 //!
 //! A [`Layout`] is the bytes that a call touches in a buffer. A log has millions of them, most of a few entries side by side,
 //! which take 16 bytes; the others share their runs with the layouts that differ by a distance alone.
+//! A [`MovedLayout`] is a layout at a [`Distance`] from where it stands.
 #![tactic(auto)]
 
+mod distance;
 pub mod laws;
 mod layout;
 mod merge;
+mod moved_layout;
 mod movement;
 mod overlap;
 mod region;
@@ -18,6 +21,8 @@ mod run;
 mod runs;
 mod search;
 
+pub use distance::Distance;
 pub use layout::Layout;
+pub use moved_layout::MovedLayout;
 pub use run::Run;
 pub use runs::Runs;

@@ -10,6 +10,7 @@ use Rattle.rma_call.specs.declared.groups.Place.{Place}
 use Rattle.rma_call.specs.declared.entries.Entry.{Entry}
 use Rattle.rma_call.specs.inside.CallList.{AreInTables}
 use Rattle.rma_call.specs.declared.group.Group.{Group}
+use Rattle.rma_call.specs.declared.groups.Place.TheVariants as place
 use Rattle.rma_call.specs.declared.groups.Place.TheVariants.{Frame, Message, Window, Epoch, Moving, Rma, Local}
 use Rattle.rma_call.specs.Group.{group_of}
 use Rattle.rma_call.specs.inside.Groups.{Grows, IsThere, what_at, whats_at, len_of}
@@ -64,6 +65,7 @@ has_some groups (Window index) there = omega (arith, there)
 has_some groups (Epoch index) there = omega (arith, there)
 has_some groups (Moving index) there = omega (arith, there)
 has_some groups (Rma index) there = omega (arith, there)
+has_some groups (place.PlacedRma index) there = omega (arith, there.other)
 has_some groups (Local index) there = omega (arith, there)
 
 -- so none of these is of a group whose table has nothing

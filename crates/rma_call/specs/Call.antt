@@ -9,6 +9,7 @@ use Rattle.rma_call.specs.declared.what.SyncCall.TheVariants as sync
 use Rattle.rma_call.specs.declared.what.WhatRef.{WhatRef}
 use Rattle.rma_call.specs.declared.what.WhatRef.TheVariants.{Frame, Message, Window, Epoch, Moving, Rma, Local}
 use Rattle.rma_call.specs.declared.call_list.CallRef.{CallRef}
+use Rattle.rma_call.specs.Rma.{access_of}
 
 -- a call: the line that records it, its site in the source of the program, what it does, and the number of the request
 -- that it makes or completes
@@ -41,7 +42,7 @@ what_of (Message call) = Sync (sync.Message call.now)
 what_of (Window call) = Sync (sync.Window call.now)
 what_of (Epoch call) = Sync (sync.Epoch call.now)
 what_of (Moving call) = Sync (sync.Moving call.now)
-what_of (Rma call) = what.Rma call.now
+what_of (Rma call) = what.Rma (access_of call)
 what_of (Local call) = what.Local call.now
 
 -- the call that is referred to

@@ -1,4 +1,5 @@
 pub mod Assertion
+pub mod Rma
 pub mod Call
 pub mod Group
 pub mod inside

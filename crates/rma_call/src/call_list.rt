@@ -1,7 +1,10 @@
 //! The calls of a rank, with each value that they share stated once.
-ghost use Rattle.std.specs.Prelude.{◌≡◌, ◌+◌, ◌<◌, ◌^◌, ◌++◌, [], ◌∷◌, ℕ, length, slice_get, option_map, Some, false, IfSome, IfOk, OnOk, OnErr};
+ghost use Rattle.std.specs.Prelude.{◌≡◌, ◌+◌, ◌<◌, ◌^◌, ◌++◌, [], ◌∷◌, ℕ, length, slice_get, option_map, Some, None, Ok, false, IfSome, IfOk, OnOk, OnErr};
 ghost use Rattle.std.specs.Option.{option_and_then};
 ghost use Rattle.rma_call.specs.declared.what.What.{What};
+ghost use Rattle.rma_call.specs.declared.what.What.TheVariants.{Rma};
+ghost use Rattle.rma_call.specs.declared.rma.RmaCall.{RmaCall};
+ghost use Rattle.rma_call.specs.Rma.{placed};
 ghost use Rattle.rma_call.specs.Call.{Call, no_calls, call_of, what_of};
 ghost use Rattle.rma_call.specs.Group.{group_of};
 ghost use Rattle.rma_call.specs.inside.CallList.{number_of};
@@ -9,6 +12,7 @@ ghost use Rattle.rma_call.specs.inside.CallList.{number_of};
 use crate::entries::{Entries, Entry};
 use crate::group::Group;
 use crate::groups::{Groups, Place, next_number};
+use crate::rma::Placement;
 use crate::what::{What, WhatRef};
 use rma_base::{LineNo, Memory, Site};
 use std::alloc::Global;
@@ -150,6 +154,29 @@ impl CallList {
         let place = self.groups.put(what)?;
         self.places.push(place)?;
         Ok(number)
+    }
+
+    /// Gives a number to an access that the access of a number makes elsewhere: the next one, as to what other calls do. None,
+    /// where that number is of something else, or of an access that itself was given a number so.
+    ///
+    /// # Errors
+    ///
+    /// `Memory` also where the table is full.
+    pub fn add_placed(&mut self, what: u32, place: &Placement) -> Result<Option<u32>, Memory>
+        requires { what < length self.old.whats }
+        ensures number { IfOk result (λ number. IfSome number (λ number. number ≡ length self.old.whats)) }
+        ensures ok { IfOk result (λ number. IfSome number (λ _. (call : RmaCall) × (slice_get self.old.whats what ≡ Some (Rma call))
+            × (self.new ≡ record self.old { whats = self.old.whats ++ Rma (placed call place.now) ∷ [] }))) }
+        ensures none { result ≡ Ok None → self.new ≡ self.old }
+        ensures err { OnErr result (self.new ≡ self.old) }
+    {
+        let Place::Rma(call) = self.places[what as usize] else {
+            return Ok(None);
+        };
+        let number = next_number(self.places.len())?;
+        let there = self.groups.put_placed(call, place)?;
+        self.places.push(there)?;
+        Ok(Some(number))
     }
 
     /// Gives a number to a site: the next one, so that those given before keep what they name.

@@ -1,7 +1,10 @@
 //! Tables of what calls do, one for each group of calls.
 ghost use Rattle.std.specs.Prelude.{◌≡◌, ◌+◌, ◌<◌, ◌^◌, ◌++◌, ◌∷◌, [], length, IfOk, OnOk, OnErr};
 ghost use Rattle.rma_call.specs.Call.{what_of};
-ghost use Rattle.rma_call.specs.inside.Groups.{Grows, IsThere, what_at, len_of};
+ghost use Rattle.rma_call.specs.Rma.{access_of, placed};
+ghost use Rattle.rma_call.specs.declared.groups.Place.TheVariants as Place;
+ghost use Rattle.rma_call.specs.declared.what.What.TheVariants as what;
+ghost use Rattle.rma_call.specs.inside.Groups.{Grows, IsThere, what_at, rma_at, placed_at, len_of};
 
 use crate::epoch::EpochCall;
 use crate::frame::FrameCall;
@@ -9,7 +12,7 @@ use crate::group::Group;
 use crate::local::LocalCall;
 use crate::message::MessageCall;
 use crate::moving::MovingCall;
-use crate::rma::RmaCall;
+use crate::rma::{Placement, RmaCall, RmaRef};
 use crate::what::{SyncCall, What, WhatRef};
 use crate::window::WindowCall;
 use rma_base::Memory;
@@ -24,7 +27,17 @@ pub(crate) struct Groups {
     epochs: Vec<EpochCall>,
     movings: Vec<MovingCall>,
     rmas: Vec<RmaCall>,
+    placed: Vec<PlacedRma>,
     locals: Vec<LocalCall>,
+}
+
+/// An access that another makes elsewhere.
+#[derive(Clone, Copy, Debug)]
+struct PlacedRma {
+    /// The index of the other in its table.
+    call: u32,
+    /// Where it is made.
+    place: Placement,
 }
 
 /// Where it stands what a call does: the group, and the index in its table.
@@ -36,6 +49,7 @@ pub(crate) enum Place {
     Epoch(u32),
     Moving(u32),
     Rma(u32),
+    PlacedRma(u32),
     Local(u32),
 }
 
@@ -49,6 +63,7 @@ impl Groups {
             epochs: Vec::new(alloc),
             movings: Vec::new(alloc),
             rmas: Vec::new(alloc),
+            placed: Vec::new(alloc),
             locals: Vec::new(alloc),
         }
     }
@@ -80,9 +95,35 @@ impl Groups {
             Place::Window(index) => WhatRef::Window(&self.windows[index as usize]),
             Place::Epoch(index) => WhatRef::Epoch(&self.epochs[index as usize]),
             Place::Moving(index) => WhatRef::Moving(&self.movings[index as usize]),
-            Place::Rma(index) => WhatRef::Rma(&self.rmas[index as usize]),
+            Place::Rma(index) => WhatRef::Rma(RmaRef::Stated(&self.rmas[index as usize])),
+            Place::PlacedRma(index) => WhatRef::Rma(self.placed(index)),
             Place::Local(index) => WhatRef::Local(&self.locals[index as usize]),
         }
+    }
+
+    /// The access of this index that another makes elsewhere.
+    #[inline]
+    fn placed(&self, index: u32) -> RmaRef<'_>
+        requires { IsThere self.now (Place.PlacedRma index) }
+        ensures { access_of result ≡ placed_at self.now index }
+    {
+        let own = &self.placed[index as usize];
+        RmaRef::Placed(&self.rmas[own.call as usize], &own.place)
+    }
+
+    /// Puts an access at the end of its table that the access of this index makes elsewhere.
+    ///
+    /// # Errors
+    ///
+    /// `Memory` also where the table is full.
+    pub(crate) fn put_placed(&mut self, call: u32, place: &Placement) -> Result<Place, Memory>
+        requires { IsThere self.old (Place.Rma call) }
+        ensures there { IfOk result (λ there. IsThere self.new there) }
+        ensures is { IfOk result (λ there. what_at self.new there ≡ what.Rma (placed (rma_at self.old call) place.now)) }
+        ensures grows { Grows self.old self.new }
+    {
+        let place = *place;
+        Ok(Place::PlacedRma(push(&mut self.placed, PlacedRma { call, place })?))
     }
 
     /// Puts what a call does at the end of the table of its group.

@@ -4,7 +4,7 @@ use crate::frame::FrameCall;
 use crate::local::LocalCall;
 use crate::message::MessageCall;
 use crate::moving::MovingCall;
-use crate::rma::RmaCall;
+use crate::rma::{RmaCall, RmaRef};
 use crate::window::WindowCall;
 
 /// What a call does.
@@ -47,7 +47,7 @@ pub enum WhatRef<'a> {
     /// It moves data between the members of a communicator.
     Moving(&'a MovingCall),
     /// It accesses the part of a target.
-    Rma(&'a RmaCall),
+    Rma(RmaRef<'a>),
     /// It accesses the memory of its rank.
     Local(&'a LocalCall),
 }

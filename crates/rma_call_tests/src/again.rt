@@ -3,7 +3,7 @@ use crate::book::ended;
 use crate::buffers::{Case, check, ended_with};
 use rma_base::{FormReason, Rank};
 use rma_book::BookEnd;
-use rma_bytes::Layout;
+use rma_bytes::MovedLayout;
 use rma_call::{CallList, EpochCall, MessageCall, MovingCall, WhatRef};
 use std::process::Abort;
 use std::test::Fail;
@@ -99,8 +99,8 @@ fn check_again(rt: &impl Abort, calls: &CallList) {
     for i in 0..TOUCHED.len() {
         match calls.get(i + 1).what {
             WhatRef::Rma(call) => {
-                assert!(rt; call.at_target.len() == 1);
-                assert_eq!(rt; call.at_target.get(0).len, TOUCHED[i]);
+                assert!(rt; call.at_target().len() == 1);
+                assert_eq!(rt; call.at_target().get(0).len, TOUCHED[i]);
             }
             _ => assert!(rt; false),
         }
@@ -140,7 +140,7 @@ static PLACES: [(u32, u64, i64, i64, i64); 5] = [
 ];
 
 /// Where the one run of a buffer that is there begins.
-fn start_of(layout: &Option<Layout>) -> i64 {
+fn start_of(layout: &Option<MovedLayout<'_>>) -> i64 {
     match layout {
         Some(layout) if layout.len() == 1 => layout.get(0).start,
         _ => -1,
@@ -153,11 +153,11 @@ fn check_elsewhere(rt: &impl Abort, calls: &CallList) {
         let (target, displacement, origin, compare, result) = PLACES[i];
         match calls.get(i + 1).what {
             WhatRef::Rma(call) => {
-                assert!(rt; call.target == Some(Rank(target)));
-                assert_eq!(rt; call.displacement, displacement);
-                assert_eq!(rt; start_of(&call.origin), origin);
-                assert_eq!(rt; start_of(&call.compare), compare);
-                assert_eq!(rt; start_of(&call.result), result);
+                assert!(rt; call.target() == Some(Rank(target)));
+                assert_eq!(rt; call.displacement(), displacement);
+                assert_eq!(rt; start_of(&call.origin()), origin);
+                assert_eq!(rt; start_of(&call.compare()), compare);
+                assert_eq!(rt; start_of(&call.result()), result);
             }
             _ => assert!(rt; false),
         }

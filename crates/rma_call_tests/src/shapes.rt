@@ -2,8 +2,8 @@
 use crate::buffers::ended_with;
 use rma_base::Rank;
 use rma_book::BookEnd;
-use rma_bytes::Layout;
-use rma_call::{CallList, LocalAccess, RmaCall, RmaKind, WhatRef};
+use rma_bytes::MovedLayout;
+use rma_call::{CallList, LocalAccess, RmaKind, RmaRef, WhatRef};
 use rma_datatype::{Basic, Op};
 use std::process::Abort;
 use std::test::Fail;
@@ -147,7 +147,7 @@ static LOCALS: [(&str, LocalAccess, Shape); 3] = [
     ),
 ];
 
-fn check_shape(rt: &impl Abort, layout: &Layout, shape: Shape, lines: &str) {
+fn check_shape(rt: &impl Abort, layout: &MovedLayout<'_>, shape: Shape, lines: &str) {
     let (runs, element, overlaps) = shape;
     assert!(rt; layout.element() == element, "{lines}");
     assert!(rt; layout.overlaps() == overlaps, "{lines}");
@@ -158,7 +158,12 @@ fn check_shape(rt: &impl Abort, layout: &Layout, shape: Shape, lines: &str) {
     }
 }
 
-fn check_buffer(rt: &impl Abort, layout: &Option<Layout>, shape: Option<Shape>, lines: &str) {
+fn check_buffer(
+    rt: &impl Abort,
+    layout: &Option<MovedLayout<'_>>,
+    shape: Option<Shape>,
+    lines: &str,
+) {
     match (layout, shape) {
         (Some(layout), Some(shape)) => check_shape(rt, layout, shape, lines),
         (None, None) => {}
@@ -166,19 +171,19 @@ fn check_buffer(rt: &impl Abort, layout: &Option<Layout>, shape: Option<Shape>, 
     }
 }
 
-fn check_call(rt: &impl Abort, call: &RmaCall, case: &Case) {
+fn check_call(rt: &impl Abort, call: RmaRef<'_>, case: &Case) {
     let (lines, kind, target, displacement, shapes) = *case;
     let (at_target, origin, into, compare) = shapes;
-    assert!(rt; call.window.text() == "W", "{lines}");
-    assert!(rt; call.kind == kind, "{lines}");
-    assert!(rt; call.target == target, "{lines}");
-    assert!(rt; call.displacement == displacement, "{lines}");
+    assert!(rt; call.window().text() == "W", "{lines}");
+    assert!(rt; call.kind() == kind, "{lines}");
+    assert!(rt; call.target() == target, "{lines}");
+    assert!(rt; call.displacement() == displacement, "{lines}");
     if let Some(shape) = at_target {
-        check_shape(rt, &call.at_target, shape, lines);
+        check_shape(rt, &MovedLayout::unmoved(call.at_target()), shape, lines);
     }
-    check_buffer(rt, &call.origin, origin, lines);
-    check_buffer(rt, &call.result, into, lines);
-    check_buffer(rt, &call.compare, compare, lines);
+    check_buffer(rt, &call.origin(), origin, lines);
+    check_buffer(rt, &call.result(), into, lines);
+    check_buffer(rt, &call.compare(), compare, lines);
 }
 
 /// What the call behind the creation of the window does.
@@ -210,7 +215,7 @@ fn local_accesses_have_the_bytes_of_their_memory(rt: HostRuntime) -> Result<(), 
             BookEnd::Calls(calls) => match second(&rt, calls.calls()) {
                 WhatRef::Local(call) => {
                     assert!(&rt; call.access == *access);
-                    check_shape(&rt, &call.layout, *shape, lines);
+                    check_shape(&rt, &MovedLayout::unmoved(&call.layout), *shape, lines);
                 }
                 _ => assert!(&rt; false),
             },

@@ -15,7 +15,7 @@ use denote.Bor.{Bor}
 use Rattle.rma_call.specs.Call.{what_of}
 use Rattle.rma_call.specs.declared.what.WhatRef.{WhatRef}
 use Rattle.rma_call.specs.declared.what.WhatRef.TheVariants as ref
-use Rattle.rma_call.specs.declared.rma.RmaCall.{RmaCall}
+use Rattle.rma_call.specs.declared.rma.RmaRef.{RmaRef}
 use Rattle.rma_call.specs.declared.window.WindowCall.{WindowCall}
 use Rattle.rma_call.specs.declared.what.What.{What}
 use Rattle.rma_call.specs.declared.what.What.TheVariants.{Sync, Rma, Local}
@@ -174,10 +174,10 @@ pub next_epoch : (n : ℕ) (call known : EpochCall) → call ≡ known → (past
 next_epoch n call known same past old new is next = subst (λ (own : EpochCall). open_of new ≡ open_after ((n, Sync (Epoch own)) ∷ past)) (sym same) (next_is n (Sync (Epoch known)) past old new is next)
 
 -- and of one that is on no window, which leaves all as it is
-pub next_other : (n : ℕ) (what : WhatRef) → ((call : Bor EpochCall) → what ≡ ref.Epoch call → ⊥) → ((call : Bor RmaCall) → what ≡ ref.Rma call → ⊥) → ((call : Bor WindowCall) → what ≡ ref.Window call → ⊥)
+pub next_other : (n : ℕ) (what : WhatRef) → ((call : Bor EpochCall) → what ≡ ref.Epoch call → ⊥) → ((access : RmaRef) → what ≡ ref.Rma access → ⊥) → ((call : Bor WindowCall) → what ≡ ref.Window call → ⊥)
     → (past : List (ℕ × What)) (own : OpenEpochs) → open_of own ≡ open_after past → open_of own ≡ open_after ((n, what_of what) ∷ past)
 next_other n (ref.Epoch call) epoch rma window past own is = absurd (epoch call refl)
-next_other n (ref.Rma call) epoch rma window past own is = absurd (rma call refl)
+next_other n (ref.Rma access) epoch rma window past own is = absurd (rma access refl)
 next_other n (ref.Window call) epoch rma window past own is = absurd (window call refl)
 next_other n (ref.Frame call) epoch rma window past own is =
     next_is n (Sync (Frame call.now)) past own own is (record { start = refl; post = refl; lock_all = refl; lock_on = λ t. refl; phase = refl; freed = refl })

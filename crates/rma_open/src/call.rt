@@ -11,7 +11,7 @@ pub fn window_on<'a>(what: WhatRef<'a>) -> Option<&'a Name>
     ensures { option_copied result ≡ window_on (what_of what.entry) }
 {
     match what {
-        WhatRef::Rma(call) => Some(&call.window),
+        WhatRef::Rma(call) => Some(call.window()),
         WhatRef::Epoch(call) => Some(window_in(call)),
         WhatRef::Window(WindowCall::Free { window }) => Some(window),
         _ => None,

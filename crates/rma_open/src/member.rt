@@ -2,6 +2,7 @@
 ghost use Rattle.std.specs.Prelude.{◌≡◌, ℕ, List, is_none};
 ghost use Rattle.std.specs.Option.{option_and_then};
 ghost use Rattle.std.specs.List.{list_any};
+ghost use Rattle.rma_call.specs.Rma.{access_of};
 ghost use Rattle.rma_call.specs.declared.what.What.TheVariants.{Sync};
 ghost use Rattle.rma_call.specs.declared.what.SyncCall.TheVariants.{Epoch};
 ghost use Rattle.rma_window.specs.Windows.{number_of, part_named, part_of};
@@ -9,19 +10,19 @@ ghost use Rattle.rma_open.specs.Calls.{window_in};
 ghost use Rattle.rma_open.specs.Reason.{lacks_part, not_member};
 
 use rma_base::Rank;
-use rma_call::{EpochCall, RmaCall};
+use rma_call::{EpochCall, RmaRef};
 use rma_window::{Part, WindowId, Windows};
 
 /// The part of the target of an access, where it has a target and that has a part of the window, which has this number.
 pub(crate) fn target_part(
     windows: &Windows,
     window: Option<WindowId>,
-    access: &RmaCall,
+    access: RmaRef<'_>,
 ) -> Option<Part>
-    requires { window ≡ number_of windows.now access.now.window }
-    ensures { result ≡ option_and_then (part_named windows.now access.now.window) access.now.target }
+    requires { window ≡ number_of windows.now (access_of access).window }
+    ensures { result ≡ option_and_then (part_named windows.now (access_of access.entry).window) (access_of access.entry).target }
 {
-    match access.target {
+    match access.target() {
         Some(target) => part_at(windows, window, target),
         None => None,
     }

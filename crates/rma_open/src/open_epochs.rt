@@ -1,6 +1,7 @@
 //! What is open on one window.
 ghost use Rattle.std.specs.Prelude.{◌≡◌, ◌||◌, ◌∷◌, [], ℕ, List, Option, IfOk, OnOk, is_some};
 ghost use Rattle.std.specs.Option.{option_or};
+ghost use Rattle.rma_call.specs.Rma.{access_of};
 ghost use Rattle.rma_call.specs.Call.{call_of, what_of};
 ghost use Rattle.rma_call.specs.declared.what.What.{What};
 ghost use Rattle.rma_call.specs.declared.what.What.TheVariants.{Rma, Sync};
@@ -23,7 +24,7 @@ use crate::opening::{
 use crate::settled::Settled;
 use indexmap::IndexMap;
 use rma_base::{EpochReason, Memory, Rank};
-use rma_call::{Assertions, CallRef, EpochCall, LockKind, RmaCall, WhatRef, WindowCall};
+use rma_call::{Assertions, CallRef, EpochCall, LockKind, RmaRef, WhatRef, WindowCall};
 use std::alloc::Global;
 
 /// What a rank has open on one window.
@@ -104,12 +105,12 @@ impl OpenEpochs {
     fn take_access(
         &mut self,
         settled: Settled,
-        access: &RmaCall,
+        access: RmaRef<'_>,
         request: Option<u32>,
     ) -> Option<EpochReason>
-        ensures reason { result ≡ reason_among settled (open_of self.old) (Rma access.now) request }
+        ensures reason { result ≡ reason_among settled (open_of self.old) (Rma (access_of access.entry)) request }
         ensures taken { (number : ℕ) (past : List (ℕ × What)) → open_of self.old ≡ open_after past
-            → open_of self.new ≡ open_after (past_with result (number, Rma access.now) past) }
+            → open_of self.new ≡ open_after (past_with result (number, Rma (access_of access.entry)) past) }
     {
         let reason = self.access_reason(settled, access, request);
         if reason.is_some() {
@@ -208,7 +209,7 @@ impl OpenEpochs {
         ensures { result ≡ opening_in (open_of self.now) (what_of what.entry) }
     {
         match what {
-            WhatRef::Rma(access) => match access.target {
+            WhatRef::Rma(access) => match access.target() {
                 Some(target) => self.reaching(target),
                 None => None,
             },

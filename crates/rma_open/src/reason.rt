@@ -1,5 +1,6 @@
 //! Why a call stands in no epoch that allows it, where its ranks all have a part of its window.
 ghost use Rattle.std.specs.Prelude.{◌≡◌, ℕ, List, Some, None, if◌then◌else◌};
+ghost use Rattle.rma_call.specs.Rma.{access_of};
 ghost use Rattle.rma_call.specs.declared.what.What.TheVariants as what;
 ghost use Rattle.rma_call.specs.declared.epoch.EpochCall.TheVariants.{Fence};
 ghost use Rattle.rma_open.specs.Reason.{is_accessing, is_passive, reaches};
@@ -10,22 +11,22 @@ ghost use Rattle.rma_open.specs.inside.Settled.{reason_among};
 use crate::open_epochs::OpenEpochs;
 use crate::settled::Settled;
 use rma_base::{EpochReason, Rank};
-use rma_call::{Assertions, EpochCall, RmaCall};
+use rma_call::{Assertions, EpochCall, RmaRef};
 
 impl OpenEpochs {
     /// The first reason of an access to a target, of which this is settled.
     pub(crate) fn access_reason(
         &self,
         settled: Settled,
-        access: &RmaCall,
+        access: RmaRef<'_>,
         request: Option<u32>,
     ) -> Option<EpochReason>
-        ensures { result ≡ reason_among settled (open_of self.now) (what.Rma access.now) request }
+        ensures { result ≡ reason_among settled (open_of self.now) (what.Rma (access_of access.entry)) request }
     {
-        if !self.reaches(access.target) {
+        if !self.reaches(access.target()) {
             return Some(EpochReason::NoEpoch);
         }
-        if request.is_some() && !self.is_passive(access.target) {
+        if request.is_some() && !self.is_passive(access.target()) {
             return Some(EpochReason::RequestOutsidePassive);
         }
         if_so(settled.outside_window, EpochReason::OutsideWindow)

@@ -1,6 +1,7 @@
 //! What of a call on a window is settled, whatever is open there.
 ghost use Rattle.std.specs.Prelude.{◌≡◌, false};
 ghost use Rattle.std.specs.Option.{option_map_or};
+ghost use Rattle.rma_call.specs.Rma.{access_of};
 ghost use Rattle.rma_call.specs.Call.{what_of};
 ghost use Rattle.rma_call.specs.declared.what.What.TheVariants.{Rma};
 ghost use Rattle.rma_window.specs.Windows.{number_of};
@@ -10,7 +11,7 @@ ghost use Rattle.rma_open.specs.inside.Settled.{settled_by};
 
 use crate::member::{names_stranger, target_part};
 use crate::range::touches_outside;
-use rma_call::{RmaCall, WhatRef};
+use rma_call::{RmaRef, WhatRef};
 use rma_window::{Part, WindowId, Windows};
 
 /// What of a call on a window is settled, whatever is open there. It is asked once for all calls that do the same.
@@ -42,25 +43,25 @@ impl Settled {
     }
 
     /// The same of an access to a target.
-    fn of_access(windows: &Windows, window: Option<WindowId>, access: &RmaCall) -> Settled
-        requires { window ≡ number_of windows.now access.now.window }
-        ensures { result ≡ settled_by windows.now (Rma access.now) }
+    fn of_access(windows: &Windows, window: Option<WindowId>, access: RmaRef<'_>) -> Settled
+        requires { window ≡ number_of windows.now (access_of access).window }
+        ensures { result ≡ settled_by windows.now (Rma (access_of access.entry)) }
     {
         let part = target_part(windows, window, access);
         let lacks_part = part.is_none();
         Settled {
-            not_member: access.target.is_some() && lacks_part,
+            not_member: access.target().is_some() && lacks_part,
             outside_window: is_outside(part, access),
         }
     }
 }
 
 /// Whether the access touches a byte outside the part, if there is one.
-fn is_outside(part: Option<Part>, access: &RmaCall) -> bool
-    ensures { result ≡ option_map_or (λ part. touches_outside part access.now.displacement access.now.at_target.runs) part false }
+fn is_outside(part: Option<Part>, access: RmaRef<'_>) -> bool
+    ensures { result ≡ option_map_or (λ part. touches_outside part (access_of access.entry).displacement (access_of access.entry).at_target.runs) part false }
 {
     match part {
-        Some(part) => touches_outside(part, access.displacement, &access.at_target),
+        Some(part) => touches_outside(part, access.displacement(), access.at_target()),
         None => false,
     }
 }
