@@ -3,4 +3,4 @@ pub mod SiteLemmas
 pub mod SlotLemmas
 pub mod ReaderLemmas
 pub mod AccessLemmas
-pub mod PartLemmas
+pub mod AlikeLemmas

@@ -1,9 +1,11 @@
--- The last field of a text.
-use Rattle.std.proofs.Common.{◌≡◌, ℕ, ◌+◌, true, false, List, [], ◌∷◌, ◌++◌, refl, sym, ap, ◌∙◌, ⊎_elim, if◌then◌else◌}
+-- The words of texts that are put together.
+use Rattle.std.proofs.Common.{◌≡◌, ℕ, ◌+◌, ◌<◌, true, false, List, [], ◌∷◌, ◌++◌, length, refl, sym, ap, subst, ◌∙◌, ⊎_elim, if◌then◌else◌, arith}
 use Rattle.std.proofs.lemmas.Bool.{cases_Bool, false≢true}
+use Rattle.std.proofs.lemmas.List.{append-nil, append_assoc}
 use Rattle.std.specs.List.{list_all, onto_first}
 use Rattle.rma_base.proofs.NameLemmas.{and_left, and_right}
 use Rattle.rma_lex.specs.Field.{Field, is_blank, is_field, begins_field, onto_first_field, fields_from, fields, texts}
+use Rattle.rma_reader.specs.inside.Accesses.{EndsBlank, words_in}
 
 -- the longest runs of bytes that are no blanks
 abbrev pub runs : List ℕ → List (List ℕ)
@@ -85,3 +87,69 @@ pub texts_fields_last : (bytes : List ℕ) (blank byte : ℕ) (word : List ℕ) 
 texts_fields_last bytes blank byte word is all =
     texts_fields_from 0 (bytes ++ blank ∷ byte ∷ word) ∙ runs_apart bytes blank (byte ∷ word) is
     ∙ ap (λ them. runs bytes ++ them) (runs_word byte word all) ∙ ap (λ them. them ++ (byte ∷ word) ∷ []) (sym (texts_fields_from 0 bytes))
+
+-- ---- blanks in a text
+
+blank_of : (byte : ℕ) → is_field byte ≡ false → is_blank byte ≡ true
+blank_of byte apart = ⊎_elim (λ (blank : is_blank byte ≡ true). blank) (λ (other : is_blank byte ≡ false). absurd (false≢true (sym (rw other at apart)))) (cases_Bool (is_blank byte))
+
+-- blanks before a text add no word
+pub runs_blanks : (blanks rest : List ℕ) → list_all is_blank blanks ≡ true → runs (blanks ++ rest) ≡ runs rest
+runs_blanks [] rest all = refl
+runs_blanks (byte ∷ blanks) rest all =
+    let here = and_left (is_blank byte) _ all in
+    rw here (runs_blanks blanks rest (and_right (is_blank byte) _ all))
+
+runs_none : (blanks : List ℕ) → list_all is_blank blanks ≡ true → runs blanks ≡ []
+runs_none blanks all = ap runs (sym (append-nil blanks)) ∙ runs_blanks blanks [] all
+
+-- nor do blanks behind it
+pub runs_then_blanks : (front blanks : List ℕ) → list_all is_blank blanks ≡ true → runs (front ++ blanks) ≡ runs front
+runs_then_blanks front [] all = ap runs (append-nil front)
+runs_then_blanks front (byte ∷ blanks) all =
+    runs_apart front byte blanks (and_left (is_blank byte) _ all) ∙ ap (λ them. runs front ++ them) (runs_none blanks (and_right (is_blank byte) _ all)) ∙ append-nil (runs front)
+
+-- the words of two texts, the first of which ends with a blank, are those of both
+pub runs_behind : (front rest : List ℕ) → EndsBlank front → runs (front ++ rest) ≡ runs front ++ runs rest
+runs_behind front rest ends =
+    let alone : runs front ≡ runs ends.front = ap runs ends.parted ∙ runs_apart ends.front ends.blank [] ends.is ∙ append-nil (runs ends.front) in
+    ap (λ them. runs (them ++ rest)) ends.parted ∙ ap runs (append_assoc ends.front (ends.blank ∷ []) rest) ∙ runs_apart ends.front ends.blank rest ends.is
+    ∙ ap (λ them. them ++ runs rest) (sym alone)
+
+-- so are they where the second begins with no field
+pub runs_before : (front rest : List ℕ) → begins_field rest ≡ false → runs (front ++ rest) ≡ runs front ++ runs rest
+runs_before front [] apart = ap runs (append-nil front) ∙ sym (append-nil (runs front))
+runs_before front (byte ∷ rest) apart =
+    let blank = blank_of byte apart in
+    let same : runs (byte ∷ rest) ≡ runs rest = rw blank refl in
+    runs_apart front byte rest blank ∙ ap (λ them. runs front ++ them) (sym same)
+
+-- a text ends with a blank, if blanks are its end
+pub ends_blank : (front blanks : List ℕ) → list_all is_blank blanks ≡ true → 0 < length blanks → EndsBlank (front ++ blanks)
+ends_blank front [] all some = absurd (omega (arith, some))
+ends_blank front (byte ∷ []) all some = record { front = front; blank = byte; is = and_left (is_blank byte) true all; parted = refl }
+ends_blank front (byte ∷ next ∷ blanks) all some =
+    subst EndsBlank (append_assoc front (byte ∷ []) (next ∷ blanks)) (ends_blank (front ++ byte ∷ []) (next ∷ blanks) (and_right (is_blank byte) _ all) (omega arith))
+
+-- blanks stand before a word, if no field stands at the front
+pub some_blanks : (blanks word rest : List ℕ) → begins_field (blanks ++ (word ++ rest)) ≡ false → list_all is_field word ≡ true → 0 < length word → 0 < length blanks
+some_blanks [] [] rest apart all some = absurd (omega (arith, some))
+some_blanks [] (byte ∷ word) rest apart all some = absurd (false≢true (sym apart ∙ and_left (is_field byte) _ all))
+some_blanks (byte ∷ blanks) word rest apart all some = omega arith
+
+-- what a text begins with is in its front, if that ends with a blank
+pub begins_front : (front rest : List ℕ) → EndsBlank front → begins_field (front ++ rest) ≡ begins_field front
+begins_front [] rest ends = absurd (nothing_ends ends.front ends.blank ends.parted)
+  where
+    nothing_ends : (front : List ℕ) (blank : ℕ) → [] ≡ front ++ blank ∷ [] → ⊥
+    nothing_ends [] blank is = cc is
+    nothing_ends (byte ∷ front) blank is = cc is
+begins_front (byte ∷ front) rest ends = refl
+
+-- the words of a text in which one stands between blanks
+pub words_round : (front word rest : List ℕ) → EndsBlank front → words_in word ≡ word ∷ [] → begins_field rest ≡ false
+    → words_in (front ++ (word ++ rest)) ≡ words_in front ++ word ∷ words_in rest
+words_round front word rest ends is apart =
+    texts_fields_from 0 (front ++ (word ++ rest)) ∙ runs_behind front (word ++ rest) ends
+    ∙ ap (λ them. runs front ++ them) (runs_before word rest apart ∙ ap (λ them. them ++ runs rest) (sym (texts_fields_from 0 word) ∙ is))
+    ∙ ap (λ them. them ++ word ∷ runs rest) (sym (texts_fields_from 0 front)) ∙ ap (λ them. words_in front ++ word ∷ them) (sym (texts_fields_from 0 rest))

@@ -1,8 +1,12 @@
 -- What a reader of the lines of one log keeps and answers.
 use Rattle.std.specs.Prelude.{◌≡◌, ℕ, List, Option, Some, slice_get}
 use Rattle.rma_base.specs.declared.version.Version.{Version}
+use Rattle.rma_call.specs.declared.rma.Placement.{Placement}
+use Rattle.rma_call.specs.declared.rma.RmaCall.{RmaCall}
 use Rattle.rma_call.specs.declared.what.What.{What}
+use Rattle.rma_call.specs.declared.what.What.TheVariants.{Rma}
 use Rattle.rma_call.specs.Call.{CallTable}
+use Rattle.rma_call.specs.Rma.{placed}
 use Rattle.rma_form.specs.declared.event.Stated.{Stated}
 use Rattle.rma_reader.specs.declared.read_line.ReadLine.{ReadLine}
 use Rattle.rma_reader.specs.Known.{Known}
@@ -26,3 +30,9 @@ pub record Grows (old new : Reading) : Type 0 where
   pub known : new.known ≡ old.known
   pub whats : (number : ℕ) (value : What) → slice_get old.calls.whats number ≡ Some value → slice_get new.calls.whats number ≡ Some value
   pub sites : (number : ℕ) (value : List ℕ) → slice_get old.calls.sites number ≡ Some value → slice_get new.calls.sites number ≡ Some value
+
+-- a number is that of what the access of another number does there
+pub record IsPlaced (old new : List What) (what : ℕ) (place : Placement) (number : ℕ) : Type 0 where
+  pub call : RmaCall
+  pub of : slice_get old what ≡ Some (Rma call)
+  pub is : slice_get new number ≡ Some (Rma (placed call place))

@@ -20,6 +20,7 @@ mod known_line;
 mod known_lines;
 mod known_sites;
 mod line_reader;
+mod number_at;
 mod numbered_calls;
 mod read_line;
 mod shared_sites;

@@ -10,7 +10,7 @@ ghost use Rattle.rma_form.specs.Lines.{reading, site_of, states};
 ghost use Rattle.rma_field.specs.Steps.{Fails};
 ghost use Rattle.rma_reader.specs.Elsewhere.{IsKnownElsewhere};
 ghost use Rattle.rma_reader.specs.Known.{Known, IsAmong, IsKnownLine};
-ghost use Rattle.rma_reader.specs.Reading.{Grows, IsRead};
+ghost use Rattle.rma_reader.specs.Reading.{Grows, IsPlaced, IsRead};
 ghost use Rattle.rma_reader.specs.Sites.{IsSiteOf};
 ghost use Rattle.rma_reader.specs.Split.{IsSplit};
 ghost use Rattle.rma_reader.specs.inside.Tables.{Reads};
@@ -24,7 +24,7 @@ use crate::read_line::{KnownCall, PlacedCall, ReadLine};
 use crate::shared_sites::SharedSites;
 use crate::split_line::{SplitLine, is_comment};
 use rma_base::{LineNo, Memory, Name, Version};
-use rma_call::{CallList, What, WhatRef};
+use rma_call::{CallList, Placement, What, WhatRef};
 use rma_form::{Event, Stated};
 use rma_parse::{ParseError, Texts, parse_line};
 use std::alloc::Global;
@@ -292,6 +292,21 @@ impl LineReader {
         ensures grows { Grows self.old self.new }
     {
         self.calls.add_what(what)
+    }
+
+    /// Gives a number to an access that the access of a number makes elsewhere, where that is known by itself.
+    ///
+    /// # Errors
+    ///
+    /// `Memory` also where the table is full.
+    #[inline]
+    pub fn add_placed(&mut self, what: u32, place: &Placement) -> Result<Option<u32>, Memory>
+        requires { what < length self.old.calls.whats }
+        ensures number { IfOk result (λ number. IfSome number (IsPlaced self.old.calls.whats self.new.calls.whats what place.now)) }
+        ensures none { result ≡ Ok None → self.new ≡ self.old }
+        ensures grows { Grows self.old self.new }
+    {
+        self.calls.add_placed(what, place)
     }
 
     /// Appends the call of these numbers.

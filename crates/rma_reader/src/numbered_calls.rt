@@ -1,11 +1,12 @@
 //! The calls of a log, and the numbers of what they share.
-ghost use Rattle.std.specs.Prelude.{◌≡◌, ◌+◌, ◌<◌, ◌^◌, ◌++◌, ◌∷◌, [], length, slice_get, IfOk, IfErr, IfSome, OnOk, Some, option_map, true};
+ghost use Rattle.std.specs.Prelude.{◌≡◌, ◌+◌, ◌<◌, ◌^◌, ◌++◌, ◌∷◌, [], length, slice_get, IfOk, IfErr, IfSome, OnOk, None, Ok, Some, option_map, true};
 ghost use Rattle.std.specs.Option.{option_and_then};
 ghost use Rattle.rma_call.specs.declared.what.What.{What};
 ghost use Rattle.rma_call.specs.Call.{no_calls};
 ghost use Rattle.rma_field.specs.Sites.{site};
 ghost use Rattle.rma_field.specs.Steps.{Fails, Gives};
 ghost use Rattle.rma_form.specs.Lines.{site_of};
+ghost use Rattle.rma_reader.specs.Reading.{IsPlaced};
 ghost use Rattle.rma_reader.specs.Sites.{IsNumbered, IsSite, IsSiteOf};
 ghost use Rattle.rma_reader.specs.inside.Tables.{AddsSites, AddsWhats};
 
@@ -14,7 +15,7 @@ use crate::known_sites::KnownSites;
 use crate::shared_sites::SharedSites;
 use indexmap::IndexMap;
 use rma_base::{FormReason, LineNo, Memory, NameError, Site};
-use rma_call::{CallList, What};
+use rma_call::{CallList, Placement, What};
 use rma_parse::{ParseError, ParseFault};
 use std::alloc::Global;
 use std::marker::Model;
@@ -107,6 +108,17 @@ impl NumberedCalls {
         ensures adds { AddsWhats self.old self.new }
     {
         self.list.add_what(what)
+    }
+
+    /// Gives a number to an access that the access of a number makes elsewhere, where that is known by itself.
+    #[inline]
+    pub(crate) fn add_placed(&mut self, what: u32, place: &Placement) -> Result<Option<u32>, Memory>
+        requires { what < length self.old.whats }
+        ensures number { IfOk result (λ number. IfSome number (IsPlaced self.old.whats self.new.whats what place.now)) }
+        ensures none { result ≡ Ok None → self.new ≡ self.old }
+        ensures adds { AddsWhats self.old self.new }
+    {
+        self.list.add_placed(what, place)
     }
 
     /// The number of the site of this text, if there is one.

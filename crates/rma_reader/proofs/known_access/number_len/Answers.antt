@@ -1,7 +1,7 @@
 use Rattle.std.proofs.Common.{◌≤◌, ◌<◌, length, take, subst, sym, arith}
 use Rattle.std.proofs.lemmas.List.{length-take-le}
 use Rattle.rma_reader.specs.inside.Accesses.{IsNumberWord}
-use Rattle.rma_reader.proofs.PartLemmas.{number_word}
+use Rattle.rma_reader.proofs.AlikeLemmas.{number_word}
 use Rattle.rma_reader.proofs.known_access.number_len.Goals as goal
 
 pub returns-then-not-is_full-clause-taken : goal.returns-then-not-is_full-clause-taken

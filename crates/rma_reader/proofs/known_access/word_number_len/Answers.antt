@@ -1,5 +1,5 @@
 use Rattle.std.proofs.Common.{take, refl}
-use Rattle.rma_reader.proofs.PartLemmas.{word_alone}
+use Rattle.rma_reader.proofs.AlikeLemmas.{word_alone}
 use Rattle.rma_reader.proofs.known_access.word_number_len.Goals as goal
 
 pub returns-then-take_number-clause-taken : goal.returns-then-take_number-clause-taken
