@@ -58,6 +58,8 @@ pub struct Book {
     comms: IndexMap<Name, RankSet>,
     /// The windows that were created, with what became of them.
     windows: IndexMap<Name, WindowState>,
+    /// Where among them the window stands of which a call spoke last.
+    last_window: usize,
     requests: Requests,
     /// The datatypes, with the layouts that came last.
     types: LayoutTable,
@@ -95,6 +97,7 @@ impl Book {
             ended: false,
             comms: IndexMap::new(alloc),
             windows: IndexMap::new(alloc),
+            last_window: 0,
             requests: Requests::new(alloc),
             types,
         })
@@ -155,13 +158,15 @@ impl Book {
             Said::Nothing => Ok(self.judged(false, FormReason::UnknownComm)),
             Said::OnComm(comm) => Ok(self.judged(!self.has_comm(comm), FormReason::UnknownComm)),
             Said::OnWindow(window) => {
-                Ok(self.judged(!self.is_there(window), FormReason::UnknownWindow))
+                let lacks = !self.finds(window);
+                Ok(self.judged(lacks, FormReason::UnknownWindow))
             }
             Said::WithPeer(comm, rank) => {
                 Ok(self.judged_with(!self.has_comm(comm), FormReason::UnknownComm, rank))
             }
             Said::WithTarget(window, rank) => {
-                Ok(self.judged_with(!self.is_there(window), FormReason::UnknownWindow, rank))
+                let lacks = !self.finds(window);
+                Ok(self.judged_with(lacks, FormReason::UnknownWindow, rank))
             }
             Said::WithRoot(comm, root) => Ok(self.judged_for(self.root_reason(comm, root))),
             Said::Making(new) => self.judge_making(&new),
@@ -357,10 +362,43 @@ impl Book {
         ensures { result ≡ is_there (lookup (is_same window.now) self.now.windows) }
     {
         match self.windows.get(window) {
-            Some(WindowState::Fixed) => true,
-            Some(WindowState::Dynamic) => true,
-            Some(WindowState::Freed) => false,
+            Some(state) => is_open(*state),
             None => false,
+        }
+    }
+
+    // Whether a window is there of which a call speaks: mostly that of which one spoke last, which is looked at first.
+    #[inline]
+    fn finds(&mut self, window: &Name) -> bool
+        ensures is { result ≡ is_there (lookup (is_same window.now) self.old.windows) }
+        ensures same { self.new ≡ self.old }
+    {
+        match self.state_at(self.last_window, window) {
+            Some(state) => is_open(state),
+            None => self.finds_anew(window),
+        }
+    }
+
+    // The same, where it is not known where the window stands.
+    #[inline(never)]
+    fn finds_anew(&mut self, window: &Name) -> bool
+        ensures is { result ≡ is_there (lookup (is_same window.now) self.old.windows) }
+        ensures same { self.new ≡ self.old }
+    {
+        if let Some(index) = self.windows.get_index_of(window) {
+            self.last_window = index;
+        }
+        self.is_there(window)
+    }
+
+    // What became of the window that stands at an index, if it is this one.
+    #[inline]
+    fn state_at(&self, index: usize, window: &Name) -> Option<WindowState>
+        ensures { IfSome result (λ state. lookup (is_same window.now) self.now.windows ≡ Some state) }
+    {
+        match self.windows.get_index(index) {
+            Some((name, state)) if name == window => Some(*state),
+            _ => None,
         }
     }
 
@@ -543,5 +581,16 @@ fn leaves_space(naming: &Naming<'_>) -> bool
     match naming.memory {
         Some((address, size)) => size > SPACE || address > SPACE - size,
         None => false,
+    }
+}
+
+/// Whether a window of which this became is there.
+fn is_open(state: WindowState) -> bool
+    ensures { result ≡ is_there (Some state) }
+{
+    match state {
+        WindowState::Fixed => true,
+        WindowState::Dynamic => true,
+        WindowState::Freed => false,
     }
 }

@@ -88,7 +88,7 @@ impl<'a> Said<'a> {
             WhatRef::Window(call) => of_window(call),
             WhatRef::Epoch(call) => of_epoch(call),
             WhatRef::Moving(call) => of_moving(call),
-            WhatRef::Rma(call) => of_access(&call.window, call.target, request),
+            WhatRef::Rma(call) => of_access(call.window(), call.target(), request),
             WhatRef::Local(_) => Said::Nothing,
         }
     }

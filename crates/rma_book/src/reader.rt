@@ -12,16 +12,16 @@ ghost use Rattle.rma_reader.specs.Sites.{IsSite};
 ghost use Rattle.rma_book.specs.Ends.{IsEnd};
 ghost use Rattle.rma_book.specs.Logs.{Checked};
 ghost use Rattle.rma_book.specs.Calls.{call_with};
-ghost use Rattle.rma_book.specs.inside.Elsewhere.{StatesWhat};
+ghost use Rattle.rma_book.specs.inside.Elsewhere.{StatesAccess, StatesAs};
 ghost use Rattle.rma_book.specs.inside.Known.{IsCallOf, IsStatedBy};
-ghost use Rattle.rma_book.specs.inside.Reading.{Adds, Appends, HasRead, IsReading, Reads, ReadsNext};
+ghost use Rattle.rma_book.specs.inside.Reading.{Adds, Appends, HasAdded, HasRead, IsReading, Reads, ReadsNext};
 
 use crate::book::{Book, Judged, JudgedAccess};
-use crate::elsewhere::{elsewhere, form_of, form_of_local};
+use crate::elsewhere::{Elsewhere, form_of, form_of_local, made_elsewhere};
 use crate::fault::{BookEnd, FormFault};
 use crate::sync_elsewhere::form_of_sync;
 use rma_base::{FormReason, LineNo, Memory, Name, Rank, Version};
-use rma_call::{RankCalls, SyncCall, What};
+use rma_call::{Placement, RankCalls, SyncCall, What};
 use rma_field::ParseError;
 use rma_form::{Event, LocalLine, RmaLine, TypeLine};
 use rma_lex::{LexFault, Line, LineCutter};
@@ -107,19 +107,21 @@ impl Reader {
         ensures { OnOk result (ReadsNext self.old self.new no.0 (Ok line.now.line)) }
     {
         match self.elsewhere(line)? {
-            Some(what) => self.read_elsewhere(no, line, what),
+            Some(found) => self.read_elsewhere(no, line, found),
             None => self.read_new(no, line),
         }
     }
 
-    // What the access of a line does, where it is known from another place.
-    fn elsewhere(&self, line: &SplitLine<'_>) -> Result<Option<What>, Memory>
-        ensures { IfOk result (λ found. IfSome found (StatesWhat self.now.lines line.now.words)) }
+    // What the call of a line does, where it is known from another place.
+    #[inline]
+    fn elsewhere(&self, line: &SplitLine<'_>) -> Result<Option<Elsewhere>, Memory>
+        ensures { IfOk result (λ found. IfSome found (StatesAs self.now.lines line.now.words)) }
     {
         let mut to = Numbers::new();
         match self.lines.elsewhere(line, &mut to) {
-            Some(found) => elsewhere(
+            Some(found) => made_elsewhere(
                 self.book.allocator(),
+                found.what,
                 self.lines.what(found.what),
                 found.from,
                 to.as_slice(),
@@ -128,13 +130,20 @@ impl Reader {
         }
     }
 
-    // Reads the next line, whose words state an access that does this.
-    fn read_elsewhere(&mut self, no: LineNo, line: &SplitLine<'_>, what: What) -> Result<(), Memory>
+    // Reads the next line, whose words state a call that does this.
+    fn read_elsewhere(
+        &mut self,
+        no: LineNo,
+        line: &SplitLine<'_>,
+        found: Elsewhere,
+    ) -> Result<(), Memory>
         requires fault { self.old.fault ≡ None }
-        requires what { StatesWhat self.old.lines line.now.words what }
+        requires found { StatesAs self.old.lines line.now.words found }
         ensures { OnOk result (ReadsNext self.old self.new no.0 (Ok line.now.line)) }
     {
-        let what = self.add(Some(line), what, None, false)?;
+        let Some(what) = self.add_elsewhere(line, found)? else {
+            return self.read_new(no, line);
+        };
         match self.lines.site(line) {
             Ok(site) => self.read_call(no, site, what, None),
             Err(ParseError::Fault(fault)) => {
@@ -143,6 +152,49 @@ impl Reader {
             }
             Err(ParseError::Memory) => Err(Memory),
         }
+    }
+
+    // Gives a number to what the words of a line state, where it is this. Those are noted then. None, where it has no number by
+    // itself.
+    #[inline]
+    fn add_elsewhere(
+        &mut self,
+        line: &SplitLine<'_>,
+        found: Elsewhere,
+    ) -> Result<Option<u32>, Memory>
+        requires { StatesAs self.old.lines line.now.words found }
+        ensures added { IfOk result (λ number. IfSome number (HasAdded self.old self.new line.now.words)) }
+        ensures none { result ≡ Ok None → self.new ≡ self.old }
+    {
+        match found {
+            Elsewhere::Access { what, place } => self.add_access(line, what, &place),
+            Elsewhere::Local(call) => Ok(Some(self.add(
+                Some(line),
+                What::Local(call),
+                None,
+                false,
+            )?)),
+            Elsewhere::Sync(call) => Ok(Some(self.add(Some(line), What::Sync(call), None, false)?)),
+        }
+    }
+
+    // The same of the access of a number, made at a place.
+    #[inline]
+    fn add_access(
+        &mut self,
+        line: &SplitLine<'_>,
+        what: u32,
+        place: &Placement,
+    ) -> Result<Option<u32>, Memory>
+        requires { StatesAccess self.old.lines line.now.words what place.now }
+        ensures added { IfOk result (λ number. IfSome number (HasAdded self.old self.new line.now.words)) }
+        ensures none { result ≡ Ok None → self.new ≡ self.old }
+    {
+        let Some(number) = self.lines.add_placed(what, place)? else {
+            return Ok(None);
+        };
+        self.lines.note(line, number, None, false)?;
+        Ok(Some(number))
     }
 
     // Reads the next line, which may be any.

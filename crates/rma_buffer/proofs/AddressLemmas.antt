@@ -30,7 +30,8 @@ use Rattle.rma_buffer.specs.Rules.{has_many_blocks, touched_in}
 use Rattle.rma_buffer.specs.declared.elsewhere.Place.{Place}
 use Rattle.rma_buffer.specs.declared.operand.Operand.{Operand}
 use Rattle.rma_buffer.specs.declared.operand.Operands.{Operands}
-use Rattle.rma_buffer.specs.inside.Elsewhere.{IsMoved, IsMovedIf, IsWithin, addresses_of, layout_by}
+use Rattle.rma_bytes.specs.Layout.{layout_by}
+use Rattle.rma_buffer.specs.inside.Elsewhere.{IsMoved, IsMovedIf, IsWithin, addresses_of}
 use Rattle.rma_buffer.proofs.LayoutLemmas.{runs_bytes, runs_canonical, same_bool, same_layout, shares_from, shares_to}
 use Rattle.rma_buffer.proofs.Words.{Basic, is_same, list_all, list_any}
 

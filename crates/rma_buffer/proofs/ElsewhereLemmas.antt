@@ -9,6 +9,8 @@ use Rattle.rma_base.specs.declared.rank.Rank.{Rank}
 use Rattle.rma_bytes.specs.Layout.{Layout}
 use Rattle.rma_call.specs.declared.local.LocalAccess.{LocalAccess}
 use Rattle.rma_call.specs.declared.local.LocalCall.{LocalCall}
+use Rattle.rma_call.specs.Rma.{placed}
+use Rattle.rma_call.specs.declared.rma.Placement.{Placement}
 use Rattle.rma_call.specs.declared.rma.RmaCall.{RmaCall}
 use Rattle.rma_call.specs.declared.rma.RmaKind.{RmaKind}
 use Rattle.rma_call.specs.declared.rma.RmaKind.TheVariants as kind
@@ -328,11 +330,11 @@ call_elsewhere call moved from_numbers to_numbers from to f t is = λ types line
     subst (λ xs. IsRmaCallOf types (line_at line xs) moved) (sym to_are)
     (of_there types line call moved of from to f.within t.within (subst (λ xs. line_at line xs ≡ line) from_are same) is)
 
-pub calls_elsewhere : {E : Type 0} (result : Result (Option RmaCall) E) (call : RmaCall) (from_numbers to_numbers : List ℕ) (from to : Place) → IsPlaceOf call.kind from_numbers from → IsPlaceOf call.kind to_numbers to →
-    IfOk result (λ found. IfSome found (IsMovedCall from to call)) → IfOk result (λ found. IfSome found (IsRmaCallElsewhere call from_numbers to_numbers))
-calls_elsewhere (Ok (Some moved)) call from_numbers to_numbers from to f t is = call_elsewhere call moved from_numbers to_numbers from to f t is
-calls_elsewhere (Ok None) call from_numbers to_numbers from to f t is = tt
-calls_elsewhere (Err error) call from_numbers to_numbers from to f t is = tt
+-- so does whatever was found
+pub placed_elsewhere : (found : Option Placement) (call : RmaCall) (from_numbers to_numbers : List ℕ) (from to : Place) → IsPlaceOf call.kind from_numbers from → IsPlaceOf call.kind to_numbers to →
+    IfSome found (λ place. IsMovedCall from to call (placed call place)) → IfSome found (λ place. IsRmaCallElsewhere call from_numbers to_numbers (placed call place))
+placed_elsewhere (Some place) call from_numbers to_numbers from to f t is = call_elsewhere call (placed call place) from_numbers to_numbers from to f t is
+placed_elsewhere None call from_numbers to_numbers from to f t is = tt
 
 -- ---- a local access at another address
 

@@ -5,13 +5,14 @@ ghost use Rattle.rma_bytes.specs.Runs.{IsInBounds, end_of};
 ghost use Rattle.rma_layout.specs.Refusal.{is_between};
 ghost use Rattle.rma_layout.specs.declared.space.Space.TheVariants as Space;
 ghost use Rattle.rma_typemap.specs.inside.Near.{IsNear};
+ghost use Rattle.rma_call.specs.Rma.{placed};
 ghost use Rattle.rma_buffer.specs.CallElsewhere.{IsLocalCallElsewhere, IsRmaCallElsewhere};
-ghost use Rattle.rma_buffer.specs.inside.Elsewhere.{IsMoved, IsMovedCall, IsMovedIf, IsMovedLocal, IsPlaceOf, IsWithin, LiesAt};
+ghost use Rattle.rma_buffer.specs.inside.Elsewhere.{IsMoved, IsMovedCall, IsMovedLocal, IsPlaceOf, IsWithin, LiesAt};
 
 use rma_base::limits::SPACE;
 use rma_base::{Memory, Rank};
-use rma_bytes::{Layout, Run};
-use rma_call::{LocalCall, RmaCall, RmaKind};
+use rma_bytes::{Distance, Layout, Run};
+use rma_call::{LocalCall, Placement, RmaCall, RmaKind};
 use std::alloc::Global;
 
 /// Where a call is made: what the numbers of its line say. A buffer that a call of its kind does not have is put at the origin.
@@ -29,33 +30,20 @@ struct Place {
     compare: u64,
 }
 
-/// The same call where other numbers say. None where its buffers would not lie in the space of addresses there, or the numbers
-/// are not those of such a call.
+/// Where the same call is made where other numbers say. None where its buffers would not lie in the space of addresses there, or
+/// the numbers are not those of such a call.
 ///
 /// `from` says where the call is made, and `to` where the other one is: the target, the displacement, and the addresses of the
 /// caller's buffers in the order of the line.
-///
-/// # Errors
-///
-/// Memory, where there is none left.
-pub fn one_sided_elsewhere(
-    alloc: Global,
-    call: &RmaCall,
-    from: &[u64],
-    to: &[u64],
-) -> Result<Option<RmaCall>, Memory>
-    ensures { IfOk result (λ found. IfSome found (IsRmaCallElsewhere call.now from.now to.now)) }
+pub fn one_sided_elsewhere(call: &RmaCall, from: &[u64], to: &[u64]) -> Option<Placement>
+    ensures { IfSome result (λ place. IsRmaCallElsewhere call.now from.now to.now (placed call.now place)) }
 {
     if call.target.is_none() {
-        return Ok(None);
+        return None;
     }
-    let Some(from) = place_of(call.kind, from) else {
-        return Ok(None);
-    };
-    let Some(to) = place_of(call.kind, to) else {
-        return Ok(None);
-    };
-    moved_call(alloc, call, &from, &to)
+    let from = place_of(call.kind, from)?;
+    let to = place_of(call.kind, to)?;
+    placement(call, &from, &to)
 }
 
 /// The same access where another number says. None where its memory would not lie in the space of addresses there, or the
@@ -141,36 +129,28 @@ fn address_of(numbers: &[u64]) -> Option<u64>
     }
 }
 
-// The call at another place, where its buffers lie in the space there.
-fn moved_call(
-    alloc: Global,
-    call: &RmaCall,
-    from: &Place,
-    to: &Place,
-) -> Result<Option<RmaCall>, Memory>
+// Where the call is made at another place, where its buffers lie in the space there.
+fn placement(call: &RmaCall, from: &Place, to: &Place) -> Option<Placement>
     requires from { IsWithin from.now }
     requires to { IsWithin to.now }
-    ensures { IfOk result (λ found. IfSome found (IsMovedCall from.now to.now call.now)) }
+    ensures { IfSome result (λ place. IsMovedCall from.now to.now call.now (placed call.now place)) }
 {
-    let origin = distance(from.origin, to.origin);
-    let into = distance(from.result, to.result);
-    let compare = distance(from.compare, to.compare);
-    if !lies_if(&call.origin, origin)
-        || !lies_if(&call.result, into)
-        || !lies_if(&call.compare, compare)
+    let origin = Distance::between(from.origin, to.origin);
+    let into = Distance::between(from.result, to.result);
+    let compare = Distance::between(from.compare, to.compare);
+    if !lies_if(&call.origin, origin.bytes())
+        || !lies_if(&call.result, into.bytes())
+        || !lies_if(&call.compare, compare.bytes())
     {
-        return Ok(None);
+        return None;
     }
-    Ok(Some(RmaCall {
-        window: call.window.copy()?,
-        target: Some(to.target),
-        kind: call.kind,
+    Some(Placement {
+        target: to.target,
         displacement: to.displacement,
-        at_target: copied(alloc, &call.at_target)?,
-        origin: moved_if(alloc, &call.origin, origin)?,
-        result: moved_if(alloc, &call.result, into)?,
-        compare: moved_if(alloc, &call.compare, compare)?,
-    }))
+        origin,
+        result: into,
+        compare,
+    })
 }
 
 // The access at another address, where its memory lies in the space there.
@@ -184,7 +164,7 @@ fn moved_local(
     requires to { to ≤ address_limit }
     ensures { IfOk result (λ found. IfSome found (IsMovedLocal from to call.now)) }
 {
-    let by = distance(from, to);
+    let by = Distance::between(from, to).bytes();
     if !lies_at(&call.layout, by) {
         return Ok(None);
     }
@@ -193,16 +173,6 @@ fn moved_local(
         access: call.access,
         layout,
     }))
-}
-
-// How far it is from one address to another.
-fn distance(from: u64, to: u64) -> i64
-    requires from { from ≤ address_limit }
-    requires to { to ≤ address_limit }
-    ensures is { result ≡ pos to -ℤ pos from }
-    ensures near { IsNear address_limit result }
-{
-    to as i64 - from as i64
 }
 
 // Whether a buffer that may be there lies in the space once it is moved.
@@ -246,29 +216,10 @@ fn end_of(run: Run) -> i64
     run.start + run.len as i64
 }
 
-// A buffer that may be there, moved by a distance.
-fn moved_if(alloc: Global, layout: &Option<Layout>, by: i64) -> Result<Option<Layout>, Memory>
-    requires { IfSome layout.now (LiesAt by) }
-    ensures { IfOk result (IsMovedIf by layout.now) }
-{
-    match layout {
-        Some(layout) => Ok(Some(moved(alloc, layout, by)?)),
-        None => Ok(None),
-    }
-}
-
 // A buffer, moved by a distance.
 fn moved(alloc: Global, layout: &Layout, by: i64) -> Result<Layout, Memory>
     requires { LiesAt by layout.now }
     ensures { IfOk result (IsMoved by layout.now) }
 {
     layout.moved(alloc, by)
-}
-
-// The same bytes at a target: they count from where the access starts.
-fn copied(alloc: Global, layout: &Layout) -> Result<Layout, Memory>
-    ensures { IfOk result (λ same. same ≡ layout.now) }
-{
-    let _in_order = layout.is_empty();
-    layout.moved(alloc, 0)
 }

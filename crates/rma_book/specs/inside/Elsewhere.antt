@@ -1,19 +1,25 @@
 -- The events of calls that a log repeats elsewhere.
-use Rattle.std.specs.Prelude.{◌≡◌, ℕ, List, [], ◌∷◌, None}
+use Rattle.std.specs.Prelude.{◌≡◌, ℕ, ◌<◌, List, [], ◌∷◌, length, slice_get, None, Some}
 use Rattle.rma_call.specs.declared.epoch.EpochCall.{EpochCall}
 use Rattle.rma_call.specs.declared.epoch.EpochCall.TheVariants.{Unlock, Flush, FlushLocal}
 use Rattle.rma_call.specs.declared.message.MessageCall.{MessageCall}
 use Rattle.rma_call.specs.declared.message.MessageCall.TheVariants.{Send, Recv}
 use Rattle.rma_call.specs.declared.moving.MovingCall.{MovingCall}
 use Rattle.rma_call.specs.declared.moving.MovingCall.TheVariants.{Bcast, Scatter, Gather, Reduce, Allreduce, Allgather, Alltoall}
+use Rattle.rma_call.specs.Rma.{placed}
+use Rattle.rma_call.specs.declared.rma.Placement.{Placement}
+use Rattle.rma_call.specs.declared.rma.RmaCall.{RmaCall}
 use Rattle.rma_call.specs.declared.what.SyncCall.{SyncCall}
 use Rattle.rma_call.specs.declared.what.SyncCall.TheVariants.{Message, Epoch, Moving}
 use Rattle.rma_call.specs.declared.what.What.{What}
+use Rattle.rma_call.specs.declared.what.What.TheVariants as what
 use Rattle.rma_form.specs.declared.event.Event.{Event}
 use Rattle.rma_form.specs.declared.event.Event.TheVariants.{Call, Rma, Local}
 use Rattle.rma_buffer.specs.Elsewhere.{line_at, local_at}
 use Rattle.rma_reader.specs.Reading.{Reading}
 use Rattle.rma_type.specs.Table.{Table}
+use Rattle.rma_book.specs.declared.elsewhere.Elsewhere.{Elsewhere}
+use Rattle.rma_book.specs.declared.elsewhere.Elsewhere.TheVariants as elsewhere
 use Rattle.rma_book.specs.inside.Known.{AreKnown, IsCallOf, IsStatedBy}
 
 -- a message with the rank and the tag of these numbers
@@ -61,3 +67,20 @@ DoesElsewhere what from to moved = (types : Table) (event : Event) → event_at 
 -- the words state a call that does this, where known words state what is known of them
 abbrev pub StatesWhat : Reading → List ℕ → What → Type 0
 StatesWhat reading words what = (types : Table) → AreKnown types reading → (event : Event) × IsStatedBy reading.version words event × IsCallOf types what None event
+
+-- the same of the access of a number, made at a place
+abbrev pub StatesAccess : Reading → List ℕ → ℕ → Placement → Type 0
+StatesAccess reading words number place =
+    (number < length reading.calls.whats) × ((call : RmaCall) → slice_get reading.calls.whats number ≡ Some (what.Rma call) → StatesWhat reading words (what.Rma (placed call place)))
+
+-- the same of what is done elsewhere
+abbrev pub StatesAs : Reading → List ℕ → Elsewhere → Type 0
+StatesAs reading words (elsewhere.Access number place) = StatesAccess reading words number place
+StatesAs reading words (elsewhere.Local call) = StatesWhat reading words (what.Local call)
+StatesAs reading words (elsewhere.Sync call) = StatesWhat reading words (what.Sync call)
+
+-- what is done elsewhere is what a call does of this number, which does this
+abbrev pub DoesAs : ℕ → What → List ℕ → List ℕ → Elsewhere → Type 0
+DoesAs number does from to (elsewhere.Access other place) = (other ≡ number) × ((call : RmaCall) → does ≡ what.Rma call → DoesElsewhere does from to (what.Rma (placed call place)))
+DoesAs number does from to (elsewhere.Local call) = DoesElsewhere does from to (what.Local call)
+DoesAs number does from to (elsewhere.Sync call) = DoesElsewhere does from to (what.Sync call)

@@ -1,5 +1,5 @@
 -- What was read of a log so far.
-use Rattle.std.specs.Prelude.{◌≡◌, ℕ, ◌+◌, List, [], ◌∷◌, ◌++◌, length, take, slice_get, Bool, true, Option, Some, None, IfSome, option_to_list, unwrap_or, if◌then◌else◌}
+use Rattle.std.specs.Prelude.{◌≡◌, ℕ, ◌+◌, List, [], ◌∷◌, ◌++◌, length, take, slice_get, Bool, true, false, Option, Some, None, IfSome, option_to_list, unwrap_or, if◌then◌else◌}
 use Rattle.std.specs.Option.{option_or}
 use Rattle.rma_base.specs.declared.line.LineNo.{LineNo}
 use Rattle.rma_lex.specs.Checked.{checked_lines}
@@ -14,6 +14,7 @@ use Rattle.rma_book.specs.Naming.{is_end, named_version}
 use Rattle.rma_book.specs.inside.BookState as state
 use Rattle.rma_book.specs.Calls.{call_of, calls_of, end_line, events_of, version_of}
 use Rattle.rma_book.specs.Types.{types_after}
+use Rattle.rma_book.specs.inside.Elsewhere.{StatesWhat}
 use Rattle.rma_book.specs.inside.Known.{AreKnown, IsCallOf, IsStatedBy}
 use Rattle.rma_type.specs.Table.{Table}
 use Rattle.rma_book.specs.Logs.{Checked, AreGood, AreGoodUntil, IsFirstBad, entries}
@@ -97,6 +98,13 @@ pub record Adds (old new : Reader) (words : Option (List ℕ)) (what : What) (re
   pub sites : (number : ℕ) (value : List ℕ) → slice_get old.lines.calls.sites number ≡ Some value → slice_get new.lines.calls.sites number ≡ Some value
   pub known : (types : Table) (event : Event) → AreKnown types old.lines → IfSome words (λ own. IsStatedBy old.lines.version own event) → IsCallOf types what request event
       → (lasts ≡ true → (sync : SyncCall) × (event ≡ Call sync request)) → AreKnown types new.lines
+
+-- the reader has this number for what these words state, which are noted
+pub record HasAdded (old new : Reader) (words : List ℕ) (number : ℕ) : Type 0 where
+  pub what : What
+  pub states : StatesWhat old.lines words what
+  pub is : slice_get new.lines.calls.whats number ≡ Some what
+  pub adds : Adds old new (Some words) what None false
 
 -- The reader has one call more. Known words state what they did, and so do these words, where the call is what they state.
 pub record Appends (old new : Reader) (words : Option (List ℕ)) (request : Option (List ℕ)) (call : CallOf) : Type 0 where

@@ -1,7 +1,7 @@
 -- Calls that are moved: where they are made, and how far their buffers move.
 use Rattle.std.specs.Prelude.{◌≡◌, ℕ, ◌≤◌, ℤ, pos, ◌-ℤ◌, List, [], ◌∷◌, map, Option, Some, None}
 use Rattle.rma_base.specs.Limits.{address_limit}
-use Rattle.rma_bytes.specs.Layout.{Layout}
+use Rattle.rma_bytes.specs.Layout.{Layout, layout_by}
 use Rattle.rma_bytes.specs.Runs.{moved}
 use Rattle.rma_call.specs.declared.local.LocalCall.{LocalCall}
 use Rattle.rma_call.specs.declared.rma.RmaCall.{RmaCall}
@@ -30,10 +30,6 @@ pub record IsWithin (it : Place) : Type 0 where
 pub record IsPlaceOf (kind : RmaKind) (numbers : List ℕ) (it : Place) : Type 0 where
   pub are : numbers ≡ it.target.0 ∷ it.displacement ∷ addresses_of kind it
   pub within : IsWithin it
-
--- the same bytes, moved by a distance
-abbrev pub layout_by : ℤ → Layout → Layout
-layout_by by it = record it { runs = map (moved by) it.runs }
 
 -- moved by a distance, they lie in the space
 abbrev pub LiesAt : ℤ → Layout → Type 0
