@@ -1,5 +1,5 @@
 -- What accesses do elsewhere, and the lines that state them.
-use Rattle.std.proofs.Common.{◌≡◌, ℕ, ◌<◌, length, List, Option, Some, None, IfSome, Result, Ok, Err, IfOk, option_map, slice_get, refl, sym, ap, subst, ◌∙◌}
+use Rattle.std.proofs.Common.{◌≡◌, ℕ, ◌<◌, Bool, false, is_some, length, List, Option, Some, None, option_map, slice_get, refl, sym, ap, subst, ◌∙◌}
 use Rattle.std.specs.Option.{option_and_then}
 use Rattle.rma_call.specs.declared.local.LocalCall.{LocalCall}
 use Rattle.rma_call.specs.Rma.{placed}
@@ -7,6 +7,7 @@ use Rattle.rma_call.specs.declared.rma.Placement.{Placement}
 use Rattle.rma_call.specs.declared.rma.RmaCall.{RmaCall}
 use Rattle.rma_call.specs.declared.what.What.{What}
 use Rattle.rma_call.specs.declared.what.What.TheVariants as what
+use Rattle.rma_call.specs.declared.what.SyncCall.{SyncCall}
 use Rattle.rma_form.specs.declared.event.Event.{Event}
 use Rattle.rma_form.specs.declared.event.Event.TheVariants.{Header, End, Call, Datatype, Rma, Local}
 use Rattle.rma_form.specs.declared.event.local_line.LocalLine.{LocalLine}
@@ -17,14 +18,16 @@ use Rattle.rma_buffer.specs.Operands.{kind_of, operand_of, operands_of}
 use Rattle.rma_buffer.specs.Rules.{buffers_reason, memory_reason}
 use Rattle.rma_buffer.specs.declared.operand.Operand.{Operand}
 use Rattle.rma_buffer.specs.declared.operand.Operands.{Operands}
-use Rattle.rma_reader.specs.Elsewhere.{IsKnownElsewhere}
+use Rattle.rma_reader.specs.Elsewhere.{Details, IsKnownElsewhere}
 use Rattle.rma_reader.specs.Reading.{Reading}
 use Rattle.rma_type.specs.Table.{Table}
-use Rattle.rma_book.specs.declared.elsewhere.Elsewhere.{Elsewhere}
-use Rattle.rma_book.specs.declared.elsewhere.Elsewhere.TheVariants as elsewhere
-use Rattle.rma_book.specs.inside.Elsewhere.{DoesAs, DoesElsewhere, StatesAs, StatesWhat, event_at}
+use Rattle.rma_book.specs.inside.Elsewhere.{DoesElsewhere, StatesAccess, StatesWhat, event_at, request_at, sync_at}
 use Rattle.rma_book.specs.inside.Known.{IsCallOf, IsStatedBy}
 use Rattle.rma_book.proofs.ElsewhereLemmas.{stated_elsewhere}
+
+none_is : {A : Type 0} (x : Option A) → is_some x ≡ false → x ≡ None
+none_is None none = refl
+none_is (Some x) none = cc none
 
 some_is : {A : Type 0} → (x y : A) → Some x ≡ Some y → x ≡ y
 some_is x y is = cc
@@ -52,25 +55,25 @@ rma_call_is types line call request (Some operands) are does good = record {
   good = good;
 }
 
-pub rma_done : (call moved : RmaCall) (from to : List ℕ) → IsRmaCallElsewhere call from to moved → DoesElsewhere (what.Rma call) from to (what.Rma moved)
+pub rma_done : (call moved : RmaCall) (from : List ℕ) (to : Details) → IsRmaCallElsewhere call from to.numbers moved → DoesElsewhere (what.Rma call) false from to (what.Rma moved) None
 unfolding line_in
-rma_done call moved from to there types (Rma line request) here is =
+rma_done call moved from to there types (Rma line request) name own here none is =
     let line_there = there types line (ap (λ event. line_in event line) here) (rma_call_is types line call request (operands_of types.live line.access) refl is.does is.good) in
     record {
       does = rw line_there.are (ap (λ own. Some (what.Rma own)) (sym line_there.is));
-      request = is.request;
+      request = is.request ∙ none_is own none;
       good = rw line_there.are line_there.good;
     }
-rma_done call moved from to there types (Local line) here is = by (operand_of types.live line.buffer) is.does
+rma_done call moved from to there types (Local line) name own here none is = by (operand_of types.live line.buffer) is.does
   where
     by : (memory : Option Operand) → option_map (λ memory. what.Local (local_call_of types.origins line.access memory)) memory ≡ Some (what.Rma call)
         → IsCallOf types (what.Rma moved) None (event_at (Local line) to)
     by None does = cc
     by (Some memory) does = cc
-rma_done call moved from to there types (Header version rank size) here is = let none : None ≡ Some (what.Rma call) = is.does in cc none
-rma_done call moved from to there types End here is = let none : None ≡ Some (what.Rma call) = is.does in cc none
-rma_done call moved from to there types (Datatype line) here is = let none : None ≡ Some (what.Rma call) = is.does in cc none
-rma_done call moved from to there types (Call own request) here is = let none = is.does in cc none
+rma_done call moved from to there types (Header version rank size) name own here none is = let bad : None ≡ Some (what.Rma call) = is.does in cc bad
+rma_done call moved from to there types End name own here none is = let bad : None ≡ Some (what.Rma call) = is.does in cc bad
+rma_done call moved from to there types (Datatype line) name own here none is = let bad : None ≡ Some (what.Rma call) = is.does in cc bad
+rma_done call moved from to there types (Call own_call request) name own here none is = let bad = is.does in cc bad
 
 -- ---- local accesses
 
@@ -94,57 +97,96 @@ local_call_is types line call (Some memory) is_memory does good = record {
   good = good;
 }
 
-pub local_done : (call moved : LocalCall) (from to : List ℕ) → IsLocalCallElsewhere call from to moved → DoesElsewhere (what.Local call) from to (what.Local moved)
+pub local_done : (call moved : LocalCall) (from : List ℕ) (to : Details) → IsLocalCallElsewhere call from to.numbers moved → DoesElsewhere (what.Local call) false from to (what.Local moved) None
 unfolding own_line_in
-local_done call moved from to there types (Local line) here is =
+local_done call moved from to there types (Local line) name own here none is =
     let line_there = there types line (ap (λ event. own_line_in event line) here) (local_call_is types line call (operand_of types.live line.buffer) refl is.does is.good) in
     record {
       does = rw line_there.is_memory (ap (λ own. Some (what.Local own)) (sym line_there.is));
-      request = is.request;
+      request = is.request ∙ none_is own none;
       good = rw line_there.is_memory line_there.good;
     }
-local_done call moved from to there types (Rma line request) here is = by (operands_of types.live line.access) is.does
+local_done call moved from to there types (Rma line request) name own here none is = by (operands_of types.live line.access) is.does
   where
     by : (operands : Option Operands) → option_map (λ operands. what.Rma (rma_call_of types.origins line operands)) operands ≡ Some (what.Local call)
         → IsCallOf types (what.Local moved) None (event_at (Rma line request) to)
     by None does = cc
     by (Some operands) does = cc
-local_done call moved from to there types (Header version rank size) here is = let none : None ≡ Some (what.Local call) = is.does in cc none
-local_done call moved from to there types End here is = let none : None ≡ Some (what.Local call) = is.does in cc none
-local_done call moved from to there types (Datatype line) here is = let none : None ≡ Some (what.Local call) = is.does in cc none
-local_done call moved from to there types (Call own request) here is = let none = is.does in cc none
+local_done call moved from to there types (Header version rank size) name own here none is = let bad : None ≡ Some (what.Local call) = is.does in cc bad
+local_done call moved from to there types End name own here none is = let bad : None ≡ Some (what.Local call) = is.does in cc bad
+local_done call moved from to there types (Datatype line) name own here none is = let bad : None ≡ Some (what.Local call) = is.does in cc bad
+local_done call moved from to there types (Call own_call request) name own here none is = let bad = is.does in cc bad
 
--- ---- lines that state an access elsewhere
+-- ---- calls that access no memory
 
--- the words state what the known access does there
-pub states_done : (reading : Reading) (words : List ℕ) (number : ℕ) (from to : List ℕ) (does moved : What) → IsKnownElsewhere reading.known reading.version words number from to
-    → slice_get reading.calls.whats number ≡ Some does → DoesElsewhere does from to moved → StatesWhat reading words moved
-states_done reading words number from to does moved found is done types are =
+-- the call of an event that is one of these is its own
+pub sync_done : (call : SyncCall) (moved : SyncCall) (requests : Bool) (from : List ℕ) (to : Details) → moved ≡ sync_at call to.numbers to.name → requests ≡ is_some to.request
+    → DoesElsewhere (what.Sync call) requests from to (what.Sync moved) to.request
+sync_done call moved requests from to there requested types (Call own_call request) name own here has is = record {
+  does = ap (λ own. Some (what.Sync own)) (sym there_is);
+  request = ap (λ mine. request_at mine to.request) is.request ∙ request_is own to.request (has ∙ requested);
+  good = refl;
+}
+  where
+    sync_in : (w : Option What) → SyncCall → SyncCall
+    sync_in (Some (what.Sync mine)) other = mine
+    sync_in _ other = other
+
+    there_is : moved ≡ sync_at own_call to.numbers to.name
+    there_is = there ∙ ap (λ mine. sync_at mine to.numbers to.name) (sym (ap (λ w. sync_in w call) is.does))
+
+    request_is : (mine other : Option (List ℕ)) → is_some mine ≡ is_some other → request_at mine other ≡ other
+    request_is None None same = refl
+    request_is None (Some x) same = cc same
+    request_is (Some x) None same = cc same
+    request_is (Some x) (Some y) same = refl
+sync_done call moved requests from to there requested types (Rma line request) name own here has is = by (operands_of types.live line.access) is.does
+  where
+    by : (operands : Option Operands) → option_map (λ operands. what.Rma (rma_call_of types.origins line operands)) operands ≡ Some (what.Sync call)
+        → IsCallOf types (what.Sync moved) to.request (event_at (Rma line request) to)
+    by None does = cc
+    by (Some operands) does = cc
+sync_done call moved requests from to there requested types (Local line) name own here has is = by (operand_of types.live line.buffer) is.does
+  where
+    by : (memory : Option Operand) → option_map (λ memory. what.Local (local_call_of types.origins line.access memory)) memory ≡ Some (what.Sync call)
+        → IsCallOf types (what.Sync moved) to.request (event_at (Local line) to)
+    by None does = cc
+    by (Some memory) does = cc
+sync_done call moved requests from to there requested types (Header version rank size) name own here has is = let bad : None ≡ Some (what.Sync call) = is.does in cc bad
+sync_done call moved requests from to there requested types End name own here has is = let bad : None ≡ Some (what.Sync call) = is.does in cc bad
+sync_done call moved requests from to there requested types (Datatype line) name own here has is = let bad : None ≡ Some (what.Sync call) = is.does in cc bad
+
+-- ---- lines that state a call elsewhere
+
+-- the words state what the known call does there
+pub states_done : (reading : Reading) (words : List ℕ) (number : ℕ) (requests : Bool) (from : List ℕ) (to : Details) (does moved : What) (request : Option (List ℕ))
+    → IsKnownElsewhere reading.known reading.version words number requests from to → slice_get reading.calls.whats number ≡ Some does → DoesElsewhere does requests from to moved request
+    → StatesWhat reading words moved request
+states_done reading words number requests from to does moved request found is done types are =
     let own = are found.known found.among in
-    let stated = stated_elsewhere reading.version found.access found.known.words words from to own.event (subst (λ v. IsStatedBy v found.known.words own.event) found.version own.said) found.here found.there in
+    let here : Details = record { numbers = from; name = found.name; request = found.known.request } in
+    let stated = stated_elsewhere reading.version found.form found.known.words words here to own.event (subst (λ v. IsStatedBy v found.known.words own.event) found.version own.said) found.here found.there in
     let same = some_is own.what does (sym own.is ∙ ap (slice_get reading.calls.whats) found.does ∙ is) in
-    let call = subst (λ request. IsCallOf types does request own.event) found.request (subst (λ w. IsCallOf types w found.known.request own.event) same own.call) in
-    (event_at own.event to, stated.0, done types own.event stated.1 call)
+    let call = subst (λ w. IsCallOf types w found.known.request own.event) same own.call in
+    (event_at own.event to, stated.0, done types own.event found.name found.known.request stated.1 found.request call)
 
--- so do those of whatever was found
-pub all_states_done : {E : Type 0} (reading : Reading) (words : List ℕ) (number : ℕ) (from to : List ℕ) (result : Result (Option Elsewhere) E) (does : What)
-    → IsKnownElsewhere reading.known reading.version words number from to → number < length reading.calls.whats → slice_get reading.calls.whats number ≡ Some does
-    → IfOk result (λ found. IfSome found (DoesAs number does from to)) → IfOk result (λ found. IfSome found (StatesAs reading words))
-all_states_done reading words number from to (Ok (Some (elsewhere.Access other place))) does found within is done = (
-  subst (λ n. n < length reading.calls.whats) (sym done.0) within,
-  λ call at. states_done reading words number from to does (what.Rma (placed call place)) found is
-      (done.1 call (some_is does (what.Rma call) (sym is ∙ ap (slice_get reading.calls.whats) (sym done.0) ∙ at))),
-)
-all_states_done reading words number from to (Ok (Some (elsewhere.Local call))) does found within is done = states_done reading words number from to does (what.Local call) found is done
-all_states_done reading words number from to (Ok (Some (elsewhere.Sync call))) does found within is done = states_done reading words number from to does (what.Sync call) found is done
-all_states_done reading words number from to (Ok None) does found within is done = tt
-all_states_done reading words number from to (Err error) does found within is done = tt
-
--- what the access of a number does there is what one does that is numbered anew
-pub rma_placed : (number : ℕ) (from to : List ℕ) (call : RmaCall) (place : Placement) → IsRmaCallElsewhere call from to (placed call place)
-    → DoesAs number (what.Rma call) from to (elsewhere.Access number place)
+-- so they do where that is an access at a place
+pub access_states : (reading : Reading) (words : List ℕ) (number : ℕ) (requests : Bool) (from : List ℕ) (to : Details) (call : RmaCall) (place : Placement) → requests ≡ false
+    → IsKnownElsewhere reading.known reading.version words number requests from to → number < length reading.calls.whats → slice_get reading.calls.whats number ≡ Some (what.Rma call)
+    → IsRmaCallElsewhere call from to.numbers (placed call place) → StatesAccess reading words number place
 unfolding rma_in
-rma_placed number from to call place there = (
-  refl,
-  λ own same. subst (λ own. DoesElsewhere (what.Rma call) from to (what.Rma (placed own place))) (ap (λ w. rma_in w call) same) (rma_done call (placed call place) from to there),
+access_states reading words number requests from to call place none found within is there = (
+  within,
+  λ own at.
+      let done = subst (λ has. DoesElsewhere (what.Rma call) has from to (what.Rma (placed call place)) None) (sym none) (rma_done call (placed call place) from to there) in
+      subst (λ mine. StatesWhat reading words (what.Rma (placed mine place)) None) (ap (λ w. rma_in w call) (some_is (what.Rma call) (what.Rma own) (sym is ∙ at)))
+      (states_done reading words number requests from to (what.Rma call) (what.Rma (placed call place)) None found is done),
 )
+
+-- and where it is a local access
+pub local_states : (reading : Reading) (words : List ℕ) (number : ℕ) (requests : Bool) (from : List ℕ) (to : Details) (call moved : LocalCall) → requests ≡ false
+    → IsKnownElsewhere reading.known reading.version words number requests from to → slice_get reading.calls.whats number ≡ Some (what.Local call) → IsLocalCallElsewhere call from to.numbers moved
+    → StatesWhat reading words (what.Local moved) None
+local_states reading words number requests from to call moved none found is there =
+    states_done reading words number requests from to (what.Local call) (what.Local moved) None found is
+    (subst (λ has. DoesElsewhere (what.Local call) has from to (what.Local moved) None) (sym none) (local_done call moved from to there))

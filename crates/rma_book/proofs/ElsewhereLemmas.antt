@@ -1,33 +1,39 @@
--- Lines that state the same access elsewhere.
+-- Lines that state the same call elsewhere.
 use Rattle.std.proofs.Common.{◌≡◌, ℕ, ◌-◌, true, false, List, [], ◌∷◌, length, take, drop, Option, Some, None, Result, Ok, Err, refl, sym, ap, subst, ◌∙◌, ⊎_elim, suc, arith, eqb}
 use Rattle.std.specs.Prelude.{codes, find, is_none, is_some, nat_lt, if◌then◌else◌}
 use Rattle.std.specs.Option.{option_map_or}
 use Rattle.std.proofs.lemmas.Bool.{cases_Bool, eqb-true, false≢true, le-ltb, ne_eqb}
-use Rattle.std.proofs.lemmas.List.{drop_all}
 use Rattle.std.proofs.lemmas.Slice.Eq.{bytes_eq-Decides}
 use Rattle.rma_base.proofs.NameLemmas.{and_right}
-use Rattle.rma_base.specs.Limits.{address_limit}
 use Rattle.rma_base.specs.declared.form_reason.FormReason.{FormReason}
 use Rattle.rma_base.specs.declared.form_reason.FormReason.TheVariants.{BadNumber, WrongCount}
 use Rattle.rma_base.specs.declared.version.Version.{Version}
-use Rattle.rma_field.specs.Kinds.{Kind, name, operation, rank, target, meaning, rank_of, target_of, is_word, known, last_rank}
+use Rattle.rma_field.specs.Kinds.{Kind, Value, lock, name, operation, rank, ranks, target, meaning, name_of, rank_of, target_of, is_word, known, last_rank}
 use Rattle.rma_field.specs.Numbers.{natural}
 use Rattle.rma_field.specs.Sites as sites
 use Rattle.rma_field.specs.Steps.{◌>>=◌}
 use Rattle.rma_form.specs.Accesses.{address, count}
 use Rattle.rma_form.specs.Fields.{Made, Values, made_of}
-use Rattle.rma_form.specs.Forms.{tag, form_at, form_of, form_of_kind, form_of_verb, forms, event_of, has_verb, has_words, kind_words}
+use Rattle.rma_form.specs.Forms.{some_bytes, tag, form_at, form_of, form_of_kind, form_of_verb, forms, event_of, has_verb, has_words, kind_words}
 use Rattle.rma_form.specs.Lines.{begins_with, behind_at, counted, last_or, read_words, site_of, site_text, stated_by, stated_in}
-use Rattle.rma_form.specs.Tails.{closed, tail_counted}
+use Rattle.rma_base.specs.declared.rank.Rank.{Rank as Rank_of_run}
+use Rattle.rma_call.specs.declared.message.MessageCall.TheVariants as message
+use Rattle.rma_call.specs.declared.message.Received.{Received as Came}
+use Rattle.rma_call.specs.declared.what.SyncCall.TheVariants as sync
 use Rattle.rma_form.specs.declared.event.Event.{Event}
+use Rattle.rma_form.specs.declared.event.Event.TheVariants.{Call}
 use Rattle.rma_form.specs.declared.event.Stated.{Stated}
 use Rattle.rma_form.specs.declared.form.LineForm.{LineForm}
+use Rattle.rma_form.specs.declared.form.LineForm.TheVariants as form
 use Rattle.rma_form.proofs.KindLemmas.{bind_ok, made_from}
-use Rattle.rma_reader.specs.Elsewhere.{AreElsewhere, IsElsewhere, form_of_call, places_of}
+use Rattle.rma_form.specs.Tails.{Tail, TailValue, tail_counted, tail_of}
+use Rattle.rma_reader.specs.Elsewhere.{AreElsewhere, Details, IsElsewhere, Says, SaysAt, form_of_call, joined, name_alone, no_details, number_alone, part_of, places_of, request_alone}
 use Rattle.rma_reader.specs.declared.call_form.CallForm.{CallForm}
-use Rattle.rma_reader.specs.declared.call_form.CallForm.TheVariants.{Put, Get, Accumulate, GetAccumulate, FetchAndOp, CompareAndSwap, Load, Store, Poll, Unlock, Flush, FlushLocal, Send, Recv, Bcast, Scatter, Gather, Reduce, Allreduce, Allgather, Alltoall}
+use Rattle.rma_reader.specs.declared.call_form.CallForm.TheVariants.{Put, Get, Accumulate, GetAccumulate, FetchAndOp, CompareAndSwap, Load, Store, Poll, Barrier, Send, Recv, Isend, Irecv, Wait, Received, Fence, Post, Start, Complete, Expwait, Lock, Unlock, LockAll, UnlockAll, Flush, FlushAll, FlushLocal, FlushLocalAll, Sync, Attach, Detach, Bcast, Scatter, Gather, Reduce, Allreduce, Allgather, Alltoall}
+use Rattle.rma_reader.specs.declared.call_form.Part.{Part}
+use Rattle.rma_reader.specs.declared.call_form.Part.TheVariants as part
 use Rattle.rma_reader.specs.declared.call_form.Place.{Place}
-use Rattle.rma_reader.specs.declared.call_form.Place.TheVariants.{Same, Rank, Address, Tag}
+use Rattle.rma_reader.specs.declared.call_form.Place.TheVariants.{Same, Rank, Address, Tag, Name, Request}
 use Rattle.rma_book.specs.inside.Elsewhere.{event_at}
 use Rattle.rma_book.specs.inside.Known.{IsStatedBy}
 
@@ -65,233 +71,333 @@ number_target v n word is =
 
 -- ---- the last word of a line
 
--- so no site stands behind its first byte
-number_behind : (low high n : ℕ) (word : List ℕ) → natural low high word ≡ Ok n → behind_at (Some word) ≡ None
-number_behind low high n word is = rw (number_begins low high n word is) refl
+-- a name does not begin as a site
+name_begins : (word : List ℕ) → name_of word ≡ Ok word → begins_with 64 word ≡ false
+name_begins [] is = refl
+name_begins (byte ∷ word) is =
+    ⊎_elim
+    (λ (site : eqb byte 64 ≡ true).
+    let bad = subst (λ first. name_of (first ∷ word) ≡ Ok (byte ∷ word)) (eqb-true byte 64 site) is in
+    absurd (cc bad))
+    (λ (other : eqb byte 64 ≡ false). other)
+    (cases_Bool (eqb byte 64))
+
+-- nor does a number
+said_begins : (one : Part) (word : List ℕ) (said : Details) → Says one word said → begins_with 64 word ≡ false
+said_begins (part.Number limit) word said is = number_begins 0 limit is.0 word is.1
+said_begins part.Name word said is = name_begins word is.0
+said_begins part.Request word said is = name_begins word is.0
+
+-- where a word is no site, nor is that of the other line
+said_behind : (one : Option Part) (word other : List ℕ) (said : Details) → SaysAt one word other said → behind_at (Some word) ≡ None → behind_at (Some other) ≡ None
+said_behind None word other said is none = rw is.0 none
+said_behind (Some one) word other said is none = rw (said_begins one other said is) refl
+
+last_same : (own : List (List ℕ)) (one two : Option (List ℕ)) → (behind_at one ≡ None → behind_at two ≡ None) → behind_at (last_or one own) ≡ None → behind_at (last_or two own) ≡ None
+last_same [] one two before none = before none
+last_same (word ∷ own) one two before none = none
 
 -- where the last word is no site, that of the other line is none
-unsited_elsewhere : (v : Version) (places : List Place) (own others : List (List ℕ)) (to : List ℕ) (one two : Option (List ℕ)) → (behind_at one ≡ None → behind_at two ≡ None)
+unsited_elsewhere : (v : Version) (places : List Place) (own others : List (List ℕ)) (to : Details) (one two : Option (List ℕ)) → (behind_at one ≡ None → behind_at two ≡ None)
     → AreElsewhere v places own others to → behind_at (last_or one own) ≡ None → behind_at (last_or two others) ≡ None
-unsited_elsewhere v [] own others to one two before at none = rw at.1 (before (subst (λ texts. behind_at (last_or one texts) ≡ None) at.0 none))
-unsited_elsewhere v (Same ∷ places) own others to one two before at none =
-    rw at.4 (unsited_elsewhere v places at.1 at.2 to (Some at.0) (Some at.0) (λ same. same) at.5 (subst (λ texts. behind_at (last_or one texts) ≡ None) at.3 none))
-unsited_elsewhere v (Rank ∷ places) own others to one two before at none =
-    rw at.7 (unsited_elsewhere v places at.2 at.3 at.5 (Some at.0) (Some at.1) (λ _. number_behind 0 (last_rank v) at.4 at.1 at.9) at.10
-    (subst (λ texts. behind_at (last_or one texts) ≡ None) at.6 none))
-unsited_elsewhere v (Address ∷ places) own others to one two before at none =
-    rw at.7 (unsited_elsewhere v places at.2 at.3 at.5 (Some at.0) (Some at.1) (λ _. number_behind 0 address_limit at.4 at.1 at.9) at.10
-    (subst (λ texts. behind_at (last_or one texts) ≡ None) at.6 none))
-unsited_elsewhere v (Tag ∷ places) own others to one two before at none =
-    rw at.7 (unsited_elsewhere v places at.2 at.3 at.5 (Some at.0) (Some at.1) (λ _. number_behind 0 2147483647 at.4 at.1 at.9) at.10
+unsited_elsewhere v [] own others to one two before at none = subst (λ them. behind_at (last_or two them) ≡ None) at.0 (last_same own one two before none)
+unsited_elsewhere v (place ∷ places) own others to one two before at none =
+    rw at.7 (unsited_elsewhere v places at.2 at.3 at.5 (Some at.0) (Some at.1) (said_behind (part_of v place) at.0 at.1 at.4 at.8) at.9
     (subst (λ texts. behind_at (last_or one texts) ≡ None) at.6 none))
 
--- ---- the fields of an access
+-- ---- the fields of a call
 
--- a field: the same, of a kind; or what says where
-data Part : Type 0 where
-  kept : Kind → Part
-  target_part : Part
-  rank_part : Part
-  address_part : Part
-  tag_part : Part
+-- a field that is a number where the call is made, and what its number stands for
+record Numbered : Type 0 where
+  kind : Kind
+  place : Place
+  value : ℕ → Value kind
+  reads : (v : Version) (word other : List ℕ) (said : Details) → SaysAt (part_of v place) word other said → (n : ℕ) × (meaning v kind other ≡ Ok (value n)) × (said ≡ number_alone n)
+
+abbrev target_at : Numbered
+target_at = record { kind = target; place = Rank; value = λ n. Some (record { 0 = n }); reads = λ v word other said is. (is.0, number_target v is.0 other is.1, is.2) }
+
+abbrev rank_at : Numbered
+rank_at = record { kind = rank; place = Rank; value = λ n. record { 0 = n }; reads = λ v word other said is. (is.0, number_rank v is.0 other is.1, is.2) }
+
+abbrev address_at : Numbered
+address_at = record { kind = address; place = Address; value = λ n. n; reads = λ v word other said is. (is.0, is.1, is.2) }
+
+abbrev tag_at : Numbered
+tag_at = record { kind = tag; place = Tag; value = λ n. n; reads = λ v word other said is. (is.0, is.1, is.2) }
+
+-- a field: the same, of a kind; or a particular
+data Field : Type 0 where
+  kept : Kind → Field
+  numbered : Numbered → Field
+  named : Field
+  requested : Field
 
 -- their kinds, and what they say
-abbrev kinds_of : List Part → List Kind
+abbrev kinds_of : List Field → List Kind
 kinds_of [] = []
-kinds_of (kept kind ∷ parts) = kind ∷ kinds_of parts
-kinds_of (target_part ∷ parts) = target ∷ kinds_of parts
-kinds_of (rank_part ∷ parts) = rank ∷ kinds_of parts
-kinds_of (address_part ∷ parts) = address ∷ kinds_of parts
-kinds_of (tag_part ∷ parts) = tag ∷ kinds_of parts
+kinds_of (kept kind ∷ fields) = kind ∷ kinds_of fields
+kinds_of (numbered it ∷ fields) = it.kind ∷ kinds_of fields
+kinds_of (named ∷ fields) = name ∷ kinds_of fields
+kinds_of (requested ∷ fields) = name ∷ kinds_of fields
 
-abbrev places : List Part → List Place
+abbrev places : List Field → List Place
 places [] = []
-places (kept kind ∷ parts) = Same ∷ places parts
-places (target_part ∷ parts) = Rank ∷ places parts
-places (rank_part ∷ parts) = Rank ∷ places parts
-places (address_part ∷ parts) = Address ∷ places parts
-places (tag_part ∷ parts) = Tag ∷ places parts
+places (kept kind ∷ fields) = Same ∷ places fields
+places (numbered it ∷ fields) = it.place ∷ places fields
+places (named ∷ fields) = Name ∷ places fields
+places (requested ∷ fields) = Request ∷ places fields
 
--- the numbers that say where
-abbrev Numbers : List Part → Type 0
-Numbers [] = Unit {0}
-Numbers (kept kind ∷ parts) = Numbers parts
-Numbers (target_part ∷ parts) = ℕ × Numbers parts
-Numbers (rank_part ∷ parts) = ℕ × Numbers parts
-Numbers (address_part ∷ parts) = ℕ × Numbers parts
-Numbers (tag_part ∷ parts) = ℕ × Numbers parts
+-- the particulars, one by one
+abbrev Particulars : List Field → Type 0
+Particulars [] = Unit {0}
+Particulars (kept kind ∷ fields) = Particulars fields
+Particulars (numbered it ∷ fields) = ℕ × Particulars fields
+Particulars (named ∷ fields) = List ℕ × Particulars fields
+Particulars (requested ∷ fields) = List ℕ × Particulars fields
 
--- these numbers in their order
-abbrev number_list : (parts : List Part) → Numbers parts → List ℕ
-number_list [] numbers = []
-number_list (kept kind ∷ parts) numbers = number_list parts numbers
-number_list (target_part ∷ parts) numbers = numbers.0 ∷ number_list parts numbers.1
-number_list (rank_part ∷ parts) numbers = numbers.0 ∷ number_list parts numbers.1
-number_list (address_part ∷ parts) numbers = numbers.0 ∷ number_list parts numbers.1
-number_list (tag_part ∷ parts) numbers = numbers.0 ∷ number_list parts numbers.1
+-- the same together
+abbrev details_of : (fields : List Field) → Particulars fields → Details
+details_of [] them = no_details
+details_of (kept kind ∷ fields) them = details_of fields them
+details_of (numbered it ∷ fields) them = joined (number_alone them.0) (details_of fields them.1)
+details_of (named ∷ fields) them = joined (name_alone them.0) (details_of fields them.1)
+details_of (requested ∷ fields) them = joined (request_alone them.0) (details_of fields them.1)
 
--- the values of the fields with these numbers
-abbrev values_at : (parts : List Part) → Values (kinds_of parts) → Numbers parts → Values (kinds_of parts)
-values_at [] values numbers = tt
-values_at (kept kind ∷ parts) values numbers = (values.0, values_at parts values.1 numbers)
-values_at (target_part ∷ parts) values numbers = (Some (record { 0 = numbers.0 }), values_at parts values.1 numbers.1)
-values_at (rank_part ∷ parts) values numbers = (record { 0 = numbers.0 }, values_at parts values.1 numbers.1)
-values_at (address_part ∷ parts) values numbers = (numbers.0, values_at parts values.1 numbers.1)
-values_at (tag_part ∷ parts) values numbers = (numbers.0, values_at parts values.1 numbers.1)
+-- the values of the fields with these particulars
+abbrev values_at : (fields : List Field) → Values (kinds_of fields) → Particulars fields → Values (kinds_of fields)
+values_at [] values them = tt
+values_at (kept kind ∷ fields) values them = (values.0, values_at fields values.1 them)
+values_at (numbered it ∷ fields) values them = (it.value them.0, values_at fields values.1 them.1)
+values_at (named ∷ fields) values them = (them.0, values_at fields values.1 them.1)
+values_at (requested ∷ fields) values them = (them.0, values_at fields values.1 them.1)
 
--- This is made of the values of a line, and the other line has these values with these numbers.
-record MakesElsewhere {A : Type 0} (v : Version) (parts : List Part) (make : Made (kinds_of parts) A) (others : List (List ℕ)) (to : List ℕ) (made : A) : Type 0 where
-  values : Values (kinds_of parts)
-  numbers : Numbers parts
-  own : made_from (kinds_of parts) make values ≡ made
-  are : number_list parts numbers ≡ to
-  other : (m : Made (kinds_of parts) A) → made_of v (kinds_of parts) m others ≡ Ok (made_from (kinds_of parts) m (values_at parts values numbers))
+-- This is made of the values of a line, and the other line has these values with these particulars.
+record MakesElsewhere {A : Type 0} (v : Version) (fields : List Field) (make : Made (kinds_of fields) A) (others : List (List ℕ)) (to : Details) (made : A) : Type 0 where
+  values : Values (kinds_of fields)
+  them : Particulars fields
+  own : made_from (kinds_of fields) make values ≡ made
+  are : details_of fields them ≡ to
+  other : (m : Made (kinds_of fields) A) → made_of v (kinds_of fields) m others ≡ Ok (made_from (kinds_of fields) m (values_at fields values them))
 
--- so it is, where the fields are those of the line, but for where
-made_elsewhere : {A : Type 0} (v : Version) (parts : List Part) (make : Made (kinds_of parts) A) (own others : List (List ℕ)) (to : List ℕ) (made : A) → AreElsewhere v (places parts) own others to
-    → made_of v (kinds_of parts) make own ≡ Ok made → MakesElsewhere v parts make others to made
-made_elsewhere v [] make own others to made at is = record { values = tt; numbers = tt; own = cc is; are = sym at.2; other = λ m. refl }
-made_elsewhere v (kept kind ∷ parts) make own others to made at is =
-    let step = bind_ok (meaning v kind at.0) (λ value. made_of v (kinds_of parts) (make value) at.1) made (subst (λ them. made_of v (kind ∷ kinds_of parts) make them ≡ Ok made) at.3 is) in
-    let rest = made_elsewhere v parts (make step.0) at.1 at.2 to made at.5 step.2 in
+-- so it is, where the fields are those of the line, but for the particulars
+made_elsewhere : {A : Type 0} (v : Version) (fields : List Field) (make : Made (kinds_of fields) A) (own others : List (List ℕ)) (to : Details) (made : A)
+    → AreElsewhere v (places fields) own others to → made_of v (kinds_of fields) make own ≡ Ok made → MakesElsewhere v fields make others to made
+made_elsewhere v [] make own others to made at is = record { values = tt; them = tt; own = cc is; are = sym at.1; other = λ m. refl }
+made_elsewhere v (kept kind ∷ fields) make own others to made at is =
+    let step = bind_ok (meaning v kind at.0) (λ value. made_of v (kinds_of fields) (make value) at.2) made (subst (λ them. made_of v (kind ∷ kinds_of fields) make them ≡ Ok made) at.6 is) in
+    let rest = made_elsewhere v fields (make step.0) at.2 at.3 at.5 made at.9 step.2 in
     record {
       values = (step.0, rest.values);
-      numbers = rest.numbers;
+      them = rest.them;
       own = rest.own;
-      are = rest.are;
-      other = λ m. rw at.4 (ap (λ read. read >>= λ value. made_of v (kinds_of parts) (m value) at.2) step.1 ∙ rest.other (m step.0));
+      are = rest.are ∙ sym (at.10 ∙ ap (λ one. joined one at.5) at.8.1);
+      other = λ m. rw at.7 (ap (λ read. read >>= λ value. made_of v (kinds_of fields) (m value) at.3) (ap (meaning v kind) at.8.0 ∙ step.1) ∙ rest.other (m step.0));
     }
-made_elsewhere v (target_part ∷ parts) make own others to made at is =
-    let step = bind_ok (target_of v at.0) (λ value. made_of v (kinds_of parts) (make value) at.2) made (subst (λ them. made_of v (target ∷ kinds_of parts) make them ≡ Ok made) at.6 is) in
-    let rest = made_elsewhere v parts (make step.0) at.2 at.3 at.5 made at.10 step.2 in
+made_elsewhere v (numbered it ∷ fields) make own others to made at is =
+    let step = bind_ok (meaning v it.kind at.0) (λ value. made_of v (kinds_of fields) (make value) at.2) made (subst (λ them. made_of v (it.kind ∷ kinds_of fields) make them ≡ Ok made) at.6 is) in
+    let rest = made_elsewhere v fields (make step.0) at.2 at.3 at.5 made at.9 step.2 in
+    let reads = it.reads v at.0 at.1 at.4 at.8 in
     record {
       values = (step.0, rest.values);
-      numbers = (at.4, rest.numbers);
+      them = (reads.0, rest.them);
       own = rest.own;
-      are = ap (λ them. at.4 ∷ them) rest.are ∙ sym at.8;
-      other = λ m. rw at.7 (ap (λ read. read >>= λ value. made_of v (kinds_of parts) (m value) at.3) (number_target v at.4 at.1 at.9) ∙ rest.other (m (Some (record { 0 = at.4 }))));
+      are = ap (λ more. joined (number_alone reads.0) more) rest.are ∙ sym (at.10 ∙ ap (λ one. joined one at.5) reads.2);
+      other = λ m. rw at.7 (ap (λ read. read >>= λ value. made_of v (kinds_of fields) (m value) at.3) reads.1 ∙ rest.other (m (it.value reads.0)));
     }
-made_elsewhere v (rank_part ∷ parts) make own others to made at is =
-    let step = bind_ok (rank_of v at.0) (λ value. made_of v (kinds_of parts) (make value) at.2) made (subst (λ them. made_of v (rank ∷ kinds_of parts) make them ≡ Ok made) at.6 is) in
-    let rest = made_elsewhere v parts (make step.0) at.2 at.3 at.5 made at.10 step.2 in
+made_elsewhere v (named ∷ fields) make own others to made at is =
+    let step = bind_ok (name_of at.0) (λ value. made_of v (kinds_of fields) (make value) at.2) made (subst (λ them. made_of v (name ∷ kinds_of fields) make them ≡ Ok made) at.6 is) in
+    let rest = made_elsewhere v fields (make step.0) at.2 at.3 at.5 made at.9 step.2 in
     record {
       values = (step.0, rest.values);
-      numbers = (at.4, rest.numbers);
+      them = (at.1, rest.them);
       own = rest.own;
-      are = ap (λ them. at.4 ∷ them) rest.are ∙ sym at.8;
-      other = λ m. rw at.7 (ap (λ read. read >>= λ value. made_of v (kinds_of parts) (m value) at.3) (number_rank v at.4 at.1 at.9) ∙ rest.other (m (record { 0 = at.4 })));
+      are = ap (λ more. joined (name_alone at.1) more) rest.are ∙ sym (at.10 ∙ ap (λ one. joined one at.5) at.8.1);
+      other = λ m. rw at.7 (ap (λ read. read >>= λ value. made_of v (kinds_of fields) (m value) at.3) at.8.0 ∙ rest.other (m at.1));
     }
-made_elsewhere v (address_part ∷ parts) make own others to made at is =
-    let step = bind_ok (meaning v address at.0) (λ value. made_of v (kinds_of parts) (make value) at.2) made (subst (λ them. made_of v (address ∷ kinds_of parts) make them ≡ Ok made) at.6 is) in
-    let rest = made_elsewhere v parts (make step.0) at.2 at.3 at.5 made at.10 step.2 in
+made_elsewhere v (requested ∷ fields) make own others to made at is =
+    let step = bind_ok (name_of at.0) (λ value. made_of v (kinds_of fields) (make value) at.2) made (subst (λ them. made_of v (name ∷ kinds_of fields) make them ≡ Ok made) at.6 is) in
+    let rest = made_elsewhere v fields (make step.0) at.2 at.3 at.5 made at.9 step.2 in
     record {
       values = (step.0, rest.values);
-      numbers = (at.4, rest.numbers);
+      them = (at.1, rest.them);
       own = rest.own;
-      are = ap (λ them. at.4 ∷ them) rest.are ∙ sym at.8;
-      other = λ m. rw at.7 (ap (λ read. read >>= λ value. made_of v (kinds_of parts) (m value) at.3) at.9 ∙ rest.other (m at.4));
-    }
-made_elsewhere v (tag_part ∷ parts) make own others to made at is =
-    let step = bind_ok (meaning v tag at.0) (λ value. made_of v (kinds_of parts) (make value) at.2) made (subst (λ them. made_of v (tag ∷ kinds_of parts) make them ≡ Ok made) at.6 is) in
-    let rest = made_elsewhere v parts (make step.0) at.2 at.3 at.5 made at.10 step.2 in
-    record {
-      values = (step.0, rest.values);
-      numbers = (at.4, rest.numbers);
-      own = rest.own;
-      are = ap (λ them. at.4 ∷ them) rest.are ∙ sym at.8;
-      other = λ m. rw at.7 (ap (λ read. read >>= λ value. made_of v (kinds_of parts) (m value) at.3) at.9 ∙ rest.other (m at.4));
+      are = ap (λ more. joined (request_alone at.1) more) rest.are ∙ sym (at.10 ∙ ap (λ one. joined one at.5) at.8.1);
+      other = λ m. rw at.7 (ap (λ read. read >>= λ value. made_of v (kinds_of fields) (m value) at.3) at.8.0 ∙ rest.other (m at.1));
     }
 
--- ---- what a line of an access without a site states
+-- ---- what a line without a site states
 
--- there are as many fields as kinds
-length_elsewhere : (v : Version) (parts : List Part) (own others : List (List ℕ)) (to : List ℕ) → AreElsewhere v (places parts) own others to → length others ≡ length (kinds_of parts)
-length_elsewhere v [] own others to at = rw at.1 refl
-length_elsewhere v (kept kind ∷ parts) own others to at = rw at.4 (ap suc (length_elsewhere v parts at.1 at.2 to at.5))
-length_elsewhere v (target_part ∷ parts) own others to at = rw at.7 (ap suc (length_elsewhere v parts at.2 at.3 at.5 at.10))
-length_elsewhere v (rank_part ∷ parts) own others to at = rw at.7 (ap suc (length_elsewhere v parts at.2 at.3 at.5 at.10))
-length_elsewhere v (tag_part ∷ parts) own others to at = rw at.7 (ap suc (length_elsewhere v parts at.2 at.3 at.5 at.10))
-length_elsewhere v (address_part ∷ parts) own others to at = rw at.7 (ap suc (length_elsewhere v parts at.2 at.3 at.5 at.10))
+-- the other line has as many fields, and the same behind those
+tail_same : (v : Version) (fields : List Field) (own others : List (List ℕ)) (to : Details) → AreElsewhere v (places fields) own others to
+    → (length others ≡ length own) × (drop (length (kinds_of fields)) others ≡ drop (length (kinds_of fields)) own)
+tail_same v [] own others to at = (ap length (sym at.0), sym at.0)
+tail_same v (kept kind ∷ fields) own others to at = let rest = tail_same v fields at.2 at.3 at.5 at.9 in (rw (at.6, at.7) (ap suc rest.0), rw (at.6, at.7) rest.1)
+tail_same v (numbered it ∷ fields) own others to at = let rest = tail_same v fields at.2 at.3 at.5 at.9 in (rw (at.6, at.7) (ap suc rest.0), rw (at.6, at.7) rest.1)
+tail_same v (named ∷ fields) own others to at = let rest = tail_same v fields at.2 at.3 at.5 at.9 in (rw (at.6, at.7) (ap suc rest.0), rw (at.6, at.7) rest.1)
+tail_same v (requested ∷ fields) own others to at = let rest = tail_same v fields at.2 at.3 at.5 at.9 in (rw (at.6, at.7) (ap suc rest.0), rw (at.6, at.7) rest.1)
 
--- the number of fields of a row that has nothing behind them
-abbrev counted_plain : Version → ℕ → List (List ℕ) → Result (Unit {0}) FormReason
-counted_plain v n them = if nat_lt (length them) n then Err WrongCount else tail_counted v closed (drop n them)
+-- the number of fields of a row, its event, and what its line states without a site
+abbrev row_counted : Version → ℕ → Tail → List (List ℕ) → Result (Unit {0}) FormReason
+row_counted v n tail them = if nat_lt (length them) n then Err WrongCount else tail_counted v tail (drop n them)
 
--- it is right
-counted_all : (v : Version) (n : ℕ) (them : List (List ℕ)) → length them ≡ n → counted_plain v n them ≡ Ok tt
-counted_all v n them is =
-    let enough : nat_lt (length them) n ≡ false = le-ltb (length them) n (omega arith) in
-    let none : drop n them ≡ [] = drop_all n them (omega arith) in
-    rw (enough, none) refl
+abbrev row_event : (v : Version) (kinds : List Kind) (tail : Tail) → Made kinds (TailValue tail → Event) → List (List ℕ) → Result Event FormReason
+row_event v kinds tail make them = made_of v kinds make them >>= λ made. tail_of v tail (drop (length kinds) them) >>= λ value. Ok (made value)
 
--- the event of a row that has fields alone, and what its line states without a site
-abbrev plain_event : (v : Version) (kinds : List Kind) → Made kinds (Unit {0} → Event) → List (List ℕ) → Result Event FormReason
-plain_event v kinds make them = made_of v kinds make them >>= λ made. Ok (made tt)
+abbrev row_stated : (v : Version) (kinds : List Kind) (tail : Tail) → Made kinds (TailValue tail → Event) → List (List ℕ) → Result Stated FormReason
+row_stated v kinds tail make them = row_counted v (length kinds) tail them >>= λ _. row_event v kinds tail make them >>= λ event. Ok (record { event = event; site = None })
 
-abbrev plain_stated : (v : Version) (kinds : List Kind) → Made kinds (Unit {0} → Event) → List (List ℕ) → Result Stated FormReason
-plain_stated v kinds make them = counted_plain v (length kinds) them >>= λ _. plain_event v kinds make them >>= λ event. Ok (record { event = event; site = None })
-
-module _ (v : Version) (parts : List Part) (make : Made (kinds_of parts) (Unit {0} → Event)) (own others : List (List ℕ)) (to : List ℕ) (event : Event) (at : AreElsewhere v (places parts) own others to)
-    (alike : (values : Values (kinds_of parts)) (numbers : Numbers parts)
-    → event_at (made_from (kinds_of parts) make values tt) (number_list parts numbers) ≡ made_from (kinds_of parts) make (values_at parts values numbers) tt) where
+module _ (v : Version) (fields : List Field) (tail : Tail) (make : Made (kinds_of fields) (TailValue tail → Event)) (own others : List (List ℕ)) (to : Details) (event : Event)
+    (at : AreElsewhere v (places fields) own others to)
+    (alike : (values : Values (kinds_of fields)) (them : Particulars fields) (value : TailValue tail)
+    → event_at (made_from (kinds_of fields) make values value) (details_of fields them) ≡ made_from (kinds_of fields) make (values_at fields values them) value) where
   -- the event of the other line is that of the line, elsewhere
-  event_elsewhere : plain_event v (kinds_of parts) make own ≡ Ok event → plain_event v (kinds_of parts) make others ≡ Ok (event_at event to)
+  event_elsewhere : row_event v (kinds_of fields) tail make own ≡ Ok event → row_event v (kinds_of fields) tail make others ≡ Ok (event_at event to)
   event_elsewhere is =
-      let step = bind_ok (made_of v (kinds_of parts) make own) (λ made. Ok (made tt)) event is in
-      let it = made_elsewhere v parts make own others to step.0 at step.1 in
-      let same : made_from (kinds_of parts) make it.values tt ≡ event = ap (λ made. made tt) it.own ∙ ok_one (step.0 tt) event step.2 in
-      let there : event_at event to ≡ made_from (kinds_of parts) make (values_at parts it.values it.numbers) tt =
-      ap (event_at event) (sym it.are) ∙ ap (λ e. event_at e (number_list parts it.numbers)) (sym same) ∙ alike it.values it.numbers in
-      rw (it.other make, there) refl
+      let kinds = kinds_of fields in
+      let step = bind_ok (made_of v kinds make own) (λ made. tail_of v tail (drop (length kinds) own) >>= λ value. Ok (made value)) event is in
+      let behind = bind_ok (tail_of v tail (drop (length kinds) own)) (λ value. Ok (step.0 value)) event step.2 in
+      let it = made_elsewhere v fields make own others to step.0 at step.1 in
+      let same : made_from kinds make it.values behind.0 ≡ event = ap (λ made. made behind.0) it.own ∙ ok_one (step.0 behind.0) event behind.2 in
+      let there : event_at event to ≡ made_from kinds make (values_at fields it.values it.them) behind.0 =
+      ap (event_at event) (sym it.are) ∙ ap (λ e. event_at e (details_of fields it.them)) (sym same) ∙ alike it.values it.them behind.0 in
+      let tail_is : tail_of v tail (drop (length kinds) others) ≡ Ok behind.0 = ap (tail_of v tail) (tail_same v fields own others to at).1 ∙ behind.1 in
+      rw (it.other make, tail_is, there) refl
 
-  plain_elsewhere : plain_stated v (kinds_of parts) make own ≡ Ok (record { event = event; site = None })
-      → plain_stated v (kinds_of parts) make others ≡ Ok (record { event = event_at event to; site = None })
-  plain_elsewhere is =
-      let passed = bind_ok (counted_plain v (length (kinds_of parts)) own) _ _ is in
-      let read = bind_ok (plain_event v (kinds_of parts) make own) (λ it. Ok (record { event = it; site = None })) _ passed.2 in
+  row_elsewhere : row_stated v (kinds_of fields) tail make own ≡ Ok (record { event = event; site = None })
+      → row_stated v (kinds_of fields) tail make others ≡ Ok (record { event = event_at event to; site = None })
+  row_elsewhere is =
+      let same_tail = tail_same v fields own others to at in
+      let passed = bind_ok (row_counted v (length (kinds_of fields)) tail own) _ _ is in
+      let read = bind_ok (row_event v (kinds_of fields) tail make own) (λ it. Ok (record { event = it; site = None })) _ passed.2 in
       let same : read.0 ≡ event = ap (λ (stated : Stated). stated.event) (ok_one _ _ read.2) in
-      rw (counted_all v (length (kinds_of parts)) others (length_elsewhere v parts own others to at), event_elsewhere (read.1 ∙ ap Ok same)) refl
+      let counts : row_counted v (length (kinds_of fields)) tail others ≡ Ok passed.0 = rw (same_tail.0, same_tail.1) passed.1 in
+      rw (counts, event_elsewhere (read.1 ∙ ap Ok same)) refl
 
--- the fields of each access
-abbrev buffer_parts : List Part
-buffer_parts = address_part ∷ kept count ∷ kept name ∷ []
+-- the fields of each call, as far as they are told one by one
+abbrev buffer_fields : List Field
+buffer_fields = numbered address_at ∷ kept count ∷ kept name ∷ []
 
-abbrev transfer_parts : List Part
-transfer_parts = kept name ∷ target_part ∷ address_part ∷ kept count ∷ kept name ∷ buffer_parts
+abbrev transfer_fields : List Field
+transfer_fields = kept name ∷ numbered target_at ∷ numbered address_at ∷ kept count ∷ kept name ∷ buffer_fields
 
-abbrev fetching_parts : List Part
-fetching_parts = kept name ∷ target_part ∷ address_part ∷ kept count ∷ kept name ∷ address_part ∷ kept count ∷ kept name ∷ buffer_parts
+abbrev fetching_fields : List Field
+fetching_fields = kept name ∷ numbered target_at ∷ numbered address_at ∷ kept count ∷ kept name ∷ numbered address_at ∷ kept count ∷ kept name ∷ buffer_fields
 
-abbrev parts_of : CallForm → List Part
-parts_of Put = transfer_parts
-parts_of Get = transfer_parts
-parts_of Accumulate = kept operation ∷ transfer_parts
-parts_of GetAccumulate = kept operation ∷ fetching_parts
-parts_of FetchAndOp = kept operation ∷ kept name ∷ target_part ∷ address_part ∷ kept name ∷ address_part ∷ address_part ∷ []
-parts_of CompareAndSwap = kept name ∷ target_part ∷ address_part ∷ kept name ∷ address_part ∷ address_part ∷ address_part ∷ []
-parts_of Load = buffer_parts
-parts_of Store = buffer_parts
-parts_of Poll = buffer_parts
-parts_of Unlock = kept name ∷ rank_part ∷ []
-parts_of Flush = kept name ∷ rank_part ∷ []
-parts_of FlushLocal = kept name ∷ rank_part ∷ []
-parts_of Send = rank_part ∷ tag_part ∷ kept name ∷ []
-parts_of Recv = rank_part ∷ tag_part ∷ kept name ∷ []
-parts_of Bcast = rank_part ∷ address_part ∷ kept name ∷ []
-parts_of Scatter = rank_part ∷ address_part ∷ kept name ∷ []
-parts_of Gather = rank_part ∷ address_part ∷ kept name ∷ []
-parts_of Reduce = rank_part ∷ address_part ∷ kept name ∷ []
-parts_of Allreduce = address_part ∷ kept name ∷ []
-parts_of Allgather = address_part ∷ kept name ∷ []
-parts_of Alltoall = address_part ∷ kept name ∷ []
+abbrev message_fields : List Field
+message_fields = numbered rank_at ∷ numbered tag_at ∷ named ∷ []
+
+abbrev rooted_fields : List Field
+rooted_fields = numbered rank_at ∷ numbered address_at ∷ named ∷ []
+
+abbrev rootless_fields : List Field
+rootless_fields = numbered address_at ∷ named ∷ []
+
+abbrev fields_of : CallForm → List Field
+fields_of Put = transfer_fields
+fields_of Get = transfer_fields
+fields_of Accumulate = kept operation ∷ transfer_fields
+fields_of GetAccumulate = kept operation ∷ fetching_fields
+fields_of FetchAndOp = kept operation ∷ kept name ∷ numbered target_at ∷ numbered address_at ∷ kept name ∷ numbered address_at ∷ numbered address_at ∷ []
+fields_of CompareAndSwap = kept name ∷ numbered target_at ∷ numbered address_at ∷ kept name ∷ numbered address_at ∷ numbered address_at ∷ numbered address_at ∷ []
+fields_of Load = buffer_fields
+fields_of Store = buffer_fields
+fields_of Poll = buffer_fields
+fields_of Barrier = named ∷ []
+fields_of Send = message_fields
+fields_of Recv = message_fields
+fields_of Isend = requested ∷ message_fields
+fields_of Irecv = requested ∷ named ∷ []
+fields_of Wait = requested ∷ []
+fields_of Received = requested ∷ []
+fields_of Fence = named ∷ []
+fields_of Post = named ∷ kept ranks ∷ []
+fields_of Start = named ∷ kept ranks ∷ []
+fields_of Complete = named ∷ []
+fields_of Expwait = named ∷ []
+fields_of Lock = named ∷ numbered rank_at ∷ kept lock ∷ []
+fields_of Unlock = named ∷ numbered rank_at ∷ []
+fields_of LockAll = named ∷ []
+fields_of UnlockAll = named ∷ []
+fields_of Flush = named ∷ numbered rank_at ∷ []
+fields_of FlushAll = named ∷ []
+fields_of FlushLocal = named ∷ numbered rank_at ∷ []
+fields_of FlushLocalAll = named ∷ []
+fields_of Sync = named ∷ []
+fields_of Attach = named ∷ numbered address_at ∷ kept some_bytes ∷ []
+fields_of Detach = named ∷ numbered address_at ∷ []
+fields_of Bcast = rooted_fields
+fields_of Scatter = rooted_fields
+fields_of Gather = rooted_fields
+fields_of Reduce = rooted_fields
+fields_of Allreduce = rootless_fields
+fields_of Allgather = rootless_fields
+fields_of Alltoall = rootless_fields
+
+-- ---- the completion of a request with what came, which stands behind the fields
+
+-- what its line states, by the request, the source and the tag
+abbrev completes : List ℕ → Option Came → Event
+completes own came = Call (sync.Message (message.Wait came)) (Some own)
+
+abbrev completion : Result (List ℕ) FormReason → Result Rank_of_run FormReason → Result ℕ FormReason → Result Stated FormReason
+completion request source tagged =
+    ((request >>= λ own. Ok (completes own))
+    >>= λ make. (source >>= λ from. tagged >>= λ t. Ok (Some (record { from = from; tag = t }))) >>= λ value. Ok (make value))
+    >>= λ event. Ok (record { event = event; site = None })
+
+completed : (request : Result (List ℕ) FormReason) (source : Result Rank_of_run FormReason) (tagged : Result ℕ FormReason) (event : Event)
+    → completion request source tagged ≡ Ok (record { event = event; site = None }) → (came : Option Came) × (own : List ℕ) × (event ≡ Call (sync.Message (message.Wait came)) (Some own))
+completed (Ok own) (Ok from) (Ok t) event is = (Some (record { from = from; tag = t }), own, ap (λ (stated : Stated). stated.event) (ok_one _ _ (sym is)))
+completed (Ok own) (Ok from) (Err reason) event is = absurd (cc is)
+completed (Ok own) (Err reason) tagged event is = absurd (cc is)
+completed (Err reason) source tagged event is = absurd (cc is)
+
+module _ (v : Version) (own others : List (List ℕ)) (to : Details) (event : Event) (at : AreElsewhere v (places_of Received) own others to) where
+  -- what stands behind the source and the tag
+  received_with : (more : List (List ℕ)) → stated_in v form.Wait (at.0 ∷ at.9.0 ∷ at.9.9.0 ∷ more) None ≡ Ok (record { event = event; site = None })
+      → stated_in v form.Wait (at.1 ∷ at.9.1 ∷ at.9.9.1 ∷ more) None ≡ Ok (record { event = event_at event to; site = None })
+  received_with (word ∷ more) is =
+      let words = at.9.0 ∷ at.9.9.0 ∷ word ∷ more in
+      let some : eqb (length words) 0 ≡ false = ne_eqb (length words) 0 (λ same. omega (arith, same)) in
+      let three : eqb (length words) 2 ≡ false = ne_eqb (length words) 2 (λ same. omega (arith, same)) in
+      let enough : nat_lt (length (at.0 ∷ words)) 1 ≡ false = le-ltb (length (at.0 ∷ words)) 1 (omega arith) in
+      let counts : counted v form.Wait (at.0 ∷ words) ≡ Err WrongCount = rw (enough, some, three) refl in
+      let passed = bind_ok (counted v form.Wait (at.0 ∷ words)) _ _ is in
+      let bad : Err WrongCount ≡ Ok passed.0 = sym counts ∙ passed.1 in
+      absurd (cc bad)
+  received_with [] is =
+      let source = at.9.8 in
+      let tagged = at.9.9.8 in
+      let it = completed (name_of at.0) (rank_of v at.9.0) (natural 0 2147483647 at.9.9.0) event is in
+      let whole : Details = joined (request_alone at.1) (joined (number_alone source.0) (joined (number_alone tagged.0) no_details)) in
+      let said : to ≡ whole =
+      at.10 ∙ ap (λ one. joined one at.5) at.8.1 ∙ ap (joined (request_alone at.1)) (at.9.10 ∙ ap (λ one. joined one at.9.5) source.2)
+      ∙ ap (λ more. joined (request_alone at.1) (joined (number_alone source.0) more)) (at.9.9.10 ∙ ap (λ one. joined one at.9.9.5) tagged.2)
+      ∙ ap (λ more. joined (request_alone at.1) (joined (number_alone source.0) (joined (number_alone tagged.0) more))) at.9.9.9.1 in
+      let from : Rank_of_run = record { 0 = source.0 } in
+      let there : event_at event to ≡ Call (sync.Message (message.Wait (Some (record { from = from; tag = tagged.0 })))) (Some at.1) = ap (λ e. event_at e to) it.2 ∙ ap (event_at (Call (sync.Message (message.Wait it.0)) (Some it.1))) said in
+      ap (λ request. completion request (rank_of v at.9.1) (natural 0 2147483647 at.9.9.1)) at.8.0
+      ∙ ap (λ rank. completion (Ok at.1) rank (natural 0 2147483647 at.9.9.1)) (number_rank v source.0 at.9.1 source.1)
+      ∙ ap (λ tag. completion (Ok at.1) (Ok from) tag) tagged.1
+      ∙ ap (λ e. Ok (record { event = e; site = None })) (sym there)
+
+  received_elsewhere : stated_in v form.Wait own None ≡ Ok (record { event = event; site = None }) → stated_in v form.Wait others None ≡ Ok (record { event = event_at event to; site = None })
+  received_elsewhere is =
+      let more = at.9.9.2 in
+      let own_is : own ≡ at.0 ∷ at.9.0 ∷ at.9.9.0 ∷ more = at.6 ∙ ap (λ them. at.0 ∷ them) (at.9.6 ∙ ap (λ them. at.9.0 ∷ them) at.9.9.6) in
+      let others_are : others ≡ at.1 ∷ at.9.1 ∷ at.9.9.1 ∷ more =
+      at.7 ∙ ap (λ them. at.1 ∷ them) (at.9.7 ∙ ap (λ them. at.9.1 ∷ them) (at.9.9.7 ∙ ap (λ them. at.9.9.1 ∷ them) (sym at.9.9.9.0))) in
+      subst (λ them. stated_in v form.Wait them None ≡ Ok (record { event = event_at event to; site = None })) (sym others_are)
+      (received_with more (subst (λ them. stated_in v form.Wait them None ≡ Ok (record { event = event; site = None })) own_is is))
 
 -- what the other line states is that of the line, elsewhere
-access_elsewhere : (v : Version) (access : CallForm) (own others : List (List ℕ)) (to : List ℕ) (event : Event) → AreElsewhere v (places_of access) own others to
+access_elsewhere : (v : Version) (access : CallForm) (own others : List (List ℕ)) (to : Details) (event : Event) → AreElsewhere v (places_of access) own others to
     → stated_in v (form_of_call access) own None ≡ Ok (record { event = event; site = None })
     → stated_in v (form_of_call access) others None ≡ Ok (record { event = event_at event to; site = None })
-access_elsewhere v Put own others to event at is = plain_elsewhere v (parts_of Put) (form_at (form_of_call Put)).event own others to event at (λ values numbers. refl) is
+access_elsewhere v Received own others to event at is = received_elsewhere v own others to event at is
 access_elsewhere v access own others to event at is =
-    plain_elsewhere v (parts_of access) (form_at (form_of_call access)).event own others to event at (λ values numbers. refl) is
+    row_elsewhere v (fields_of access) (form_at (form_of_call access)).tail (form_at (form_of_call access)).event own others to event at (λ values them value. refl) is
 
 -- ---- the form of a line
 
@@ -361,7 +467,7 @@ read_stated v verb rest stated is =
     (cases_Bool (begins_with 35 verb))
 
 -- the words of the other line state the access elsewhere
-read_elsewhere : (v : Version) (access : CallForm) (verb : List ℕ) (own others : List (List ℕ)) (to : List ℕ) (event : Event)
+read_elsewhere : (v : Version) (access : CallForm) (verb : List ℕ) (own others : List (List ℕ)) (to : Details) (event : Event)
     → form_of v verb own ≡ Ok (form_of_call access) → AreElsewhere v (places_of access) own others to
     → read_words v (verb ∷ own) ≡ Ok (Some (record { event = event; site = None })) → read_words v (verb ∷ others) ≡ Ok (Some (record { event = event_at event to; site = None }))
 read_elsewhere v access verb own others to event form at is =
@@ -378,14 +484,14 @@ read_elsewhere v access verb own others to event form at is =
     rw (stated.0, says) refl
 
 -- so does the other line
-elsewhere_states : (v : Version) (access : CallForm) (words others to : List ℕ) (event : Event) → IsStatedBy v words event → IsElsewhere v access words others to
+elsewhere_states : (v : Version) (access : CallForm) (words others : List ℕ) (to : Details) (event : Event) → IsStatedBy v words event → IsElsewhere v access words others to
     → IsStatedBy v others (event_at event to)
 elsewhere_states v access words others to event is at =
     ap (read_words v) at.others_are
     ∙ read_elsewhere v access at.verb at.own at.other to event at.has_form at.elsewhere (ap (read_words v) (sym at.words_are) ∙ is)
 
 -- Where a line states an access, each line of the same words but for where states it there, and it is itself where its own numbers say.
-pub stated_elsewhere : (v : Version) (access : CallForm) (words others from to : List ℕ) (event : Event)
+pub stated_elsewhere : (v : Version) (access : CallForm) (words others : List ℕ) (from to : Details) (event : Event)
     → IsStatedBy v words event → IsElsewhere v access words words from → IsElsewhere v access words others to
     → IsStatedBy v others (event_at event to) × (event_at event from ≡ event)
 stated_elsewhere v access words others from to event is own at =

@@ -84,9 +84,9 @@ module _ (old : Reader) (grown : Reading) (at : LineNo) (line : SplitText) (know
 -- ---- a line whose words state an access elsewhere
 
 -- a number was given to what it does
-HasTaken_added : (rank logs : ℕ) (lines : List Checked) (old new : Reader) (words : List ℕ) (what : What) (event : Event) → Adds old new (Some words) what None false → HasTaken rank logs lines old
-    → IsStatedBy old.lines.version words event → IsCallOf (types_after (events_of (entries lines))) what None event → HasTaken rank logs lines new
-HasTaken_added rank logs lines old new words what event adds h said call =
+HasTaken_added : (rank logs : ℕ) (lines : List Checked) (old new : Reader) (words : List ℕ) (what : What) (request : Option (List ℕ)) (event : Event) → Adds old new (Some words) what request false → HasTaken rank logs lines old
+    → IsStatedBy old.lines.version words event → IsCallOf (types_after (events_of (entries lines))) what request event → HasTaken rank logs lines new
+HasTaken_added rank logs lines old new words what request event adds h said call =
     let books = ap (λ (r : Reader). r.book) adds.same in
     record {
       good = h.good;
@@ -99,8 +99,9 @@ HasTaken_added rank logs lines old new words what event adds h said call =
       known = adds.known (types_after (events_of (entries lines))) event h.known said call (λ lasts. absurd (false≢true lasts));
     }
 
-module _ (old mid new : Reader) (grown : Reading) (at : LineNo) (line : SplitText) (what : What) (none : old.fault ≡ None) (adds : Adds old mid (Some line.words) what None false)
-    (grows : Grows mid.lines grown) (split : IsSplit line.line line.words line.site) (states : StatesWhat old.lines line.words what) where
+module _ (old mid new : Reader) (grown : Reading) (at : LineNo) (line : SplitText) (what : What) (request : Option (List ℕ)) (none : old.fault ≡ None)
+    (adds : Adds old mid (Some line.words) what request false)
+    (grows : Grows mid.lines grown) (split : IsSplit line.line line.words line.site) (states : StatesWhat old.lines line.words what request) where
   unfaulted : mid.fault ≡ None
   unfaulted = ap (λ (r : Reader). r.fault) adds.same ∙ none
 
@@ -108,19 +109,19 @@ module _ (old mid new : Reader) (grown : Reading) (at : LineNo) (line : SplitTex
   read_added rank logs before h =
       let taken = HasTaken_read rank logs before old h none in
       let is = states (types_after (events_of (entries before))) taken.known in
-      HasRead_taken rank logs before mid (HasTaken_added rank logs before old mid line.words what is.0 adds taken is.1 is.2) unfaulted
+      HasRead_taken rank logs before mid (HasTaken_added rank logs before old mid line.words what request is.0 adds taken is.1 is.2) unfaulted
 
   stated_split : (event : Event) → IsStatedBy old.lines.version line.words event → reading mid.lines.version line.line ≡ stated_at event line.site
   stated_split event said = reading_split mid.lines.version line.line line.words line.site event split (subst (λ v. IsStatedBy v line.words event) (sym adds.version) said)
 
   pub ReadsNext_elsewhere : (site : Option ℕ) → IsSiteOf grown.calls line.site site
-      → ((event : Event) (text : Option (List ℕ)) → IsCallOf mid.book.types what None event → IsSite grown.calls site text → Reads (record mid { lines = grown }) new at (record { event = event; site = text }))
+      → ((event : Event) (text : Option (List ℕ)) → IsCallOf mid.book.types what request event → IsSite grown.calls site text → Reads (record mid { lines = grown }) new at (record { event = event; site = text }))
       → ReadsNext old new at.0 (Ok line.line)
   ReadsNext_elsewhere site sited reads rank logs before place h =
       let taken = HasTaken_read rank logs before old h none in
       let types = types_after (events_of (entries before)) in
       let is = states types taken.known in
-      let own = subst (λ (book : BookState). IsCallOf book.types what None is.0) (sym (ap (λ (r : Reader). r.book) adds.same)) (call_same old.book.types types taken.represents.types what None is.0 is.2) in
+      let own = subst (λ (book : BookState). IsCallOf book.types what request is.0) (sym (ap (λ (r : Reader). r.book) adds.same)) (call_same old.book.types types taken.represents.types what request is.0 is.2) in
       ReadsNext_stated mid grown at line.line unfaulted grows new (record { event = is.0; site = line.site })
       (stated_split is.0 is.1 ∙ ap (λ good. good >>= λ text. Ok (Some (at_site is.0 text))) sited.0) (reads is.0 line.site own sited.1) rank logs before place (read_added rank logs before h)
 

@@ -8,29 +8,33 @@ ghost use Rattle.rma_lex.specs.Cutting.{Represents};
 ghost use Rattle.rma_call.specs.declared.what.What.{What};
 ghost use Rattle.rma_form.specs.declared.event.Event.{Event};
 ghost use Rattle.rma_form.specs.declared.event.Event.TheVariants.{Header, End, Call, Datatype, Rma, Local};
+ghost use Rattle.rma_reader.specs.Elsewhere.{IsKnownElsewhere};
 ghost use Rattle.rma_reader.specs.Sites.{IsSite};
 ghost use Rattle.rma_book.specs.Ends.{IsEnd};
+ghost use Rattle.rma_book.specs.declared.reader.Reader.{Reader};
 ghost use Rattle.rma_book.specs.Logs.{Checked};
 ghost use Rattle.rma_book.specs.Calls.{call_with};
-ghost use Rattle.rma_book.specs.inside.Elsewhere.{StatesAccess, StatesAs};
+ghost use Rattle.rma_book.specs.inside.Elsewhere.{StatesAccess, StatesWhat};
 ghost use Rattle.rma_book.specs.inside.Known.{IsCallOf, IsStatedBy};
 ghost use Rattle.rma_book.specs.inside.Reading.{Adds, Appends, HasAdded, HasRead, IsReading, Reads, ReadsNext};
 
 use crate::book::{Book, Judged, JudgedAccess};
-use crate::elsewhere::{Elsewhere, form_of, form_of_local, made_elsewhere};
+use crate::elsewhere::{access_elsewhere, form_of, form_of_local, made_elsewhere, place_elsewhere};
 use crate::fault::{BookEnd, FormFault};
 use crate::sync_elsewhere::form_of_sync;
 use rma_base::{FormReason, LineNo, Memory, Name, Rank, Version};
-use rma_call::{Placement, RankCalls, SyncCall, What};
-use rma_field::ParseError;
+use rma_call::{Placement, RankCalls, SyncCall, What, WhatRef};
+use rma_field::{ParseError, Texts};
 use rma_form::{Event, LocalLine, RmaLine, TypeLine};
 use rma_lex::{LexFault, Line, LineCutter};
-use rma_reader::{CallForm, LineReader, Numbers, ReadLine, SharedSites, SplitLine};
+use rma_reader::{CallForm, LineReader, Particulars, PlacedCall, ReadLine, SharedSites, SplitLine};
 use std::alloc::Global;
 
 /// What the good lines of a log state, and the first bad one, after which nothing is read.
 #[derive(Drop)]
 pub(crate) struct Reader {
+    /// The names of the log.
+    texts: Texts,
     /// Reads the lines, and keeps their calls.
     pub(crate) lines: LineReader,
     /// Judges the events.
@@ -39,6 +43,13 @@ pub(crate) struct Reader {
     pub(crate) end: Option<LineNo>,
     /// The first bad line.
     pub(crate) fault: Option<FormFault>,
+}
+
+/// What a call does that was found elsewhere, by its number, and the request that it makes or completes.
+#[derive(Drop)]
+pub(crate) struct Added {
+    pub(crate) what: u32,
+    pub(crate) request: Option<Name>,
 }
 
 impl Reader {
@@ -52,6 +63,7 @@ impl Reader {
         ensures { IfOk result (λ reader. HasRead rank.0 logs [] reader) }
     {
         Ok(Reader {
+            texts: Texts::new(alloc),
             lines: LineReader::new(alloc, sites)?,
             book: Book::new(alloc, rank, logs)?,
             end: None,
@@ -106,46 +118,20 @@ impl Reader {
         requires { self.old.fault ≡ None }
         ensures { OnOk result (ReadsNext self.old self.new no.0 (Ok line.now.line)) }
     {
-        match self.elsewhere(line)? {
-            Some(found) => self.read_elsewhere(no, line, found),
+        match self.add_elsewhere(line)? {
+            Some(added) => self.read_added(no, line, added),
             None => self.read_new(no, line),
         }
     }
 
-    // What the call of a line does, where it is known from another place.
+    // Reads the next line, whose words state what has this number, with this request.
     #[inline]
-    fn elsewhere(&self, line: &SplitLine<'_>) -> Result<Option<Elsewhere>, Memory>
-        ensures { IfOk result (λ found. IfSome found (StatesAs self.now.lines line.now.words)) }
+    fn read_added(&mut self, no: LineNo, line: &SplitLine<'_>, added: Added) -> Result<(), Memory>
+        requires { (old : Reader) × (old.fault ≡ None) × HasAdded old self.old line.now.words added }
+        ensures { OnOk result ((old : Reader) → old.fault ≡ None → HasAdded old self.old line.now.words added → ReadsNext old self.new no.0 (Ok line.now.line)) }
     {
-        let mut to = Numbers::new();
-        match self.lines.elsewhere(line, &mut to) {
-            Some(found) => made_elsewhere(
-                self.book.allocator(),
-                found.what,
-                self.lines.what(found.what),
-                found.from,
-                to.as_slice(),
-            ),
-            None => Ok(None),
-        }
-    }
-
-    // Reads the next line, whose words state a call that does this.
-    fn read_elsewhere(
-        &mut self,
-        no: LineNo,
-        line: &SplitLine<'_>,
-        found: Elsewhere,
-    ) -> Result<(), Memory>
-        requires fault { self.old.fault ≡ None }
-        requires found { StatesAs self.old.lines line.now.words found }
-        ensures { OnOk result (ReadsNext self.old self.new no.0 (Ok line.now.line)) }
-    {
-        let Some(what) = self.add_elsewhere(line, found)? else {
-            return self.read_new(no, line);
-        };
         match self.lines.site(line) {
-            Ok(site) => self.read_call(no, site, what, None),
+            Ok(site) => self.read_call(no, site, added.what, added.request),
             Err(ParseError::Fault(fault)) => {
                 self.refuse(no, fault.reason);
                 Ok(())
@@ -154,47 +140,97 @@ impl Reader {
         }
     }
 
-    // Gives a number to what the words of a line state, where it is this. Those are noted then. None, where it has no number by
-    // itself.
+    // Gives a number to what the call of a line does, where it is known from another place. Its words are noted then. None, where
+    // it is not known, or has no number by itself.
     #[inline]
-    fn add_elsewhere(
-        &mut self,
-        line: &SplitLine<'_>,
-        found: Elsewhere,
-    ) -> Result<Option<u32>, Memory>
-        requires { StatesAs self.old.lines line.now.words found }
-        ensures added { IfOk result (λ number. IfSome number (HasAdded self.old self.new line.now.words)) }
+    fn add_elsewhere(&mut self, line: &SplitLine<'_>) -> Result<Option<Added>, Memory>
+        ensures added { IfOk result (λ added. IfSome added (HasAdded self.old self.new line.now.words)) }
         ensures none { result ≡ Ok None → self.new ≡ self.old }
     {
-        match found {
-            Elsewhere::Access { what, place } => self.add_access(line, what, &place),
-            Elsewhere::Local(call) => Ok(Some(self.add(
-                Some(line),
-                What::Local(call),
-                None,
-                false,
-            )?)),
-            Elsewhere::Sync(call) => Ok(Some(self.add(Some(line), What::Sync(call), None, false)?)),
+        let mut to = Particulars::new();
+        let Some(found) = self.lines.elsewhere(&mut self.texts, line, &mut to)? else {
+            return Ok(None);
+        };
+        let PlacedCall {
+            what,
+            requests,
+            from,
+        } = found;
+        match self.lines.what(what) {
+            WhatRef::Rma(call) => match place_elsewhere(requests, call, from, to.numbers()) {
+                Some(place) => self.add_access(line, what, &place),
+                None => Ok(None),
+            },
+            WhatRef::Local(call) => {
+                let alloc = self.book.allocator();
+                match access_elsewhere(alloc, requests, call, from, to.numbers())? {
+                    Some(call) => self.add_made(line, What::Local(call), None),
+                    None => Ok(None),
+                }
+            }
+            _ => self.add_sync(line, what, requests, &to),
         }
     }
 
+    // The same of a call that accesses no memory.
+    #[inline(never)]
+    fn add_sync(
+        &mut self,
+        line: &SplitLine<'_>,
+        what: u32,
+        requests: bool,
+        to: &Particulars,
+    ) -> Result<Option<Added>, Memory>
+        requires known { (from : List ℕ) × IsKnownElsewhere self.old.lines.known self.old.lines.version line.now.words what requests from to.now }
+        requires within { what < length self.old.lines.calls.whats }
+        ensures added { IfOk result (λ added. IfSome added (HasAdded self.old self.new line.now.words)) }
+        ensures none { result ≡ Ok None → self.new ≡ self.old }
+    {
+        match made_elsewhere(requests, self.lines.what(what), to)? {
+            Some(made) => self.add_made(line, What::Sync(made.call), made.request),
+            None => Ok(None),
+        }
+    }
+
+    // Gives a number to what the words of a line state, with this request. They are noted.
+    #[inline(always)]
+    fn add_made(
+        &mut self,
+        line: &SplitLine<'_>,
+        what: What,
+        request: Option<Name>,
+    ) -> Result<Option<Added>, Memory>
+        requires { StatesWhat self.old.lines line.now.words what request }
+        ensures added { IfOk result (λ added. IfSome added (HasAdded self.old self.new line.now.words)) }
+        ensures none { result ≡ Ok None → self.new ≡ self.old }
+    {
+        let number = self.add(Some(line), what, request.as_ref(), false)?;
+        Ok(Some(Added {
+            what: number,
+            request,
+        }))
+    }
+
     // The same of the access of a number, made at a place.
-    #[inline]
+    #[inline(always)]
     fn add_access(
         &mut self,
         line: &SplitLine<'_>,
         what: u32,
         place: &Placement,
-    ) -> Result<Option<u32>, Memory>
+    ) -> Result<Option<Added>, Memory>
         requires { StatesAccess self.old.lines line.now.words what place.now }
-        ensures added { IfOk result (λ number. IfSome number (HasAdded self.old self.new line.now.words)) }
+        ensures added { IfOk result (λ added. IfSome added (HasAdded self.old self.new line.now.words)) }
         ensures none { result ≡ Ok None → self.new ≡ self.old }
     {
         let Some(number) = self.lines.add_placed(what, place)? else {
             return Ok(None);
         };
         self.lines.note(line, number, None, false)?;
-        Ok(Some(number))
+        Ok(Some(Added {
+            what: number,
+            request: None,
+        }))
     }
 
     // Reads the next line, which may be any.
@@ -202,7 +238,7 @@ impl Reader {
         requires { self.old.fault ≡ None }
         ensures { OnOk result (ReadsNext self.old self.new no.0 (Ok line.now.line)) }
     {
-        match self.lines.read(line) {
+        match self.lines.read(&mut self.texts, line) {
             Ok(None) => Ok(()),
             Ok(Some(read)) => self.read_line(no, line, read),
             Err(ParseError::Fault(fault)) => {
@@ -378,13 +414,14 @@ impl Reader {
         ensures { OnOk result ((text : Option (List ℕ)) → IsSite self.old.lines.calls site text
             → Appends self.old self.new (option_map (λ line. line.now.words) words.entry) (option_copied request.entry) (call_with no text number what)) }
     {
-        let what = self.add_placed(words, Some(form), what, request, false)?;
+        let form = if request.is_none() { Some(form) } else { None };
+        let what = self.add_placed(words, form, what, request, false)?;
         self.lines.push(no, site, what, number)
     }
 
     // Gives a number to what a call of this form does, whose request has this name. The words of its line are noted, if they
-    // state it by themselves; so is what they have in common with those of the same call elsewhere, if it has such a form, and no
-    // request. It is said whether they state it whatever the datatypes are.
+    // state it by themselves; so is what they have in common with those of the same call elsewhere, if it has such a form. It is
+    // said whether they state it whatever the datatypes are.
     #[inline]
     fn add_placed(
         &mut self,
@@ -398,8 +435,9 @@ impl Reader {
         ensures adds { OnOk result (Adds self.old self.new (option_map (λ line. line.now.words) words.entry) what (option_copied request.entry) lasts) }
     {
         let number = self.add(words, what, request, lasts)?;
-        if let (Some(line), Some(form), None) = (words, form, request) {
-            self.lines.note_access(line, form, number)?;
+        if let (Some(line), Some(form)) = (words, form) {
+            self.lines
+                .note_access(&mut self.texts, line, form, number, request)?;
         }
         Ok(number)
     }

@@ -1,14 +1,14 @@
 //! Calls whose lines the log repeats, or makes again elsewhere.
 use crate::book::ended;
 use crate::buffers::{Case, check, ended_with};
-use rma_base::{FormReason, Rank};
+use rma_base::{FormReason, Name, Rank};
 use rma_book::BookEnd;
 use rma_bytes::MovedLayout;
-use rma_call::{CallList, EpochCall, MessageCall, MovingCall, WhatRef};
+use rma_call::{CallList, EpochCall, FrameCall, MessageCall, MovingCall, WhatRef, WindowCall};
 use std::process::Abort;
 use std::test::Fail;
 
-static CASES: [Case; 19] = [
+static CASES: [Case; 27] = [
     (
         "type contiguous d 1 INT\ntype commit d\nput W 1 0 1 d 8192 1 d\nput W 1 0 1 d 8192 1 d\nput W 1 0 1 d 8192 1 d\nput W 1 0 1 d 8192 1 d\ntype free d\nput W 1 0 1 d 8192 1 d\n",
         Err((10, FormReason::UnknownType)),
@@ -84,6 +84,38 @@ static CASES: [Case; 19] = [
     (
         "send 1 5 world\nsend 0 6 world\nsend 1 7 world\nsend 1 8 world 9\n",
         Err((6, FormReason::WrongCount)),
+    ),
+    (
+        "comm a1 0,1\ncomm a2 0,1\ncomm a3 0,1\nbarrier a1\nbarrier a2\nbarrier a3\nbarrier a4\n",
+        Err((9, FormReason::UnknownComm)),
+    ),
+    (
+        "flush W 1\nflush W 0\nflush W 1\nflush V 0\n",
+        Err((6, FormReason::UnknownWindow)),
+    ),
+    (
+        "flush W 1\nflush W 0\nflush W 1\nflush 1W 0\n",
+        Err((6, FormReason::BadName)),
+    ),
+    (
+        "irecv r1 world\nirecv r2 world\nirecv r3 world\nirecv r3 world\n",
+        Err((6, FormReason::NameInUse)),
+    ),
+    (
+        "isend s1 1 5 world\nwait s1\nisend s2 0 6 world\nwait s2\nisend s3 1 7 world\nwait s3\nwait s4\n",
+        Err((9, FormReason::UnknownRequest)),
+    ),
+    (
+        "irecv r1 world\nwait r1 1 5\nirecv r2 world\nwait r2 0 6\nirecv r3 world\nwait r3 1 7\nisend r4 1 8 world\nwait r4 1 8\n",
+        Err((10, FormReason::WrongWait)),
+    ),
+    (
+        "irecv r1 world\nwait r1 1 5\nirecv r2 world\nwait r2 0 6\nirecv r3 world\nwait r3 1 7\nirecv r4 world\nwait r4 1 8 9\n",
+        Err((10, FormReason::WrongCount)),
+    ),
+    (
+        "lock W 1 excl\nlock W 0 excl\nlock W 1 excl\nlock W 0 excl nosuch\n",
+        Err((6, FormReason::UnknownAssertion)),
     ),
 ];
 
@@ -284,6 +316,119 @@ fn a_call_that_comes_again_elsewhere_has_its_own_numbers(rt: HostRuntime) -> Res
     let end = ended(&rt, rt.alloc(), Rank(0), 2, MOVED.as_bytes(), 7)?;
     match &end {
         BookEnd::Calls(calls) => check_moved(&rt, calls.calls()),
+        BookEnd::Fault(_) => assert!(&rt; false),
+    }
+    Ok(())
+}
+
+/// The forms of calls that come again by other names, four times each.
+static NAMED: &str =
+    "rma 2 0 2\ncomm grid1 0,1\nwin create halo1 world 4096 64 1 unified same_op\nwin dynamic heap1 world same_op\ncomm grid2 0,1\nwin create halo2 world 4096 64 1 unified same_op\nwin dynamic heap2 world same_op\ncomm grid3 0,1\nwin create halo3 world 4096 64 1 unified same_op\nwin dynamic heap3 world same_op\ncomm grid4 0,1\nwin create halo4 world 4096 64 1 unified same_op\nwin dynamic heap4 world same_op\nbarrier grid1\nisend s1 1 1 grid1\nirecv r1 grid1\nwait s1\nwait r1 0 1\nfence halo1\npost halo1 1\nstart halo1 1\ncomplete halo1\nexpwait halo1\nlock halo1 1 excl\nunlock halo1 1\nlockall halo1\nunlockall halo1\nflushall halo1\nflushlocalall halo1\nsync halo1\nattach heap1 4096 64\ndetach heap1 4096\nbarrier grid2\nisend s2 1 2 grid2\nirecv r2 grid2\nwait s2\nwait r2 0 2\nfence halo2\npost halo2 1\nstart halo2 1\ncomplete halo2\nexpwait halo2\nlock halo2 1 excl\nunlock halo2 1\nlockall halo2\nunlockall halo2\nflushall halo2\nflushlocalall halo2\nsync halo2\nattach heap2 4096 64\ndetach heap2 4096\nbarrier grid3\nisend s3 1 3 grid3\nirecv r3 grid3\nwait s3\nwait r3 0 3\nfence halo3\npost halo3 1\nstart halo3 1\ncomplete halo3\nexpwait halo3\nlock halo3 1 excl\nunlock halo3 1\nlockall halo3\nunlockall halo3\nflushall halo3\nflushlocalall halo3\nsync halo3\nattach heap3 4096 64\ndetach heap3 4096\nbarrier grid4\nisend s4 1 4 grid4\nirecv r4 grid4\nwait s4\nwait r4 0 4\nfence halo4\npost halo4 1\nstart halo4 1\ncomplete halo4\nexpwait halo4\nlock halo4 1 excl\nunlock halo4 1\nlockall halo4\nunlockall halo4\nflushall halo4\nflushlocalall halo4\nsync halo4\nattach heap4 4096 64\ndetach heap4 4096\nend\n";
+
+/// How many calls stand before them, and how many are of each time.
+const DECLARED: usize = 12;
+
+const FORMS: usize = 19;
+
+/// The name that each of them has.
+static NAMES: [(&str, &str, &str); 4] = [
+    ("grid1", "halo1", "heap1"),
+    ("grid2", "halo2", "heap2"),
+    ("grid3", "halo3", "heap3"),
+    ("grid4", "halo4", "heap4"),
+];
+
+/// Whether the call of this form is by these names, a communicator, a window and a dynamic one, and has this number.
+fn is_named(what: WhatRef<'_>, form: usize, names: (&str, &str, &str), number: u64) -> bool {
+    match what {
+        WhatRef::Frame(FrameCall::Barrier { comm }) => form == 0 && comm.text() == names.0,
+        WhatRef::Message(call) => is_requested(call, form, names.0, number),
+        WhatRef::Epoch(call) => form == form_of(call) && window_of(call).text() == names.1,
+        WhatRef::Window(WindowCall::Attach { window, .. }) => {
+            form == 17 && window.text() == names.2
+        }
+        WhatRef::Window(WindowCall::Detach { window, .. }) => {
+            form == 18 && window.text() == names.2
+        }
+        _ => false,
+    }
+}
+
+fn is_requested(call: &MessageCall, form: usize, name: &str, number: u64) -> bool {
+    match call {
+        MessageCall::Isend { to, tag, comm } => {
+            form == 1 && to.0 == 1 && u64::from(*tag) == number && comm.text() == name
+        }
+        MessageCall::Irecv { comm } => form == 2 && comm.text() == name,
+        MessageCall::Wait { received: None } => form == 3,
+        MessageCall::Wait {
+            received: Some(came),
+        } => form == 4 && came.from.0 == 0 && u64::from(came.tag) == number,
+        _ => false,
+    }
+}
+
+/// The place of the call among the forms.
+fn form_of(call: &EpochCall) -> usize {
+    match call {
+        EpochCall::Fence { .. } => 5,
+        EpochCall::Post { .. } => 6,
+        EpochCall::Start { .. } => 7,
+        EpochCall::Complete { .. } => 8,
+        EpochCall::Expwait { .. } => 9,
+        EpochCall::Lock { .. } => 10,
+        EpochCall::Unlock { .. } => 11,
+        EpochCall::LockAll { .. } => 12,
+        EpochCall::UnlockAll { .. } => 13,
+        EpochCall::FlushAll { .. } => 14,
+        EpochCall::FlushLocalAll { .. } => 15,
+        EpochCall::Sync { .. } => 16,
+        EpochCall::Flush { .. } => 19,
+        EpochCall::FlushLocal { .. } => 20,
+    }
+}
+
+/// The window of the call.
+fn window_of(call: &EpochCall) -> &Name {
+    match call {
+        EpochCall::Fence { window, .. }
+        | EpochCall::Post { window, .. }
+        | EpochCall::Start { window, .. }
+        | EpochCall::Complete { window }
+        | EpochCall::Expwait { window }
+        | EpochCall::Lock { window, .. }
+        | EpochCall::Unlock { window, .. }
+        | EpochCall::LockAll { window, .. }
+        | EpochCall::UnlockAll { window }
+        | EpochCall::Flush { window, .. }
+        | EpochCall::FlushAll { window }
+        | EpochCall::FlushLocal { window, .. }
+        | EpochCall::FlushLocalAll { window }
+        | EpochCall::Sync { window } => window,
+    }
+}
+
+fn check_named(rt: &impl Abort, calls: &CallList) {
+    assert!(rt; calls.len() == DECLARED + NAMES.len() * FORMS);
+    for time in 0..NAMES.len() {
+        for form in 0..FORMS {
+            let call = calls.get(DECLARED + time * FORMS + form);
+            assert!(rt; is_named(call.what, form, NAMES[time], time as u64 + 1));
+            let request = match form {
+                1 | 3 => Some(2 * time as u32),
+                2 | 4 => Some(2 * time as u32 + 1),
+                _ => None,
+            };
+            assert!(rt; call.request == request);
+        }
+    }
+}
+
+#[test]
+fn a_call_that_comes_again_by_another_name_has_that_name(rt: HostRuntime) -> Result<(), Fail> {
+    let end = ended(&rt, rt.alloc(), Rank(0), 2, NAMED.as_bytes(), 7)?;
+    match &end {
+        BookEnd::Calls(calls) => check_named(&rt, calls.calls()),
         BookEnd::Fault(_) => assert!(&rt; false),
     }
     Ok(())

@@ -1,8 +1,11 @@
 -- Accesses that are known, and what is known of lines and accesses together.
-use Rattle.std.proofs.Common.{◌≡◌, ℕ, zero, suc, List, [], ◌∷◌, ◌++◌, Option, Some, None, All, option_map, slice_get, slice_set, sym, ap, subst, ◌∙◌, ◌⊎◌, inl, inr, ⊎_elim, arith}
+use Rattle.std.proofs.Common.{◌≡◌, ◌<◌, IfOk, IfSome, Result, Ok, Err, ℕ, zero, suc, List, [], ◌∷◌, ◌++◌, Option, Some, None, All, option_map, slice_get, slice_set, sym, ap, subst, ◌∙◌, ◌⊎◌, inl, inr, ⊎_elim, arith}
 use Rattle.std.proofs.lemmas.List.{map-set}
+use Rattle.rma_base.specs.declared.version.Version.{Version}
+use Rattle.rma_reader.specs.Elsewhere.{Details, IsKnownElsewhere}
 use Rattle.rma_reader.specs.Known.{Known, IsAmong}
-use Rattle.rma_reader.specs.inside.Accesses.{IsKnownAmong, IsPlacedAmong, Placed, known_of}
+use Rattle.rma_reader.specs.declared.read_line.PlacedCall.{PlacedCall}
+use Rattle.rma_reader.specs.inside.Accesses.{IsKnownAmong, IsMadeAmong, IsPlacedAmong, Placed, known_of}
 use Rattle.rma_reader.proofs.SlotLemmas.{set_cases, some_is}
 
 -- ---- what stands in one list or in another
@@ -40,6 +43,35 @@ known_placed (own ∷ them) (suc at) placed is = known_placed them at placed is
 
 pub found_among : (lines : List (Option Known)) (them : List (Option Placed)) (placed : Placed) → IsPlacedAmong them placed → IsAmong (lines ++ known_of them) placed.known
 found_among lines them placed there = among_others lines (known_of them) placed.known (there.0, known_placed them there.0 placed there.1)
+
+-- words are those of a known call elsewhere, if there is one
+pub made_known : {E : Type 0} (lines : List (Option Known)) (them : List (Option Placed)) (v : Version) (words : List ℕ) (to : Details) (found : Result (Option PlacedCall) E)
+    → IfOk found (λ found. IfSome found (λ it. IsMadeAmong them v words it.what it.requests it.from.now to))
+    → IfOk found (λ found. IfSome found (λ it. IsKnownElsewhere (lines ++ known_of them) v words it.what it.requests it.from.now to))
+made_known lines them v words to (Ok (Some it)) made =
+    let placed = made.0 in
+    let is = made.2 in
+    record {
+      known = placed.known;
+      form = placed.form;
+      name = placed.from.name;
+      among = found_among lines them placed made.1;
+      version = is.version;
+      request = is.request;
+      does = is.does;
+      here = is.here;
+      there = is.there;
+    }
+made_known lines them v words to (Ok None) made = tt
+made_known lines them v words to (Err error) made = tt
+
+-- what it does has a number
+pub made_within : {E : Type 0} (lines : List (Option Known)) (them : List (Option Placed)) (v : Version) (words : List ℕ) (to : Details) (n : ℕ) (found : Result (Option PlacedCall) E)
+    → ((known : Known) → IsAmong (lines ++ known_of them) known → known.what < n) → IfOk found (λ found. IfSome found (λ it. IsMadeAmong them v words it.what it.requests it.from.now to))
+    → IfOk found (λ found. IfSome found (λ it. it.what < n))
+made_within lines them v words to n (Ok (Some it)) within made = subst (λ what. what < n) made.2.does (within made.0.known (found_among lines them made.0 made.1))
+made_within lines them v words to n (Ok None) within made = tt
+made_within lines them v words to n (Err error) within made = tt
 
 -- slots of which one was written
 pub known_put : (them : List (Option Placed)) (at : ℕ) (placed : Placed) (known : Known) → IsKnownAmong (slice_set them at (Some placed)) known → IsKnownAmong them known ⊎ (known ≡ placed.known)

@@ -1,18 +1,22 @@
 //! The calls that a log repeats elsewhere.
-ghost use Rattle.std.specs.Prelude.{◌≡◌, ◌⊎◌, Some, None, [], false, IfSome, IfOk, slice_set};
-ghost use Rattle.rma_reader.specs.Elsewhere.{IsElsewhere};
+ghost use Rattle.std.specs.Prelude.{◌≡◌, ◌⊎◌, Some, [], false, IfSome, IfOk, slice_set};
+ghost use Rattle.std.specs.Option.{option_copied};
+ghost use Rattle.rma_reader.specs.Elsewhere.{no_details};
 ghost use Rattle.rma_reader.specs.Known.{Known};
-ghost use Rattle.rma_reader.specs.inside.Accesses.{IsKnownAmong, IsPlacedAmong, Placed};
+ghost use Rattle.rma_reader.specs.inside.Accesses.{IsKnownAmong, IsMadeAmong, Placed};
 
 use crate::call_form::CallForm;
 use crate::key::shape_of;
-use crate::known_access::{KnownAccess, Numbers};
-use rma_base::{Memory, Version};
+use crate::known_access::KnownAccess;
+use crate::particulars::Particulars;
+use crate::read_line::PlacedCall;
+use rma_base::{Memory, Name, Version};
+use rma_field::Texts;
 use std::alloc::Global;
 use std::marker::Model;
 
 /// How many calls are kept.
-const SLOTS: usize = 128;
+const SLOTS: usize = 1_024;
 
 /// Calls that came before, mostly accesses, each in the slot that its shape gives, if one of its shape came twice running to it.
 /// What accesses do depends on the datatypes: all are known until those change.
@@ -58,45 +62,48 @@ impl KnownAccesses {
         })
     }
 
-    /// The call that is known, where these words, read in this version, are those of it elsewhere: these numbers say then where.
+    /// The call that is known, where these words, read in this version, are those of it elsewhere: these are then its particulars
+    /// there. Names are those of these texts.
     pub(crate) fn find(
         &self,
+        texts: &mut Texts,
         version: Version,
         words: &[u8],
-        to: &mut Numbers,
-    ) -> Option<&KnownAccess>
-        ensures among { IfSome result (λ found. IsPlacedAmong self.now found.now) }
-        ensures version { IfSome result (λ found. found.now.known.version ≡ version) }
-        ensures elsewhere { IfSome result (λ found. IsElsewhere version found.now.form found.now.known.words words.now to.new.items) }
+        to: &mut Particulars,
+    ) -> Result<Option<PlacedCall<'_>>, Memory>
+        requires { to.old ≡ no_details }
+        ensures { IfOk result (λ found. IfSome found (λ found. IsMadeAmong self.now version words.now found.what found.requests found.from.now to.new)) }
     {
         if self.slots.is_empty() {
-            return None;
+            return Ok(None);
         }
         match self.slots.get(slot_of(shape_of(words))) {
-            Some(Some(access)) if access.is_elsewhere(version, words, to) => Some(access),
-            _ => None,
+            Some(Some(access)) => access.elsewhere(texts, version, words, to),
+            _ => Ok(None),
         }
     }
 
-    /// Notes that these words, read in this version behind so many calls, state a call of this form that does this.
+    /// Notes that these words, read in this version behind so many calls, state a call of this form that does this, and has this
+    /// request.
     pub(crate) fn note(
         &mut self,
-        alloc: Global,
+        texts: &mut Texts,
         version: Version,
         words: &[u8],
         form: CallForm,
         what: u32,
+        request: Option<&Name>,
         at: usize,
     ) -> Result<(), Memory>
         ensures { (known : Known) → IsKnownAmong self.new known
-            → IsKnownAmong self.old known ⊎ (known ≡ record { version = version; words = words.now; what = what; request = None; lasts = false }) }
+            → IsKnownAmong self.old known ⊎ (known ≡ record { version = version; words = words.now; what = what; request = option_copied request.entry; lasts = false }) }
     {
         let shape = shape_of(words);
         if !comes_again(&mut self.last, shape, at) {
             return Ok(());
         }
-        match KnownAccess::new(alloc, version, words, form, what) {
-            Ok(Some(access)) => self.keep(alloc, slot_of(shape), access),
+        match KnownAccess::new(texts, version, words, form, what, request) {
+            Ok(Some(access)) => self.keep(texts.allocator(), slot_of(shape), access),
             Ok(None) => Ok(()),
             Err(Memory) => Err(Memory),
         }
@@ -188,8 +195,8 @@ fn nothing_last(alloc: Global) -> Result<Vec<Last>, Memory> {
     Ok(last)
 }
 
-/// The slot of a shape: its first seven bits, of which there are `SLOTS`.
+/// The slot of a shape: its first ten bits, of which there are `SLOTS`.
 #[inline]
 fn slot_of(shape: u64) -> usize {
-    (shape >> 57) as usize
+    (shape >> 54) as usize
 }

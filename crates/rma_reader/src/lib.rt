@@ -6,9 +6,9 @@
 //!
 //! A program makes its calls at a few places over and over, so the reader remembers the words that come again with the number
 //! of what they state, as it is told by [`LineReader::note`], and it keeps each site once. What the words of an access state
-//! depends on the datatypes too: [`LineReader::forget_accesses`] is called where those change. Of accesses, messages, calls for a
-//! target and collectives that move data it also knows the line that states the same call elsewhere: with other ranks, tags,
-//! addresses or numbers of bytes, as a [`PlacedCall`].
+//! depends on the datatypes too: [`LineReader::forget_accesses`] is called where those change. Of most calls it also knows the
+//! line that states the same call elsewhere, as a [`PlacedCall`]: with other [`Particulars`], which are ranks, tags, addresses and
+//! numbers of bytes, and the names of communicators, windows and requests.
 #![tactic(auto)]
 
 mod call_form;
@@ -20,15 +20,16 @@ mod known_line;
 mod known_lines;
 mod known_sites;
 mod line_reader;
-mod number_at;
 mod numbered_calls;
+mod part_at;
+mod particulars;
 mod read_line;
 mod shared_sites;
 mod split_line;
 
-pub use call_form::{CallForm, Place};
-pub use known_access::Numbers;
+pub use call_form::{CallForm, Part, Place};
 pub use line_reader::LineReader;
+pub use particulars::{Numbers, Particulars};
 pub use read_line::{KnownCall, PlacedCall, ReadLine};
 pub use shared_sites::SharedSites;
 pub use split_line::SplitLine;

@@ -8,7 +8,7 @@ ghost use Rattle.rma_form.specs.declared.event.Stated.{Stated};
 ghost use Rattle.rma_form.specs.declared.event.Event.{Event};
 ghost use Rattle.rma_form.specs.Lines.{reading, site_of, states};
 ghost use Rattle.rma_field.specs.Steps.{Fails};
-ghost use Rattle.rma_reader.specs.Elsewhere.{IsKnownElsewhere};
+ghost use Rattle.rma_reader.specs.Elsewhere.{IsKnownElsewhere, no_details};
 ghost use Rattle.rma_reader.specs.Known.{Known, IsAmong, IsKnownLine};
 ghost use Rattle.rma_reader.specs.Reading.{Grows, IsPlaced, IsRead};
 ghost use Rattle.rma_reader.specs.Sites.{IsSiteOf};
@@ -16,10 +16,10 @@ ghost use Rattle.rma_reader.specs.Split.{IsSplit};
 ghost use Rattle.rma_reader.specs.inside.Tables.{Reads};
 
 use crate::call_form::CallForm;
-use crate::known_access::Numbers;
 use crate::known_accesses::KnownAccesses;
 use crate::known_lines::KnownLines;
 use crate::numbered_calls::NumberedCalls;
+use crate::particulars::Particulars;
 use crate::read_line::{KnownCall, PlacedCall, ReadLine};
 use crate::shared_sites::SharedSites;
 use crate::split_line::{SplitLine, is_comment};
@@ -35,8 +35,8 @@ use std::marker::Model;
 pub struct LineReader {
     /// The version of the format in which lines are read.
     version: Version,
-    /// The names of the log.
-    texts: Texts,
+    /// Where memory is taken.
+    alloc: Global,
     /// The lines that come again.
     lines: KnownLines,
     /// The calls that come again elsewhere.
@@ -69,7 +69,7 @@ impl LineReader {
         let sites = sites.share()?;
         Ok(LineReader {
             version: Version::One,
-            texts: Texts::new(alloc),
+            alloc,
             lines: KnownLines::new(alloc)?,
             accesses: KnownAccesses::new(alloc)?,
             calls: NumberedCalls::new(alloc, sites),
@@ -112,7 +112,7 @@ impl LineReader {
         let Ok(request) = known.request() else {
             return Err(ParseError::Memory);
         };
-        let site = match self.calls.site_at(self.texts.allocator(), text) {
+        let site = match self.calls.site_at(self.alloc, text) {
             Ok(site) => site,
             Err(error) => return Err(error),
         };
@@ -123,19 +123,19 @@ impl LineReader {
         }))
     }
 
-    /// The call that is known, where the words of the line are those of it but for where it is made: these numbers say then where
-    /// that of the line is.
-    pub fn elsewhere(&self, line: &SplitLine<'_>, to: &mut Numbers) -> Option<PlacedCall<'_>>
-        ensures known { IfSome result (λ found. IsKnownElsewhere self.now.known self.now.version line.now.words found.what found.from.now to.new.items) }
-        ensures within { IfSome result (λ found. found.what < length self.now.calls.whats) }
+    /// The call that is known, where the words of the line are those of it but for its particulars: these are then those of the
+    /// line. Names are those of these texts.
+    pub fn elsewhere(
+        &self,
+        texts: &mut Texts,
+        line: &SplitLine<'_>,
+        to: &mut Particulars,
+    ) -> Result<Option<PlacedCall<'_>>, Memory>
+        requires { to.old ≡ no_details }
+        ensures known { IfOk result (λ found. IfSome found (λ found. IsKnownElsewhere self.now.known self.now.version line.now.words found.what found.requests found.from.now to.new)) }
+        ensures within { IfOk result (λ found. IfSome found (λ found. found.what < length self.now.calls.whats)) }
     {
-        match self.accesses.find(self.version, line.words(), to) {
-            Some(access) => Some(PlacedCall {
-                what: access.what(),
-                from: access.from(),
-            }),
-            None => None,
-        }
+        self.accesses.find(texts, self.version, line.words(), to)
     }
 
     /// The number of the site of the line, if it has one. It stands in the tables then.
@@ -151,15 +151,19 @@ impl LineReader {
         ensures grows { Grows self.old self.new }
     {
         let text = line.site();
-        self.calls.site_at(self.texts.allocator(), text)
+        self.calls.site_at(self.alloc, text)
     }
 
-    /// What the line states. Its site stands in the tables then.
+    /// What the line states, by names of these texts. Its site stands in the tables then.
     ///
     /// # Errors
     ///
     /// The first reason for which the line is bad, or that memory ran out.
-    pub fn read(&mut self, line: &SplitLine<'_>) -> Result<Option<ReadLine>, ParseError>
+    pub fn read(
+        &mut self,
+        texts: &mut Texts,
+        line: &SplitLine<'_>,
+    ) -> Result<Option<ReadLine>, ParseError>
         ensures ok { IfOk result (λ read. MatchOption read (reading self.old.version line.now.line ≡ Ok None)
             (λ read. (stated : Stated) × (reading self.old.version line.now.line ≡ Ok (Some stated)) × IsRead self.new.calls read stated)) }
         ensures words { IfOk result (λ read. IfSome read (λ read. read.by_words ≡ true → states self.old.version line.now.words (record { event = read.event; site = None }))) }
@@ -167,18 +171,18 @@ impl LineReader {
         ensures grows { Grows self.old self.new }
     {
         if is_comment(line.line()) {
-            return self.read_whole(line);
+            return self.read_whole(texts, line);
         }
-        match parse_line(&mut self.texts, self.version, line.words()) {
+        match parse_line(texts, self.version, line.words()) {
             Ok(Some(stated)) => {
                 let Stated { event, site: own } = stated;
                 match own {
                     None => self.read_event(line, event),
-                    Some(_) => self.read_whole(line),
+                    Some(_) => self.read_whole(texts, line),
                 }
             }
             Err(ParseError::Memory) => Err(ParseError::Memory),
-            _ => self.read_whole(line),
+            _ => self.read_whole(texts, line),
         }
     }
 
@@ -193,7 +197,7 @@ impl LineReader {
         ensures read { Reads self.new.calls self.old.version line.now result }
         ensures grows { Grows self.old self.new }
     {
-        let site = match self.calls.site_at(self.texts.allocator(), line.site()) {
+        let site = match self.calls.site_at(self.alloc, line.site()) {
             Ok(site) => site,
             Err(error) => return Err(error),
         };
@@ -206,15 +210,19 @@ impl LineReader {
 
     /// What the line states, read as one text.
     #[inline(never)]
-    fn read_whole(&mut self, line: &SplitLine<'_>) -> Result<Option<ReadLine>, ParseError>
+    fn read_whole(
+        &mut self,
+        texts: &mut Texts,
+        line: &SplitLine<'_>,
+    ) -> Result<Option<ReadLine>, ParseError>
         ensures read { Reads self.new.calls self.old.version line.now result }
         ensures grows { Grows self.old self.new }
     {
-        let Some(stated) = parse_line(&mut self.texts, self.version, line.line())? else {
+        let Some(stated) = parse_line(texts, self.version, line.line())? else {
             return Ok(None);
         };
         let Stated { event, site } = stated;
-        match self.calls.number_site(self.texts.allocator(), site) {
+        match self.calls.number_site(self.alloc, site) {
             Ok(site) => Ok(Some(ReadLine {
                 event,
                 site,
@@ -238,28 +246,29 @@ impl LineReader {
             ⊎ (known ≡ record { version = self.old.version; words = line.now.words; what = what; request = option_copied request.entry; lasts = lasts }) }
         ensures same { self.new ≡ record self.old { known = self.new.known } }
     {
-        let alloc = self.texts.allocator();
+        let alloc = self.alloc;
         self.lines
             .note(alloc, self.version, line, what, request, lasts)
     }
 
-    /// Notes that the words of a line state a call of this form that does this, so that it is known when it comes again elsewhere,
-    /// until the datatypes change.
+    /// Notes that the words of a line state a call of this form that does this, and has this request, so that it is known when it
+    /// comes again elsewhere, until the datatypes change.
     pub fn note_access(
         &mut self,
+        texts: &mut Texts,
         line: &SplitLine<'_>,
         form: CallForm,
         what: u32,
+        request: Option<&Name>,
     ) -> Result<(), Memory>
         requires { what < length self.old.calls.whats }
         ensures known { (known : Known) → IsAmong self.new.known known → IsAmong self.old.known known
-            ⊎ (known ≡ record { version = self.old.version; words = line.now.words; what = what; request = None; lasts = false }) }
+            ⊎ (known ≡ record { version = self.old.version; words = line.now.words; what = what; request = option_copied request.entry; lasts = false }) }
         ensures same { self.new ≡ record self.old { known = self.new.known } }
     {
-        let alloc = self.texts.allocator();
         let at = self.calls.list().len();
         self.accesses
-            .note(alloc, self.version, line.words(), form, what, at)
+            .note(texts, self.version, line.words(), form, what, request, at)
     }
 
     /// The datatypes have changed: calls that depend on them are not known any more.

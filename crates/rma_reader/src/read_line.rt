@@ -29,7 +29,8 @@ pub struct KnownCall {
 pub struct PlacedCall<'a> {
     /// The number of what it does.
     pub what: u32,
-    /// Where it is made: of an access the target and the displacement, if it has them, and the addresses of its buffers; of any
-    /// other call the rank, and the tag or the number of bytes, as far as it has them.
+    /// Whether it makes or completes a request.
+    pub requests: bool,
+    /// The numbers among its particulars.
     pub from: &'a [u64],
 }

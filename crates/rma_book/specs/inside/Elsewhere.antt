@@ -1,86 +1,121 @@
 -- The events of calls that a log repeats elsewhere.
-use Rattle.std.specs.Prelude.{◌≡◌, ℕ, ◌<◌, List, [], ◌∷◌, length, slice_get, None, Some}
+use Rattle.std.specs.Prelude.{◌≡◌, ℕ, ◌<◌, Bool, List, [], ◌∷◌, length, slice_get, Option, None, Some, is_some}
+use Rattle.std.specs.Option.{option_or}
 use Rattle.rma_call.specs.declared.epoch.EpochCall.{EpochCall}
-use Rattle.rma_call.specs.declared.epoch.EpochCall.TheVariants.{Unlock, Flush, FlushLocal}
+use Rattle.rma_call.specs.declared.epoch.EpochCall.TheVariants.{Fence, Post, Start, Complete, Expwait, Lock, Unlock, LockAll, UnlockAll, Flush, FlushAll, FlushLocal, FlushLocalAll}
+use Rattle.rma_call.specs.declared.epoch.EpochCall.TheVariants as epoch
+use Rattle.rma_call.specs.declared.frame.FrameCall.{FrameCall}
+use Rattle.rma_call.specs.declared.frame.FrameCall.TheVariants.{Barrier}
 use Rattle.rma_call.specs.declared.message.MessageCall.{MessageCall}
-use Rattle.rma_call.specs.declared.message.MessageCall.TheVariants.{Send, Recv}
+use Rattle.rma_call.specs.declared.message.MessageCall.TheVariants.{Send, Recv, Isend, Irecv, Wait}
 use Rattle.rma_call.specs.declared.moving.MovingCall.{MovingCall}
 use Rattle.rma_call.specs.declared.moving.MovingCall.TheVariants.{Bcast, Scatter, Gather, Reduce, Allreduce, Allgather, Alltoall}
+use Rattle.rma_call.specs.declared.window.WindowCall.{WindowCall}
+use Rattle.rma_call.specs.declared.window.WindowCall.TheVariants.{Attach, Detach}
 use Rattle.rma_call.specs.Rma.{placed}
 use Rattle.rma_call.specs.declared.rma.Placement.{Placement}
 use Rattle.rma_call.specs.declared.rma.RmaCall.{RmaCall}
 use Rattle.rma_call.specs.declared.what.SyncCall.{SyncCall}
-use Rattle.rma_call.specs.declared.what.SyncCall.TheVariants.{Message, Epoch, Moving}
+use Rattle.rma_call.specs.declared.what.SyncCall.TheVariants as sync
 use Rattle.rma_call.specs.declared.what.What.{What}
 use Rattle.rma_call.specs.declared.what.What.TheVariants as what
 use Rattle.rma_form.specs.declared.event.Event.{Event}
 use Rattle.rma_form.specs.declared.event.Event.TheVariants.{Call, Rma, Local}
 use Rattle.rma_buffer.specs.Elsewhere.{line_at, local_at}
+use Rattle.rma_reader.specs.Elsewhere.{Details}
 use Rattle.rma_reader.specs.Reading.{Reading}
 use Rattle.rma_type.specs.Table.{Table}
-use Rattle.rma_book.specs.declared.elsewhere.Elsewhere.{Elsewhere}
-use Rattle.rma_book.specs.declared.elsewhere.Elsewhere.TheVariants as elsewhere
 use Rattle.rma_book.specs.inside.Known.{AreKnown, IsCallOf, IsStatedBy}
 
--- a message with the rank and the tag of these numbers
-abbrev pub message_at : MessageCall → List ℕ → MessageCall
-message_at (Send to tag comm) (rank ∷ number ∷ []) = Send (record { 0 = rank }) number comm
-message_at (Recv source tag comm) (rank ∷ number ∷ []) = Recv (record { 0 = rank }) number comm
-message_at call _ = call
+-- ---- calls with other numbers and another name; the same, where they are none of theirs
 
--- a call for the target of this number
-abbrev pub epoch_at : EpochCall → List ℕ → EpochCall
-epoch_at (Unlock window target) (rank ∷ []) = Unlock window (record { 0 = rank })
-epoch_at (Flush window target) (rank ∷ []) = Flush window (record { 0 = rank })
-epoch_at (FlushLocal window target) (rank ∷ []) = FlushLocal window (record { 0 = rank })
-epoch_at call _ = call
+-- a barrier on another communicator
+abbrev pub frame_at : FrameCall → List ℕ → Option (List ℕ) → FrameCall
+frame_at (Barrier comm) [] (Some name) = Barrier name
+frame_at call _ _ = call
 
--- a collective with the root and the bytes of these numbers
-abbrev pub moving_at : MovingCall → List ℕ → MovingCall
-moving_at (Bcast root bytes comm) (rank ∷ number ∷ []) = Bcast (record { 0 = rank }) number comm
-moving_at (Scatter root bytes comm) (rank ∷ number ∷ []) = Scatter (record { 0 = rank }) number comm
-moving_at (Gather root bytes comm) (rank ∷ number ∷ []) = Gather (record { 0 = rank }) number comm
-moving_at (Reduce root bytes comm) (rank ∷ number ∷ []) = Reduce (record { 0 = rank }) number comm
-moving_at (Allreduce bytes comm) (number ∷ []) = Allreduce number comm
-moving_at (Allgather bytes comm) (number ∷ []) = Allgather number comm
-moving_at (Alltoall bytes comm) (number ∷ []) = Alltoall number comm
-moving_at call _ = call
+-- a message with another rank and another tag, on another communicator; the message of a request that is complete
+abbrev pub message_at : MessageCall → List ℕ → Option (List ℕ) → MessageCall
+message_at (Send to tag comm) (rank ∷ number ∷ []) (Some name) = Send (record { 0 = rank }) number name
+message_at (Recv source tag comm) (rank ∷ number ∷ []) (Some name) = Recv (record { 0 = rank }) number name
+message_at (Isend to tag comm) (rank ∷ number ∷ []) (Some name) = Isend (record { 0 = rank }) number name
+message_at (Irecv comm) [] (Some name) = Irecv name
+message_at (Wait received) (rank ∷ number ∷ []) None = Wait (Some (record { from = record { 0 = rank }; tag = number }))
+message_at call _ _ = call
 
--- a call that accesses no memory, where these numbers say
-abbrev pub sync_at : SyncCall → List ℕ → SyncCall
-sync_at (Message call) numbers = Message (message_at call numbers)
-sync_at (Epoch call) numbers = Epoch (epoch_at call numbers)
-sync_at (Moving call) numbers = Moving (moving_at call numbers)
-sync_at call _ = call
+-- memory of another window
+abbrev pub window_at : WindowCall → List ℕ → Option (List ℕ) → WindowCall
+window_at (Attach window address size) (other ∷ []) (Some name) = Attach name other size
+window_at (Detach window address) (other ∷ []) (Some name) = Detach name other
+window_at call _ _ = call
 
--- the event of a call, where these numbers say
-abbrev pub event_at : Event → List ℕ → Event
-event_at (Rma line request) numbers = Rma (line_at line numbers) request
-event_at (Local line) numbers = Local (local_at line numbers)
-event_at (Call call request) numbers = Call (sync_at call numbers) request
-event_at event numbers = event
+-- an epoch of another window, for another target
+abbrev pub epoch_at : EpochCall → List ℕ → Option (List ℕ) → EpochCall
+epoch_at (Fence window assertions) [] (Some name) = Fence name assertions
+epoch_at (Post window origins assertions) [] (Some name) = Post name origins assertions
+epoch_at (Start window targets assertions) [] (Some name) = Start name targets assertions
+epoch_at (Complete window) [] (Some name) = Complete name
+epoch_at (Expwait window) [] (Some name) = Expwait name
+epoch_at (Lock window target kind assertions) (rank ∷ []) (Some name) = Lock name (record { 0 = rank }) kind assertions
+epoch_at (Unlock window target) (rank ∷ []) (Some name) = Unlock name (record { 0 = rank })
+epoch_at (LockAll window assertions) [] (Some name) = LockAll name assertions
+epoch_at (UnlockAll window) [] (Some name) = UnlockAll name
+epoch_at (Flush window target) (rank ∷ []) (Some name) = Flush name (record { 0 = rank })
+epoch_at (FlushAll window) [] (Some name) = FlushAll name
+epoch_at (FlushLocal window target) (rank ∷ []) (Some name) = FlushLocal name (record { 0 = rank })
+epoch_at (FlushLocalAll window) [] (Some name) = FlushLocalAll name
+epoch_at (epoch.Sync window) [] (Some name) = epoch.Sync name
+epoch_at call _ _ = call
 
--- whatever call this does that is where some numbers say: where others say it is one that does that
-abbrev pub DoesElsewhere : What → List ℕ → List ℕ → What → Type 0
-DoesElsewhere what from to moved = (types : Table) (event : Event) → event_at event from ≡ event → IsCallOf types what None event → IsCallOf types moved None (event_at event to)
+-- a collective of another root and other bytes, on another communicator
+abbrev pub moving_at : MovingCall → List ℕ → Option (List ℕ) → MovingCall
+moving_at (Bcast root bytes comm) (rank ∷ number ∷ []) (Some name) = Bcast (record { 0 = rank }) number name
+moving_at (Scatter root bytes comm) (rank ∷ number ∷ []) (Some name) = Scatter (record { 0 = rank }) number name
+moving_at (Gather root bytes comm) (rank ∷ number ∷ []) (Some name) = Gather (record { 0 = rank }) number name
+moving_at (Reduce root bytes comm) (rank ∷ number ∷ []) (Some name) = Reduce (record { 0 = rank }) number name
+moving_at (Allreduce bytes comm) (number ∷ []) (Some name) = Allreduce number name
+moving_at (Allgather bytes comm) (number ∷ []) (Some name) = Allgather number name
+moving_at (Alltoall bytes comm) (number ∷ []) (Some name) = Alltoall number name
+moving_at call _ _ = call
 
--- the words state a call that does this, where known words state what is known of them
-abbrev pub StatesWhat : Reading → List ℕ → What → Type 0
-StatesWhat reading words what = (types : Table) → AreKnown types reading → (event : Event) × IsStatedBy reading.version words event × IsCallOf types what None event
+-- a call that accesses no memory
+abbrev pub sync_at : SyncCall → List ℕ → Option (List ℕ) → SyncCall
+sync_at (sync.Frame call) numbers name = sync.Frame (frame_at call numbers name)
+sync_at (sync.Message call) numbers name = sync.Message (message_at call numbers name)
+sync_at (sync.Window call) numbers name = sync.Window (window_at call numbers name)
+sync_at (sync.Epoch call) numbers name = sync.Epoch (epoch_at call numbers name)
+sync_at (sync.Moving call) numbers name = sync.Moving (moving_at call numbers name)
+
+-- the request of a call that has one
+abbrev pub request_at : Option (List ℕ) → Option (List ℕ) → Option (List ℕ)
+request_at None other = None
+request_at (Some own) other = option_or other (Some own)
+
+-- the event of a call, where these particulars say
+abbrev pub event_at : Event → Details → Event
+event_at (Rma line request) to = Rma (line_at line to.numbers) request
+event_at (Local line) to = Local (local_at line to.numbers)
+event_at (Call call request) to = Call (sync_at call to.numbers to.name) (request_at request to.request)
+event_at event to = event
+
+-- ---- what is done elsewhere
+
+-- Whatever call this does that is where some numbers say, and has a request or none: where other particulars say it is one that does
+-- that, with this request.
+abbrev pub DoesElsewhere : What → Bool → List ℕ → Details → What → Option (List ℕ) → Type 0
+DoesElsewhere what requests from to moved request =
+    (types : Table) (event : Event) (name own : Option (List ℕ)) → event_at event (record { numbers = from; name = name; request = own }) ≡ event → is_some own ≡ requests
+    → IsCallOf types what own event → IsCallOf types moved request (event_at event to)
+
+-- the words state a call that does this, with this request, where known words state what is known of them
+abbrev pub StatesWhat : Reading → List ℕ → What → Option (List ℕ) → Type 0
+StatesWhat reading words what request = (types : Table) → AreKnown types reading → (event : Event) × IsStatedBy reading.version words event × IsCallOf types what request event
 
 -- the same of the access of a number, made at a place
 abbrev pub StatesAccess : Reading → List ℕ → ℕ → Placement → Type 0
 StatesAccess reading words number place =
-    (number < length reading.calls.whats) × ((call : RmaCall) → slice_get reading.calls.whats number ≡ Some (what.Rma call) → StatesWhat reading words (what.Rma (placed call place)))
+    (number < length reading.calls.whats) × ((call : RmaCall) → slice_get reading.calls.whats number ≡ Some (what.Rma call) → StatesWhat reading words (what.Rma (placed call place)) None)
 
--- the same of what is done elsewhere
-abbrev pub StatesAs : Reading → List ℕ → Elsewhere → Type 0
-StatesAs reading words (elsewhere.Access number place) = StatesAccess reading words number place
-StatesAs reading words (elsewhere.Local call) = StatesWhat reading words (what.Local call)
-StatesAs reading words (elsewhere.Sync call) = StatesWhat reading words (what.Sync call)
-
--- what is done elsewhere is what a call does of this number, which does this
-abbrev pub DoesAs : ℕ → What → List ℕ → List ℕ → Elsewhere → Type 0
-DoesAs number does from to (elsewhere.Access other place) = (other ≡ number) × ((call : RmaCall) → does ≡ what.Rma call → DoesElsewhere does from to (what.Rma (placed call place)))
-DoesAs number does from to (elsewhere.Local call) = DoesElsewhere does from to (what.Local call)
-DoesAs number does from to (elsewhere.Sync call) = DoesElsewhere does from to (what.Sync call)
+-- a call that accesses no memory is this elsewhere
+abbrev pub IsSyncAt : What → List ℕ → Option (List ℕ) → SyncCall → Type 0
+IsSyncAt does numbers name moved = (call : SyncCall) × (does ≡ what.Sync call) × (moved ≡ sync_at call numbers name)

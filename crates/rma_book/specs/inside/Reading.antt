@@ -19,6 +19,7 @@ use Rattle.rma_book.specs.inside.Known.{AreKnown, IsCallOf, IsStatedBy}
 use Rattle.rma_type.specs.Table.{Table}
 use Rattle.rma_book.specs.Logs.{Checked, AreGood, AreGoodUntil, IsFirstBad, entries}
 use Rattle.rma_book.specs.declared.fault.FormFault.{FormFault}
+use Rattle.rma_book.specs.declared.reader.Added.{Added}
 use Rattle.rma_book.specs.declared.reader.Reader.{Reader}
 
 -- the reader took these lines, which are good
@@ -99,12 +100,12 @@ pub record Adds (old new : Reader) (words : Option (List ℕ)) (what : What) (re
   pub known : (types : Table) (event : Event) → AreKnown types old.lines → IfSome words (λ own. IsStatedBy old.lines.version own event) → IsCallOf types what request event
       → (lasts ≡ true → (sync : SyncCall) × (event ≡ Call sync request)) → AreKnown types new.lines
 
--- the reader has this number for what these words state, which are noted
-pub record HasAdded (old new : Reader) (words : List ℕ) (number : ℕ) : Type 0 where
+-- the reader has this number for what these words state, with this request, and they are noted
+pub record HasAdded (old new : Reader) (words : List ℕ) (added : Added) : Type 0 where
   pub what : What
-  pub states : StatesWhat old.lines words what
-  pub is : slice_get new.lines.calls.whats number ≡ Some what
-  pub adds : Adds old new (Some words) what None false
+  pub states : StatesWhat old.lines words what added.request
+  pub is : slice_get new.lines.calls.whats added.what ≡ Some what
+  pub adds : Adds old new (Some words) what added.request false
 
 -- The reader has one call more. Known words state what they did, and so do these words, where the call is what they state.
 pub record Appends (old new : Reader) (words : Option (List ℕ)) (request : Option (List ℕ)) (call : CallOf) : Type 0 where

@@ -19,7 +19,7 @@ returns c =
     let judged = rw c.in-Good.is at (c.in_ok-judged.ensures.judged event told) in
     let numbered = λ (events : List Event) (h : Represents old.book events).
     rw c.in-Good.is at (c.in_ok-judged.ensures.number event told (ap reason_in c.in-Good.is) events h) in
-    let after : Reader = record { lines = c.push.new.self; book = c.call.new.self; end = old.end; fault = old.fault } in
+    let after : Reader = record old { lines = c.push.new.self; book = c.call.new.self } in
     Reads_taken old after c.args.no (record { event = event; site = text })
     (Takes_call old after c.call.new.self c.args.no event text c.args.site c.args.what c.in-Good.request does c.args.request (pushed does is) refl refl refl call judged site numbered)
     c.requires.fault)

@@ -1,4 +1,4 @@
-use Rattle.std.proofs.Common.{◌≡◌, ◌<◌, length, None, false, ⊎_elim, inl, inr, sym, subst}
+use Rattle.std.proofs.Common.{◌≡◌, ◌<◌, length, false, option_copied, ⊎_elim, inl, inr, sym, subst}
 use Rattle.rma_reader.specs.Known.{Known, IsAmong}
 use Rattle.rma_reader.specs.Reading.{Reading}
 use Rattle.rma_reader.specs.inside.Accesses.{IsKnownAmong, known_of}
@@ -14,7 +14,7 @@ invariant_of-self c = λ known there.
     (λ (other : IsKnownAmong c.note.new.self known).
     ⊎_elim
     (λ (old : IsAmong others known). c.self.invariant known (among_others lines others known old))
-    (λ (same : known ≡ record { version = c.self.inside.version; words = c.args.line.now.words; what = c.args.what; request = None; lasts = false }).
+    (λ (same : known ≡ record { version = c.self.inside.version; words = c.args.line.now.words; what = c.args.what; request = option_copied c.args.request; lasts = false }).
     let within : c.args.what < length c.self.inside.calls.whats = subst (λ (reading : Reading). c.args.what < length reading.calls.whats) (sym c.self.view_is) c.requires in
     subst (λ (k : Known). k.what < length c.self.inside.calls.whats) (sym same) within)
     (rw c.words.ensures at (c.note.ensures known other)))
@@ -30,6 +30,6 @@ returns-clause-known c =
     (λ (other : IsKnownAmong c.note.new.self known).
     ⊎_elim
     (λ (old : IsAmong others known). inl (among_others lines others known old))
-    (λ (same : known ≡ record { version = c.self.inside.version; words = c.args.line.now.words; what = c.args.what; request = None; lasts = false }). inr same)
+    (λ (same : known ≡ record { version = c.self.inside.version; words = c.args.line.now.words; what = c.args.what; request = option_copied c.args.request; lasts = false }). inr same)
     (rw c.words.ensures at (c.note.ensures known other)))
     (among_either lines (known_of c.note.new.self) known there))

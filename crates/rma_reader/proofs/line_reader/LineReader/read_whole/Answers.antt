@@ -1,4 +1,4 @@
 use Rattle.rma_reader.proofs.line_reader.LineReader.read_whole.Goals as goal
 
-pub invariant_of-self-2 : goal.invariant_of-self-2
-invariant_of-self-2 c = λ known there. rw c.number_site.ensures.adds.whats (c.self.invariant known there)
+pub invariant_of-self : goal.invariant_of-self
+invariant_of-self c = λ known there. rw c.number_site.ensures.adds.whats (c.self.invariant known there)

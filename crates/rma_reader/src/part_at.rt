@@ -1,30 +1,26 @@
-//! Where the numbers stand among the words of a call.
-ghost use Rattle.std.specs.Prelude.{◌≡◌, ◌+◌, ◌<◌, ◌≤◌, ◌^◌, true, false, IfSome, ◌∷◌, drop, length, take};
+//! Where the particulars of a call stand among its words.
+ghost use Rattle.std.specs.Prelude.{◌≡◌, ◌+◌, ◌<◌, ◌≤◌, ◌^◌, false, IfSome, ◌∷◌, drop, length, take, true};
 ghost use Rattle.std.specs.List.{list_all};
 ghost use Rattle.rma_lex.specs.Field.{begins_field, is_blank, is_field};
-ghost use Rattle.rma_reader.specs.inside.Accesses.{IsNextWord, IsNoted, Says, limit_of};
+ghost use Rattle.rma_reader.specs.inside.Accesses.{IsNextWord, IsNoted, Stand};
 
-use crate::call_form::Place;
+use crate::call_form::{Part, Place};
 use arrayvec::ArrayVec;
 use rma_base::Version;
-use rma_base::limits::SPACE;
 
-/// The greatest tag of a message.
-const TAG: u64 = 2_147_483_647;
-
-/// Where a number stands among words that are known, counted from the number before it.
+/// Where a particular stands among words that are known, counted from the one before it.
 #[derive(Clone, Copy, Debug, Default)]
-pub(crate) struct NumberAt {
+pub(crate) struct PartAt {
     /// How many bytes stand before it: other words, and the blanks round them.
     pub(crate) before: usize,
     /// How many bytes it has.
     pub(crate) len: usize,
-    /// The greatest number that may stand there.
-    pub(crate) limit: u64,
+    /// What may stand there.
+    pub(crate) part: Part,
 }
 
-/// Where the numbers stand that say where a call is made.
-pub(crate) type NumbersAt = ArrayVec<NumberAt, 5>;
+/// Where the particulars of a call stand.
+pub(crate) type PartsAt = ArrayVec<PartAt, 5>;
 
 /// A word that comes next in a text.
 #[derive(Clone, Copy, Debug)]
@@ -35,67 +31,50 @@ struct NextWord {
     len: usize,
 }
 
-/// Where the numbers stand in the words of a line whose fields say this, behind its verb. None, where it has more fields or
-/// fewer, or too many of them say where.
-pub(crate) fn numbers_at(version: Version, words: &[u8], places: &[Place]) -> Option<NumbersAt>
-    ensures { IfSome result (λ found. Says version found.items words.now (Place.Same ∷ places.now)) }
+/// Where the particulars stand in the words of a line whose fields say this, behind its verb. None, where it has fewer fields, or
+/// too many particulars.
+pub(crate) fn parts_at(version: Version, words: &[u8], places: &[Place]) -> Option<PartsAt>
+    ensures { IfSome result (λ found. Stand version found.items words.now (Place.Same ∷ places.now)) }
 {
     let Some(verb) = next_word(words) else {
         return None;
     };
-    let mut numbers = NumbersAt::new();
+    let mut parts = PartsAt::new();
     let mut before = verb.gap + verb.len;
     let mut rest = behind(words, before);
     for i in 0..places.len() {
         let Some(word) = next_word(rest) else {
             return None;
         };
-        let limit = limit_of(version, places[i]);
-        let Some(next) = note(&mut numbers, before, word, limit) else {
+        let part = places[i].part(version);
+        let Some(next) = note(&mut parts, before, word, part) else {
             return None;
         };
         before = next;
         rest = behind(rest, word.gap + word.len);
     }
-    if blank_len(rest) == rest.len() {
-        Some(numbers)
-    } else {
-        None
-    }
+    Some(parts)
 }
 
-/// Notes where a word stands, if it says a number, and answers how many bytes stand behind the last number then. So many stand
-/// between that number and what comes before the word. None, where there are too many numbers.
+/// Notes where a word stands, if it is a particular, and answers how many bytes stand behind the last particular then. So many
+/// stand between that one and what comes before the word. None, where there are too many particulars.
 #[inline]
-fn note(numbers: &mut NumbersAt, before: usize, word: NextWord, limit: Option<u64>) -> Option<usize>
+fn note(parts: &mut PartsAt, before: usize, word: NextWord, part: Option<Part>) -> Option<usize>
     requires { before + word.gap + word.len < 2 ^ 63 }
-    ensures { IfSome result (λ next. IsNoted limit before word numbers.old.items numbers.new.items next) }
+    ensures { IfSome result (λ next. IsNoted part before word parts.old.items parts.new.items next) }
 {
-    let Some(limit) = limit else {
+    let Some(part) = part else {
         return Some(before + word.gap + word.len);
     };
-    if numbers.is_full() {
+    if parts.is_full() {
         return None;
     }
-    numbers.push(NumberAt {
+    parts.push(PartAt {
         before: before + word.gap,
         len: word.len,
-        limit,
+        part,
     });
     Some(0)
-}
-
-/// The greatest number that a field may be that says this, if it says where.
-#[inline]
-fn limit_of(version: Version, place: Place) -> Option<u64>
-    ensures { result ≡ limit_of version place }
-{
-    match place {
-        Place::Same => None,
-        Place::Rank => Some(u64::from(version.ranks() - 1)),
-        Place::Tag => Some(TAG),
-        Place::Address => Some(SPACE),
-    }
 }
 
 /// The first word of a text, with the blanks before it.

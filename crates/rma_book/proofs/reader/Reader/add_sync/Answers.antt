@@ -1,0 +1,8 @@
+use Rattle.rma_book.proofs.DoneLemmas.{states_done}
+use Rattle.rma_book.proofs.reader.Reader.add_sync.Goals as goal
+
+pub add_made-requires : goal.add_made-requires
+add_made-requires c =
+    let known = c.requires.known in
+    let done = rw c.in-Some.is at c.in_ok-made.ensures in
+    states_done c.args.self.now.lines c.args.line.now.words c.args.what c.args.requests known.0 c.args.to.now _ _ c.in-Some.made.request known.1 c.what.ensures (done known.0)
