@@ -56,6 +56,8 @@ pub struct Book {
     ended: bool,
     /// The communicators that were declared, with their members.
     comms: IndexMap<Name, RankSet>,
+    /// Where among them the communicator stands of which a call spoke last.
+    last_comm: usize,
     /// The windows that were created, with what became of them.
     windows: IndexMap<Name, WindowState>,
     /// Where among them the window stands of which a call spoke last.
@@ -96,6 +98,7 @@ impl Book {
             begun: false,
             ended: false,
             comms: IndexMap::new(alloc),
+            last_comm: 0,
             windows: IndexMap::new(alloc),
             last_window: 0,
             requests: Requests::new(alloc),
@@ -156,13 +159,17 @@ impl Book {
     {
         match Said::of(what, request) {
             Said::Nothing => Ok(self.judged(false, FormReason::UnknownComm)),
-            Said::OnComm(comm) => Ok(self.judged(!self.has_comm(comm), FormReason::UnknownComm)),
+            Said::OnComm(comm) => {
+                let lacks = !self.finds_comm(comm);
+                Ok(self.judged(lacks, FormReason::UnknownComm))
+            }
             Said::OnWindow(window) => {
                 let lacks = !self.finds(window);
                 Ok(self.judged(lacks, FormReason::UnknownWindow))
             }
             Said::WithPeer(comm, rank) => {
-                Ok(self.judged_with(!self.has_comm(comm), FormReason::UnknownComm, rank))
+                let lacks = !self.finds_comm(comm);
+                Ok(self.judged_with(lacks, FormReason::UnknownComm, rank))
             }
             Said::WithTarget(window, rank) => {
                 let lacks = !self.finds(window);
@@ -226,7 +233,7 @@ impl Book {
             else (if is_far self.now.logs root.0 then Some FormReason.RankTooLarge
             else (if not (option_map_or (has_number root.0) (lookup (is_same comm.now) self.now.comms) (nat_lt root.0 self.now.logs)) then Some FormReason.RootNotMember else None))) }
     {
-        match self.comms.get(comm) {
+        match self.members(comm) {
             None if !is_world(comm) => Some(FormReason::UnknownComm),
             _ if root.0 >= self.logs => Some(FormReason::RankTooLarge),
             Some(ranks) if !ranks.has(root) => Some(FormReason::RootNotMember),
@@ -341,11 +348,60 @@ impl Book {
         }
     }
 
+    // Whether there is a communicator of which a call speaks: mostly that of which one spoke last, which is looked at first.
+    #[inline]
+    fn finds_comm(&mut self, comm: &Name) -> bool
+        ensures is { result ≡ (is_same world comm.now || is_some (lookup (is_same comm.now) self.old.comms)) }
+        ensures same { self.new ≡ self.old }
+    {
+        match self.members_at(self.last_comm, comm) {
+            Some(_) => true,
+            None => self.finds_comm_anew(comm),
+        }
+    }
+
+    // The same, where it is not known where the communicator stands.
+    #[inline(never)]
+    fn finds_comm_anew(&mut self, comm: &Name) -> bool
+        ensures is { result ≡ (is_same world comm.now || is_some (lookup (is_same comm.now) self.old.comms)) }
+        ensures same { self.new ≡ self.old }
+    {
+        match self.comms.get_full(comm) {
+            Some((index, _, _)) => {
+                self.last_comm = index;
+                true
+            }
+            None => is_world(comm),
+        }
+    }
+
+    // The members of the communicator that stands at an index, if it is this one.
+    #[inline]
+    fn members_at(&self, index: usize, comm: &Name) -> Option<&RankSet>
+        ensures { IfSome result (λ ranks. lookup (is_same comm.now) self.now.comms ≡ Some ranks.now) }
+    {
+        match self.comms.get_index(index) {
+            Some((name, ranks)) if name == comm => Some(ranks),
+            _ => None,
+        }
+    }
+
+    // The members of a communicator, if it was declared.
+    #[inline]
+    fn members(&self, comm: &Name) -> Option<&RankSet>
+        ensures { option_copied result ≡ lookup (is_same comm.now) self.now.comms }
+    {
+        match self.members_at(self.last_comm, comm) {
+            Some(ranks) => Some(ranks),
+            None => self.comms.get(comm),
+        }
+    }
+
     // Whether there is such a communicator.
     fn has_comm(&self, comm: &Name) -> bool
         ensures { result ≡ (is_same world comm.now || is_some (lookup (is_same comm.now) self.now.comms)) }
     {
-        is_world(comm) || self.comms.contains_key(comm)
+        is_world(comm) || self.members(comm).is_some()
     }
 
     fn lacks_window(&self, naming: &Naming<'_>) -> bool
@@ -385,10 +441,14 @@ impl Book {
         ensures is { result ≡ is_there (lookup (is_same window.now) self.old.windows) }
         ensures same { self.new ≡ self.old }
     {
-        if let Some(index) = self.windows.get_index_of(window) {
-            self.last_window = index;
+        match self.windows.get_full(window) {
+            Some((index, _, state)) => {
+                let open = is_open(*state);
+                self.last_window = index;
+                open
+            }
+            None => false,
         }
-        self.is_there(window)
     }
 
     // What became of the window that stands at an index, if it is this one.

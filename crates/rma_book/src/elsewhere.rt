@@ -5,7 +5,7 @@ ghost use Rattle.rma_call.specs.Call.{what_of};
 ghost use Rattle.rma_call.specs.Rma.{access_of, placed};
 ghost use Rattle.rma_call.specs.declared.what.What.TheVariants.{Sync};
 ghost use Rattle.rma_buffer.specs.CallElsewhere.{IsLocalCallElsewhere, IsRmaCallElsewhere};
-ghost use Rattle.rma_book.specs.inside.Elsewhere.{DoesElsewhere};
+ghost use Rattle.rma_book.specs.inside.Elsewhere.{DoesElsewhere, MakesNone};
 
 use crate::sync_elsewhere::sync_elsewhere;
 use rma_base::{Memory, Name};
@@ -15,32 +15,19 @@ use rma_form::Access;
 use rma_reader::{CallForm, Particulars};
 use std::alloc::Global;
 
-/// A call that accesses no memory, with the request that it makes or completes.
-#[derive(Drop)]
-pub(crate) struct MadeCall {
-    pub(crate) call: SyncCall,
-    pub(crate) request: Option<Name>,
-}
-
 /// The same call that accesses no memory with other particulars, where it has a request or none. None, where it is of no such
 /// kind, or has other particulars.
 pub(crate) fn made_elsewhere(
     requests: bool,
     what: WhatRef<'_>,
     to: &Particulars,
-) -> Result<Option<MadeCall>, Memory>
-    ensures { IfOk result (λ made. IfSome made (λ made. (from : List ℕ) → DoesElsewhere (what_of what.entry) requests from to.now (Sync made.call) made.request)) }
+) -> Result<Option<SyncCall>, Memory>
+    ensures { IfOk result (λ made. IfSome made (λ call. (from : List ℕ) → DoesElsewhere (what_of what.entry) requests from to.now (Sync call) to.now.request)) }
 {
     if !agrees(requests, to) {
         return Ok(None);
     }
-    match sync_elsewhere(what, to.numbers(), copied(to.name())?)? {
-        Some(call) => Ok(Some(MadeCall {
-            call,
-            request: copied(to.request())?,
-        })),
-        None => Ok(None),
-    }
+    sync_elsewhere(what, to.numbers(), copied(to.name())?)
 }
 
 /// The same name.
@@ -62,40 +49,52 @@ fn agrees(requests: bool, to: &Particulars) -> bool
     requests == to.requests()
 }
 
-/// Where an access without a request is made where some numbers say, which is made where others say. None, where it may be bad
-/// there, or was itself made elsewhere.
+/// Whether neither a call nor its particulars have a request.
+#[inline]
+fn makes_none(requests: bool, to: &Particulars) -> bool
+    ensures { result ≡ true → MakesNone requests to.now }
+{
+    !requests && !to.requests()
+}
+
+/// Where an access without a request is made, with other particulars. None, where it may be bad there, or was itself made
+/// elsewhere.
 #[inline]
 pub(crate) fn place_elsewhere(
     requests: bool,
     call: RmaRef<'_>,
     from: &[u64],
-    to: &[u64],
+    to: &Particulars,
 ) -> Option<Placement>
-    ensures none { IfSome result (λ place. requests ≡ false) }
-    ensures there { IfSome result (λ place. IsRmaCallElsewhere (access_of call.entry) from.now to.now (placed (access_of call.entry) place)) }
+    ensures none { IfSome result (λ place. MakesNone requests to.now) }
+    ensures there { IfSome result (λ place. IsRmaCallElsewhere (access_of call.entry) from.now to.now.numbers (placed (access_of call.entry) place)) }
 {
     match call {
-        RmaRef::Stated(call) if !requests => one_sided_elsewhere(call, from, to),
+        RmaRef::Stated(call) if makes_none(requests, to) => one_sided_elsewhere(
+            call,
+            from,
+            to.numbers(),
+        ),
         _ => None,
     }
 }
 
-/// A local access without a request where some numbers say, which is made where others say. None, where it may be bad there.
+/// A local access without a request, with other particulars. None, where it may be bad there.
 #[inline]
 pub(crate) fn access_elsewhere(
     alloc: Global,
     requests: bool,
     call: &LocalCall,
     from: &[u64],
-    to: &[u64],
+    to: &Particulars,
 ) -> Result<Option<LocalCall>, Memory>
-    ensures none { IfOk result (λ found. IfSome found (λ moved. requests ≡ false)) }
-    ensures there { IfOk result (λ found. IfSome found (λ moved. IsLocalCallElsewhere call.now from.now to.now moved)) }
+    ensures none { IfOk result (λ found. IfSome found (λ moved. MakesNone requests to.now)) }
+    ensures there { IfOk result (λ found. IfSome found (λ moved. IsLocalCallElsewhere call.now from.now to.now.numbers moved)) }
 {
-    if requests {
+    if !makes_none(requests, to) {
         return Ok(None);
     }
-    local_elsewhere(alloc, call, from, to)
+    local_elsewhere(alloc, call, from, to.numbers())
 }
 
 /// The form of a call that accesses the part of a target.

@@ -8,7 +8,7 @@ ghost use Rattle.rma_lex.specs.Cutting.{Represents};
 ghost use Rattle.rma_call.specs.declared.what.What.{What};
 ghost use Rattle.rma_form.specs.declared.event.Event.{Event};
 ghost use Rattle.rma_form.specs.declared.event.Event.TheVariants.{Header, End, Call, Datatype, Rma, Local};
-ghost use Rattle.rma_reader.specs.Elsewhere.{IsKnownElsewhere};
+ghost use Rattle.rma_reader.specs.Elsewhere.{IsKnownElsewhere, no_details};
 ghost use Rattle.rma_reader.specs.Sites.{IsSite};
 ghost use Rattle.rma_book.specs.Ends.{IsEnd};
 ghost use Rattle.rma_book.specs.declared.reader.Reader.{Reader};
@@ -43,13 +43,6 @@ pub(crate) struct Reader {
     pub(crate) end: Option<LineNo>,
     /// The first bad line.
     pub(crate) fault: Option<FormFault>,
-}
-
-/// What a call does that was found elsewhere, by its number, and the request that it makes or completes.
-#[derive(Drop)]
-pub(crate) struct Added {
-    pub(crate) what: u32,
-    pub(crate) request: Option<Name>,
 }
 
 impl Reader {
@@ -102,7 +95,7 @@ impl Reader {
     {
         let line = SplitLine::new(text);
         match self.lines.known(&line) {
-            Ok(Some(call)) => self.read_call(no, call.site, call.what, call.request),
+            Ok(Some(call)) => self.read_call(no, call.site, call.what, call.request.as_ref()),
             Ok(None) => self.read_other(no, &line),
             Err(ParseError::Fault(fault)) => {
                 self.refuse(no, fault.reason);
@@ -118,20 +111,27 @@ impl Reader {
         requires { self.old.fault ≡ None }
         ensures { OnOk result (ReadsNext self.old self.new no.0 (Ok line.now.line)) }
     {
-        match self.add_elsewhere(line)? {
-            Some(added) => self.read_added(no, line, added),
+        let mut to = Particulars::new();
+        match self.add_elsewhere(line, &mut to)? {
+            Some(what) => self.read_added(no, line, what, to.request()),
             None => self.read_new(no, line),
         }
     }
 
     // Reads the next line, whose words state what has this number, with this request.
     #[inline]
-    fn read_added(&mut self, no: LineNo, line: &SplitLine<'_>, added: Added) -> Result<(), Memory>
-        requires { (old : Reader) × (old.fault ≡ None) × HasAdded old self.old line.now.words added }
-        ensures { OnOk result ((old : Reader) → old.fault ≡ None → HasAdded old self.old line.now.words added → ReadsNext old self.new no.0 (Ok line.now.line)) }
+    fn read_added(
+        &mut self,
+        no: LineNo,
+        line: &SplitLine<'_>,
+        what: u32,
+        request: Option<&Name>,
+    ) -> Result<(), Memory>
+        requires { (old : Reader) × (old.fault ≡ None) × HasAdded old self.old line.now.words what (option_copied request) }
+        ensures { OnOk result ((old : Reader) → old.fault ≡ None → HasAdded old self.old line.now.words what (option_copied request.entry) → ReadsNext old self.new no.0 (Ok line.now.line)) }
     {
         match self.lines.site(line) {
-            Ok(site) => self.read_call(no, site, added.what, added.request),
+            Ok(site) => self.read_call(no, site, what, request),
             Err(ParseError::Fault(fault)) => {
                 self.refuse(no, fault.reason);
                 Ok(())
@@ -140,15 +140,19 @@ impl Reader {
         }
     }
 
-    // Gives a number to what the call of a line does, where it is known from another place. Its words are noted then. None, where
-    // it is not known, or has no number by itself.
+    // Gives a number to what the call of a line does, where it is known from another place; these are its particulars then. Its
+    // words are noted. None, where it is not known, or has no number by itself.
     #[inline]
-    fn add_elsewhere(&mut self, line: &SplitLine<'_>) -> Result<Option<Added>, Memory>
-        ensures added { IfOk result (λ added. IfSome added (HasAdded self.old self.new line.now.words)) }
+    fn add_elsewhere(
+        &mut self,
+        line: &SplitLine<'_>,
+        to: &mut Particulars,
+    ) -> Result<Option<u32>, Memory>
+        requires { to.old ≡ no_details }
+        ensures added { IfOk result (λ added. IfSome added (λ number. HasAdded self.old self.new line.now.words number to.new.request)) }
         ensures none { result ≡ Ok None → self.new ≡ self.old }
     {
-        let mut to = Particulars::new();
-        let Some(found) = self.lines.elsewhere(&mut self.texts, line, &mut to)? else {
+        let Some(found) = self.lines.elsewhere(&mut self.texts, line, to)? else {
             return Ok(None);
         };
         let PlacedCall {
@@ -157,18 +161,18 @@ impl Reader {
             from,
         } = found;
         match self.lines.what(what) {
-            WhatRef::Rma(call) => match place_elsewhere(requests, call, from, to.numbers()) {
+            WhatRef::Rma(call) => match place_elsewhere(requests, call, from, to) {
                 Some(place) => self.add_access(line, what, &place),
                 None => Ok(None),
             },
             WhatRef::Local(call) => {
                 let alloc = self.book.allocator();
-                match access_elsewhere(alloc, requests, call, from, to.numbers())? {
+                match access_elsewhere(alloc, requests, call, from, to)? {
                     Some(call) => self.add_made(line, What::Local(call), None),
                     None => Ok(None),
                 }
             }
-            _ => self.add_sync(line, what, requests, &to),
+            _ => self.add_sync(line, what, requests, to),
         }
     }
 
@@ -180,57 +184,51 @@ impl Reader {
         what: u32,
         requests: bool,
         to: &Particulars,
-    ) -> Result<Option<Added>, Memory>
+    ) -> Result<Option<u32>, Memory>
         requires known { (from : List ℕ) × IsKnownElsewhere self.old.lines.known self.old.lines.version line.now.words what requests from to.now }
         requires within { what < length self.old.lines.calls.whats }
-        ensures added { IfOk result (λ added. IfSome added (HasAdded self.old self.new line.now.words)) }
+        ensures added { IfOk result (λ added. IfSome added (λ number. HasAdded self.old self.new line.now.words number to.now.request)) }
         ensures none { result ≡ Ok None → self.new ≡ self.old }
     {
         match made_elsewhere(requests, self.lines.what(what), to)? {
-            Some(made) => self.add_made(line, What::Sync(made.call), made.request),
+            Some(call) => self.add_made(line, What::Sync(call), to.request()),
             None => Ok(None),
         }
     }
 
     // Gives a number to what the words of a line state, with this request. They are noted.
-    #[inline(always)]
+    #[inline]
     fn add_made(
         &mut self,
         line: &SplitLine<'_>,
         what: What,
-        request: Option<Name>,
-    ) -> Result<Option<Added>, Memory>
-        requires { StatesWhat self.old.lines line.now.words what request }
-        ensures added { IfOk result (λ added. IfSome added (HasAdded self.old self.new line.now.words)) }
+        request: Option<&Name>,
+    ) -> Result<Option<u32>, Memory>
+        requires { StatesWhat self.old.lines line.now.words what (option_copied request) }
+        ensures added { IfOk result (λ added. IfSome added (λ number. HasAdded self.old self.new line.now.words number (option_copied request.entry))) }
         ensures none { result ≡ Ok None → self.new ≡ self.old }
     {
-        let number = self.add(Some(line), what, request.as_ref(), false)?;
-        Ok(Some(Added {
-            what: number,
-            request,
-        }))
+        let number = self.add(Some(line), what, request, false)?;
+        Ok(Some(number))
     }
 
     // The same of the access of a number, made at a place.
-    #[inline(always)]
+    #[inline]
     fn add_access(
         &mut self,
         line: &SplitLine<'_>,
         what: u32,
         place: &Placement,
-    ) -> Result<Option<Added>, Memory>
+    ) -> Result<Option<u32>, Memory>
         requires { StatesAccess self.old.lines line.now.words what place.now }
-        ensures added { IfOk result (λ added. IfSome added (HasAdded self.old self.new line.now.words)) }
+        ensures added { IfOk result (λ added. IfSome added (λ number. HasAdded self.old self.new line.now.words number None)) }
         ensures none { result ≡ Ok None → self.new ≡ self.old }
     {
         let Some(number) = self.lines.add_placed(what, place)? else {
             return Ok(None);
         };
         self.lines.note(line, number, None, false)?;
-        Ok(Some(Added {
-            what: number,
-            request: None,
-        }))
+        Ok(Some(number))
     }
 
     // Reads the next line, which may be any.
@@ -273,7 +271,9 @@ impl Reader {
                 self.read_end(no);
                 Ok(())
             }
-            Event::Call { call, request } => self.read_new_call(no, words, site, call, request),
+            Event::Call { call, request } => {
+                self.read_new_call(no, words, site, call, request.as_ref())
+            }
             Event::Datatype(line) => self.read_datatype(no, line),
             Event::Rma { line, request } => {
                 self.read_rma(no, words, site, &line, request.as_ref())
@@ -330,15 +330,15 @@ impl Reader {
         words: Option<&SplitLine<'_>>,
         site: Option<u32>,
         call: SyncCall,
-        request: Option<Name>,
+        request: Option<&Name>,
     ) -> Result<(), Memory>
         requires fault { self.old.fault ≡ None }
         requires site { (text : Option (List ℕ)) × IsSite self.old.lines.calls site text }
-        requires words { IfSome words (λ line. IsStatedBy self.old.lines.version line.now.words (Call call request)) }
-        ensures { OnOk result ((text : Option (List ℕ)) → IsSite self.old.lines.calls site text → Reads self.old self.new no (record { event = Call call request; site = text })) }
+        requires words { IfSome words (λ line. IsStatedBy self.old.lines.version line.now.words (Call call (option_copied request))) }
+        ensures { OnOk result ((text : Option (List ℕ)) → IsSite self.old.lines.calls site text → Reads self.old self.new no (record { event = Call call (option_copied request.entry); site = text })) }
     {
         let form = form_of_sync(&call);
-        let what = self.add_placed(words, form, What::Sync(call), request.as_ref(), true)?;
+        let what = self.add_placed(words, form, What::Sync(call), request, true)?;
         self.read_call(no, site, what, request)
     }
 
@@ -468,15 +468,15 @@ impl Reader {
         no: LineNo,
         site: Option<u32>,
         what: u32,
-        request: Option<Name>,
+        request: Option<&Name>,
     ) -> Result<(), Memory>
         requires fault { self.old.fault ≡ None }
         requires what { what < length self.old.lines.calls.whats }
         requires site { (text : Option (List ℕ)) × IsSite self.old.lines.calls site text }
-        ensures { OnOk result ((does : What) (event : Event) (text : Option (List ℕ)) → slice_get self.old.lines.calls.whats what ≡ Some does → IsCallOf self.old.book.types does request event
+        ensures { OnOk result ((does : What) (event : Event) (text : Option (List ℕ)) → slice_get self.old.lines.calls.whats what ≡ Some does → IsCallOf self.old.book.types does (option_copied request.entry) event
             → IsSite self.old.lines.calls site text → Reads self.old self.new no (record { event = event; site = text })) }
     {
-        let judged = self.book.call(self.lines.what(what), request.as_ref())?;
+        let judged = self.book.call(self.lines.what(what), request)?;
         match judged {
             Judged::Bad(reason) => {
                 self.refuse(no, reason);

@@ -1,6 +1,5 @@
 -- What is read of a line, and how the tables grow.
 use Rattle.std.proofs.Common.{◌≡◌, ℕ, ◌<◌, List, Option, Some, None, sym, ap, ◌∙◌, subst, ⊎_elim, arith, Result, Ok, Err, IfErr, IfOk, IfSome, OnOk, OnErr, MatchOption, length, slice_get, true}
-use Rattle.std.proofs.lemmas.List.Elements.{All-weaker}
 use Rattle.std.proofs.lemmas.Option.{slice_get_cases, slice_get_within}
 use Rattle.rma_base.specs.declared.version.Version.{Version}
 use Rattle.rma_call.specs.declared.what.What.{What}
@@ -11,25 +10,15 @@ use Rattle.rma_field.specs.Steps.{Fails, ◌>>=◌}
 use Rattle.rma_form.specs.declared.event.Event.{Event}
 use Rattle.rma_form.specs.declared.event.Stated.{Stated}
 use Rattle.rma_form.specs.Lines.{reading, site_of, states}
-use Rattle.rma_reader.specs.declared.known_sites.KnownSite.{KnownSite}
 use Rattle.rma_reader.specs.declared.read_line.ReadLine.{ReadLine}
 use Rattle.rma_reader.specs.Reading.{IsRead}
 use Rattle.rma_reader.specs.Sites.{IsSiteOf}
 use Rattle.rma_reader.specs.Split.{IsSplit, SplitText}
-use Rattle.rma_reader.specs.inside.SiteSlots.{AreNumbered, HasNumber}
 use Rattle.rma_reader.specs.inside.Tables.{Keeps, Reads}
 use Rattle.rma_reader.proofs.SiteLemmas.{at_site, reading_split, stated_at}
 
 pub same_keeps : {A : Type 0} (old new : List A) → new ≡ old → Keeps old new
 same_keeps old new same number value is = rw same is
-
-site_keeps : (old new : CallTable) → Keeps old.sites new.sites → (slot : Option KnownSite) → HasNumber old slot → HasNumber new slot
-site_keeps old new keeps None kept = tt
-site_keeps old new keeps (Some site) kept = record { good = kept.good; is = keeps site.number site.site kept.is }
-
--- the known sites stay so
-pub are_numbered : (old new : CallTable) (slots : List (Option KnownSite)) → Keeps old.sites new.sites → AreNumbered old slots → AreNumbered new slots
-are_numbered old new slots keeps = All-weaker (HasNumber old) (HasNumber new) (λ slot. site_keeps old new keeps slot) slots
 
 -- a site that is bad makes the line so
 pub fails_at : (error : ParseError) (event : Event) (text : Option (List ℕ)) → Fails error (site_of text) → Fails error (stated_at event text)

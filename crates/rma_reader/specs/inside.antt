@@ -1,4 +1,3 @@
 pub mod Dated
 pub mod Accesses
 pub mod Tables
-pub mod SiteSlots

@@ -29,15 +29,15 @@ pub(crate) struct KnownAccesses {
 }
 
 /// Where so many calls stand between two that were not found in a slot, those of its shape between them were.
-const FAR: usize = 64;
+const FAR: u32 = 64;
 
 /// What came last to a slot.
 #[derive(Drop)]
 struct Last {
-    /// Its shape.
-    shape: u64,
-    /// How many calls were before it.
-    at: usize,
+    /// The lower half of its shape.
+    shape: u32,
+    /// How many calls were before it, the lower half of that number.
+    at: u32,
     /// How often the shape came again, counted anew where that is too often.
     times: u8,
 }
@@ -147,10 +147,11 @@ fn comes_again(last: &mut Vec<Last>, shape: u64, at: usize) -> bool {
     let Some(last) = last.get_mut(slot_of(shape)) else {
         return false;
     };
-    let is_far = at.saturating_sub(last.at) > FAR;
+    let at = lower_half(at as u64);
+    let is_far = at.wrapping_sub(last.at) > FAR;
     last.at = at;
-    if last.shape != shape {
-        last.shape = shape;
+    if last.shape != lower_half(shape) {
+        last.shape = lower_half(shape);
         last.times = 0;
         return false;
     }
@@ -193,6 +194,12 @@ fn nothing_last(alloc: Global) -> Result<Vec<Last>, Memory> {
         })?;
     }
     Ok(last)
+}
+
+/// The lower half of a number.
+#[inline]
+fn lower_half(number: u64) -> u32 {
+    (number & 0xffff_ffff) as u32
 }
 
 /// The slot of a shape: its first ten bits, of which there are `SLOTS`.

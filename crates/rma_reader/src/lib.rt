@@ -18,13 +18,13 @@ mod known_access;
 mod known_accesses;
 mod known_line;
 mod known_lines;
-mod known_sites;
 mod line_reader;
 mod numbered_calls;
 mod part_at;
 mod particulars;
 mod read_line;
 mod shared_sites;
+mod site_slots;
 mod split_line;
 
 pub use call_form::{CallForm, Part, Place};

@@ -11,39 +11,52 @@ ghost use Rattle.rma_reader.specs.Sites.{IsNumbered, IsSite, IsSiteOf};
 ghost use Rattle.rma_reader.specs.inside.Tables.{AddsSites, AddsWhats};
 
 use crate::key::key_of;
-use crate::known_sites::KnownSites;
 use crate::shared_sites::SharedSites;
-use indexmap::IndexMap;
+use crate::site_slots::{PROBES, SiteSlots};
+use arrayvec::ArrayVec;
+use memchr::{memchr, memchr_iter};
 use rma_base::{FormReason, LineNo, Memory, NameError, Site};
 use rma_call::{CallList, Placement, What};
 use rma_parse::{ParseError, ParseFault};
 use std::alloc::Global;
 use std::marker::Model;
 
+/// Where there are fewer slots, what sites are looked up in is near without being brought.
+const FAR: usize = 2_048;
+
+/// So many bytes of a piece are looked at: what is brought near for more would be far again.
+const NEAR: usize = 65_536;
+
+/// The keys of some texts.
+type Keys = ArrayVec<u64, 64>;
+
+/// The numbers of some sites.
+type Numbers = ArrayVec<u32, 64>;
+
 /// The calls of a log. What is read of a line has the numbers of their tables.
 #[derive(Drop)]
 pub(crate) struct NumberedCalls {
     /// The calls.
     list: CallList,
-    /// The number of each site, by the key of its text. Of two texts with one key the first keeps the key.
-    sites: IndexMap<u64, u32>,
-    /// The sites that come again.
-    known: KnownSites,
+    /// How many sites they have.
+    sites: u32,
+    /// The numbers of these.
+    slots: SiteSlots,
     /// The sites of all logs of the run.
     shared: SharedSites,
+    /// What came of reading ahead. It says nothing: that it is kept keeps the reads.
+    seen: u64,
 }
 
 impl Model for NumberedCalls {
-    ghost use Rattle.std.specs.Prelude.{length};
+    ghost use Rattle.std.specs.Prelude.{◌≡◌, length};
     ghost use Rattle.rma_call.specs.Call.{CallTable};
-    ghost use Rattle.rma_reader.specs.inside.SiteSlots.{AreNumbered};
-    ghost use Rattle.rma_reader.specs.inside.Tables.{AreBelow};
 
     ghost Value = { CallTable };
 
     ghost view = { λ calls. calls.list };
 
-    ghost invariant = { λ calls. AreBelow (length calls.list.sites) calls.sites × AreNumbered calls.list calls.known.slots.items };
+    ghost invariant = { λ calls. calls.sites ≡ length calls.list.sites };
 }
 
 impl NumberedCalls {
@@ -53,9 +66,10 @@ impl NumberedCalls {
     {
         NumberedCalls {
             list: CallList::new(alloc),
-            sites: IndexMap::new(alloc),
-            known: KnownSites::new(alloc),
+            sites: 0,
+            slots: SiteSlots::new(alloc),
             shared,
+            seen: 0,
         }
     }
 
@@ -67,11 +81,42 @@ impl NumberedCalls {
         &self.list
     }
 
-    /// Brings near what the sites of the lines of this piece of the log are looked up in.
+    /// Brings near what the sites of the lines of this piece of the log are looked up in: memory answers many reads at once, where
+    /// each would wait for the one before it.
     pub(crate) fn prefetch(&mut self, piece: &[u8])
         ensures { self.new ≡ self.old }
     {
-        self.known.prefetch(piece);
+        if self.slots.len() < FAR {
+            return;
+        }
+        let mut seen = self.seen;
+        let mut keys = Keys::new();
+        for at in memchr_iter(b'@', &piece[..piece.len().min(NEAR)]) {
+            if keys.is_full() {
+                seen ^= self.read_ahead(keys.as_slice());
+                keys.clear();
+            }
+            keys.push(key_of(site_at(piece, at)));
+        }
+        self.seen = seen ^ self.read_ahead(keys.as_slice());
+    }
+
+    /// Reads the slots of these keys, and then the texts of the sites that they name.
+    fn read_ahead(&self, keys: &[u64]) -> u64 {
+        let mut numbers = Numbers::new();
+        for key in keys {
+            if numbers.is_full() {
+                break;
+            }
+            numbers.push(self.slots.likely_number(*key));
+        }
+        let mut seen = 0;
+        for number in numbers.as_slice() {
+            if *number < self.sites {
+                seen ^= self.list.site(*number).bytes().len() as u64;
+            }
+        }
+        seen
     }
 
     /// The calls, where no more are read.
@@ -164,69 +209,36 @@ impl NumberedCalls {
         ensures adds { AddsSites self.old self.new }
     {
         let key = key_of(text);
-        match self.known.number(key, text) {
+        match self.known(key, text) {
             Some(number) => Ok(number),
-            None => self.look_up(alloc, key, text),
+            None => self.new_site(alloc, key, text),
         }
     }
 
-    /// The number of a site that is not known to come again, of this key.
-    #[inline(never)]
-    fn look_up(&mut self, alloc: Global, key: u64, text: &[u8]) -> Result<u32, ParseError>
-        ensures ok { IfOk result (λ number. IsNumbered self.new text.now number) }
-        ensures err { IfErr result (λ error. Fails error (site text.now)) }
-        ensures adds { AddsSites self.old self.new }
+    /// The number of the site of this text, of this key, if it is known.
+    #[inline]
+    fn known(&self, key: u64, text: &[u8]) -> Option<u32>
+        ensures { IfSome result (λ number. IsNumbered self.now text.now number) }
     {
-        match self.sites.get(&key).copied() {
-            Some(number) => {
-                if self.has(number, text) {
-                    self.note(alloc, key, text, number)
-                } else {
-                    self.new_site(alloc, key, text)
-                }
+        for step in 0..PROBES {
+            let slot = self.slots.get(key, step);
+            if slot.is_free() {
+                return None;
             }
-            None => self.keep_site(alloc, key, text),
+            match slot.number_for(key) {
+                Some(number) if self.has(number, text) => return Some(number),
+                _ => {}
+            }
         }
+        None
     }
 
-    /// The number of a site that comes again, which is known from now on.
-    fn note(&mut self, alloc: Global, key: u64, text: &[u8], number: u32) -> Result<u32, ParseError>
-        requires { IsNumbered self.old text.now number }
-        ensures ok { IfOk result (λ number. IsNumbered self.new text.now number) }
-        ensures err { IfErr result (λ error. Fails error (site text.now)) }
-        ensures adds { AddsSites self.old self.new }
-    {
-        let sites = self.sites.len();
-        let Ok(site) = self.list.site(number).copy() else {
-            return Err(ParseError::Memory);
-        };
-        match self.known.keep(alloc, key, site, number, sites) {
-            Ok(()) => Ok(number),
-            Err(Memory) => Err(ParseError::Memory),
-        }
-    }
-
-    /// Whether the site of this number has this text.
+    /// Whether a site has this number, and this text.
     #[inline]
     fn has(&self, number: u32, text: &[u8]) -> bool
-        requires { number < length self.now.sites }
         ensures { result ≡ true → IsNumbered self.now text.now number }
     {
-        self.list.site(number).bytes() == text
-    }
-
-    /// The number of a site whose key is new.
-    #[inline(never)]
-    fn keep_site(&mut self, alloc: Global, key: u64, text: &[u8]) -> Result<u32, ParseError>
-        ensures ok { IfOk result (λ number. IsNumbered self.new text.now number) }
-        ensures err { IfErr result (λ error. Fails error (site text.now)) }
-        ensures adds { AddsSites self.old self.new }
-    {
-        let number = self.new_site(alloc, key, text)?;
-        match self.sites.insert(key, number) {
-            Ok(_) => Ok(number),
-            Err(_) => Err(ParseError::Memory),
-        }
+        number < self.sites && self.list.site(number).bytes() == text
     }
 
     /// The number of a site that is not known.
@@ -237,10 +249,36 @@ impl NumberedCalls {
         ensures adds { AddsSites self.old self.new }
     {
         let site = self.shared_site(alloc, key, text)?;
-        match self.list.add_site(site) {
+        match self.add_site(alloc, key, site) {
             Ok(number) => Ok(number),
             Err(Memory) => Err(ParseError::Memory),
         }
+    }
+
+    /// Gives a number to a site, whose text has this key.
+    fn add_site(&mut self, alloc: Global, key: u64, site: Site) -> Result<u32, Memory>
+        ensures number { IfOk result (λ number. slice_get self.new.sites number ≡ Some site) }
+        ensures adds { AddsSites self.old self.new }
+    {
+        let Some(sites) = self.sites.checked_add(1) else {
+            return Err(Memory);
+        };
+        let number = self.list.add_site(site)?;
+        self.sites = sites;
+        self.keep(alloc, key, number)?;
+        Ok(number)
+    }
+
+    /// Keeps the number of a site, whose text has this key.
+    fn keep(&mut self, alloc: Global, key: u64, number: u32) -> Result<(), Memory>
+        ensures { self.new ≡ self.old }
+    {
+        if self.sites as usize > self.slots.len() / 2 {
+            self.slots = doubled(alloc, &self.slots, &self.list, self.sites)?;
+        } else {
+            self.slots.keep(key, number);
+        }
+        Ok(())
     }
 
     /// The site of this text, of this key, which all logs of the run share.
@@ -276,5 +314,32 @@ fn new_site(alloc: Global, text: &[u8]) -> Result<Site, ParseError>
             reason: FormReason::BadName,
         })),
         Err(NameError::Memory) => Err(ParseError::Memory),
+    }
+}
+
+/// Twice as many slots as these, with the numbers of the sites of a list, which has so many.
+fn doubled(
+    alloc: Global,
+    slots: &SiteSlots,
+    list: &CallList,
+    sites: u32,
+) -> Result<SiteSlots, Memory>
+    requires { sites ≡ length list.now.sites }
+{
+    let mut slots = slots.doubled(alloc)?;
+    for number in 0..sites {
+        slots.keep(key_of(list.site(number).bytes()), number);
+    }
+    Ok(slots)
+}
+
+/// The text of the site whose `@` stands at a position of a text, if a line ends with it.
+fn site_at(text: &[u8], at: usize) -> &[u8] {
+    let Some([_, rest @ ..]) = text.get(at..) else {
+        return &[];
+    };
+    match memchr(b'\n', rest) {
+        Some(end) => &rest[..end],
+        None => rest,
     }
 }

@@ -1,5 +1,5 @@
 -- The events of calls that a log repeats elsewhere.
-use Rattle.std.specs.Prelude.{◌≡◌, ℕ, ◌<◌, Bool, List, [], ◌∷◌, length, slice_get, Option, None, Some, is_some}
+use Rattle.std.specs.Prelude.{◌≡◌, ℕ, ◌<◌, Bool, false, List, [], ◌∷◌, length, slice_get, Option, None, Some, is_some}
 use Rattle.std.specs.Option.{option_or}
 use Rattle.rma_call.specs.declared.epoch.EpochCall.{EpochCall}
 use Rattle.rma_call.specs.declared.epoch.EpochCall.TheVariants.{Fence, Post, Start, Complete, Expwait, Lock, Unlock, LockAll, UnlockAll, Flush, FlushAll, FlushLocal, FlushLocalAll}
@@ -106,6 +106,10 @@ abbrev pub DoesElsewhere : What → Bool → List ℕ → Details → What → O
 DoesElsewhere what requests from to moved request =
     (types : Table) (event : Event) (name own : Option (List ℕ)) → event_at event (record { numbers = from; name = name; request = own }) ≡ event → is_some own ≡ requests
     → IsCallOf types what own event → IsCallOf types moved request (event_at event to)
+
+-- neither a call nor its particulars have a request
+abbrev pub MakesNone : Bool → Details → Type 0
+MakesNone requests to = (requests ≡ false) × (to.request ≡ None)
 
 -- the words state a call that does this, with this request, where known words state what is known of them
 abbrev pub StatesWhat : Reading → List ℕ → What → Option (List ℕ) → Type 0

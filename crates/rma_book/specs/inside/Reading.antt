@@ -19,7 +19,6 @@ use Rattle.rma_book.specs.inside.Known.{AreKnown, IsCallOf, IsStatedBy}
 use Rattle.rma_type.specs.Table.{Table}
 use Rattle.rma_book.specs.Logs.{Checked, AreGood, AreGoodUntil, IsFirstBad, entries}
 use Rattle.rma_book.specs.declared.fault.FormFault.{FormFault}
-use Rattle.rma_book.specs.declared.reader.Added.{Added}
 use Rattle.rma_book.specs.declared.reader.Reader.{Reader}
 
 -- the reader took these lines, which are good
@@ -101,11 +100,11 @@ pub record Adds (old new : Reader) (words : Option (List ℕ)) (what : What) (re
       → (lasts ≡ true → (sync : SyncCall) × (event ≡ Call sync request)) → AreKnown types new.lines
 
 -- the reader has this number for what these words state, with this request, and they are noted
-pub record HasAdded (old new : Reader) (words : List ℕ) (added : Added) : Type 0 where
+pub record HasAdded (old new : Reader) (words : List ℕ) (number : ℕ) (request : Option (List ℕ)) : Type 0 where
   pub what : What
-  pub states : StatesWhat old.lines words what added.request
-  pub is : slice_get new.lines.calls.whats added.what ≡ Some what
-  pub adds : Adds old new (Some words) what added.request false
+  pub states : StatesWhat old.lines words what request
+  pub is : slice_get new.lines.calls.whats number ≡ Some what
+  pub adds : Adds old new (Some words) what request false
 
 -- The reader has one call more. Known words state what they did, and so do these words, where the call is what they state.
 pub record Appends (old new : Reader) (words : Option (List ℕ)) (request : Option (List ℕ)) (call : CallOf) : Type 0 where

@@ -1,8 +1,5 @@
 -- How the tables of calls grow, and what is read by their numbers.
-use Rattle.std.specs.Prelude.{◌≡◌, ℕ, ◌<◌, List, Option, Some, None, Result, Ok, Err, nat_eq, slice_get, true}
-use Rattle.std.specs.HashMap.{HashMap, get}
-use Rattle.std.specs.declared.hash.FoldHasher.{FoldHasher}
-use Rattle.std.specs.declared.hash.BuildHasherDefault.{BuildHasherDefault}
+use Rattle.std.specs.Prelude.{◌≡◌, ℕ, List, Option, Some, None, Result, Ok, Err, slice_get, true}
 use Rattle.rma_base.specs.declared.version.Version.{Version}
 use Rattle.rma_call.specs.Call.{CallTable}
 use Rattle.rma_field.specs.declared.parse_error.ParseError.{ParseError}
@@ -12,10 +9,6 @@ use Rattle.rma_form.specs.Lines.{reading, states}
 use Rattle.rma_reader.specs.declared.read_line.ReadLine.{ReadLine}
 use Rattle.rma_reader.specs.Reading.{IsRead}
 use Rattle.rma_reader.specs.Split.{SplitText}
-
--- the numbers of the map are in a table of this length
-abbrev pub AreBelow : ℕ → HashMap ℕ ℕ (BuildHasherDefault FoldHasher) → Type 0
-AreBelow len numbers = (key number : ℕ) → get nat_eq numbers key ≡ Some number → number < len
 
 -- each number keeps what it names
 abbrev pub Keeps : {A : Type 0} → List A → List A → Type 0

@@ -15,8 +15,9 @@ returns-in-Nothing-clause-judged c = λ event is.
 pub returns-in-OnComm-clause-judged : goal.returns-in-OnComm-clause-judged
 returns-in-OnComm-clause-judged c = λ event is.
     let book = c.args.self.now in
-    IsJudged_on_comm book event (call_is book.types _ _ event is) (reason_in c.judged-in-OnComm.result) c.in-OnComm.comm.now (c.in-OnComm.ensures book.types event is.does is.request)
-    (rw c.has_comm.ensures at c.judged-in-OnComm.ensures.reason)
+    rw c.finds_comm-lacks.ensures.same
+    (IsJudged_on_comm book event (call_is book.types _ _ event is) (reason_in c.judged-in-OnComm.result) c.in-OnComm.comm.now (c.in-OnComm.ensures book.types event is.does is.request)
+    (rw (c.finds_comm-lacks.ensures.is, c.finds_comm-lacks.ensures.same) at c.judged-in-OnComm.ensures.reason))
 
 pub returns-in-OnWindow-clause-judged : goal.returns-in-OnWindow-clause-judged
 returns-in-OnWindow-clause-judged c = λ event is.
@@ -28,8 +29,9 @@ returns-in-OnWindow-clause-judged c = λ event is.
 pub returns-in-WithPeer-clause-judged : goal.returns-in-WithPeer-clause-judged
 returns-in-WithPeer-clause-judged c = λ event is.
     let book = c.args.self.now in
-    IsJudged_with_peer book event (call_is book.types _ _ event is) (reason_in c.judged_with.result) c.in-WithPeer.comm.now c.in-WithPeer.rank.0
-    (c.in-WithPeer.ensures book.types event is.does is.request) (rw c.has_comm-in-WithPeer.ensures at c.judged_with.ensures.reason)
+    rw c.finds_comm-lacks-in-WithPeer.ensures.same
+    (IsJudged_with_peer book event (call_is book.types _ _ event is) (reason_in c.judged_with.result) c.in-WithPeer.comm.now c.in-WithPeer.rank.0
+    (c.in-WithPeer.ensures book.types event is.does is.request) (rw (c.finds_comm-lacks-in-WithPeer.ensures.is, c.finds_comm-lacks-in-WithPeer.ensures.same) at c.judged_with.ensures.reason))
 
 pub returns-in-WithTarget-clause-judged : goal.returns-in-WithTarget-clause-judged
 returns-in-WithTarget-clause-judged c = λ event is.

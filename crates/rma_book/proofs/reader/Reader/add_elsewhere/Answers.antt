@@ -8,8 +8,8 @@ add_access-requires c =
     let known = rw c.in-Some.is at c.in_ok-found.ensures.known in
     let within = rw c.in-Some.is at c.in_ok-found.ensures.within in
     let made = c.in-Some-place_elsewhere in
-    access_states c.args.self.now.lines c.args.line.now.words found.what found.requests found.from.now c.elsewhere.new.to (access_of c.in-Rma.call) made.place made.ensures.none known within c.in-Rma.ensures
-    (rw c.numbers.ensures at made.ensures.there)
+    access_states c.args.self.now.lines c.args.line.now.words found.what found.requests found.from.now c.elsewhere.new.to (access_of c.in-Rma.call) made.place made.ensures.none.0 known within c.in-Rma.ensures
+    made.ensures.there
 
 pub add_made-requires : goal.add_made-requires
 add_made-requires c =
@@ -17,5 +17,5 @@ add_made-requires c =
     let known = rw c.in-Some.is at c.in_ok-found.ensures.known in
     let none = rw c.in-Some-2.is at c.in_ok-call-in-Local.ensures.none in
     let there = rw c.in-Some-2.is at c.in_ok-call-in-Local.ensures.there in
-    local_states c.args.self.now.lines c.args.line.now.words found.what found.requests found.from.now c.elsewhere.new.to c.in-Local.call.now c.in-Some-2.call none known c.in-Local.ensures
-    (rw c.numbers-in-Local.ensures at there)
+    local_states c.args.self.now.lines c.args.line.now.words found.what found.requests found.from.now c.elsewhere.new.to c.in-Local.call.now c.in-Some-2.call none.0 known c.in-Local.ensures
+    there

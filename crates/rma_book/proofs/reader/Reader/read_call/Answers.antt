@@ -1,4 +1,5 @@
 use Rattle.std.proofs.Common.{◌≡◌, List, Some, sym, ap, refl, ◌∙◌}
+use Rattle.std.specs.Option.{option_copied}
 use Rattle.rma_call.specs.Call.{what_of}
 use Rattle.rma_form.specs.declared.event.Event.{Event}
 use Rattle.rma_book.specs.declared.reader.Reader.{Reader}
@@ -9,17 +10,17 @@ use Rattle.rma_book.proofs.reader.Reader.read_call.Goals as goal
 some_is : {A : Type 0} → (x y : A) → Some x ≡ Some y → x ≡ y
 some_is x y is = cc
 
-pub returns : goal.returns
-returns c =
+pub returns-in-Good : goal.returns-in-Good
+returns-in-Good c =
     OnOk_then c.push.result c.push.ensures.ok
     (λ pushed does event text is call site.
     let old = c.args.self.now in
     let same = some_is (what_of c.what.result) does (sym c.what.ensures ∙ is) in
-    let told = rw (← same, ← c.as_ref.ensures.value) at call in
+    let told = rw (← same) at call in
     let judged = rw c.in-Good.is at (c.in_ok-judged.ensures.judged event told) in
     let numbered = λ (events : List Event) (h : Represents old.book events).
     rw c.in-Good.is at (c.in_ok-judged.ensures.number event told (ap reason_in c.in-Good.is) events h) in
     let after : Reader = record old { lines = c.push.new.self; book = c.call.new.self } in
     Reads_taken old after c.args.no (record { event = event; site = text })
-    (Takes_call old after c.call.new.self c.args.no event text c.args.site c.args.what c.in-Good.request does c.args.request (pushed does is) refl refl refl call judged site numbered)
+    (Takes_call old after c.call.new.self c.args.no event text c.args.site c.args.what c.in-Good.request does (option_copied c.args.request) (pushed does is) refl refl refl call judged site numbered)
     c.requires.fault)

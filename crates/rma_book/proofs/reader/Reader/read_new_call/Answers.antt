@@ -1,4 +1,5 @@
 use Rattle.std.proofs.Common.{refl, subst}
+use Rattle.std.specs.Option.{option_copied}
 use Rattle.rma_call.specs.declared.what.What.TheVariants.{Sync}
 use Rattle.rma_form.specs.declared.event.Event.TheVariants.{Call}
 use Rattle.rma_book.specs.declared.reader.Reader.{Reader}
@@ -13,8 +14,8 @@ returns c =
     (λ reads text site.
     let old = c.args.self.now in
     let added = c.add_placed.new.self in
-    let event = Call c.args.call c.args.request in
-    let adds = rw c.as_ref.ensures.value at c.in_ok-what.ensures.adds in
+    let event = Call c.args.call (option_copied c.args.request) in
+    let adds = c.in_ok-what.ensures.adds in
     Reads_before old c.read_call.new.self added.lines c.args.no (record { event = event; site = text }) adds.version adds.calls
     (λ types are.
     adds.known types event are (said_words _ (λ own. IsStatedBy old.lines.version own event) c.args.words c.requires.words)

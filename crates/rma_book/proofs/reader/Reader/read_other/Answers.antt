@@ -6,10 +6,10 @@ use Rattle.rma_book.proofs.reader.Reader.read_other.Goals as goal
 
 pub returns-in-Some : goal.returns-in-Some
 returns-in-Some c =
-    let added = rw c.in-Some.is at c.in_ok-added.ensures.added in
-    OnOk_then c.read_added.result c.read_added.ensures (λ reads. reads c.args.self.now c.requires added)
+    let added = rw c.in-Some.is at c.in_ok-what.ensures.added in
+    OnOk_then c.read_added.result c.read_added.ensures (λ reads. reads c.args.self.now c.requires (rw c.request.ensures added))
 
-pub returns-in-None : goal.returns-in-None
-returns-in-None c =
-    let same : c.add_elsewhere.new.self ≡ c.args.self.now = c.in_ok-added.ensures.none (ap Ok c.in-None.is) in
+pub returns : goal.returns
+returns c =
+    let same : c.add_elsewhere.new.self ≡ c.args.self.now = c.in_ok-what.ensures.none (ap Ok c.in-None.is) in
     subst (λ (old : Reader). OnOk c.read_new.result (ReadsNext old c.read_new.new.self c.args.no.0 (Ok c.args.line.now.line))) same c.read_new.ensures

@@ -16,7 +16,7 @@ returns-in-Ok-Some c =
     (OnOk_then c.read_call.result c.read_call.ensures
     (λ reads. ReadsNext_known old grown c.args.no c.new-line.result it.0 c.requires c.known.ensures.grows it.1 c.read_call.new.self c.in-Ok-Some.call.site it.4
     (λ does event site is call sited.
-    reads does event site (ap (slice_get grown.calls.whats) it.2 ∙ is) (subst (λ request. IsCallOf old.book.types does request event) (sym it.3) call) sited)))
+    reads does event site (ap (slice_get grown.calls.whats) it.2 ∙ is) (subst (λ request. IsCallOf old.book.types does request event) (sym (c.as_ref.ensures.value ∙ it.3)) call) sited)))
 
 pub returns-in-Ok-None : goal.returns-in-Ok-None
 returns-in-Ok-None c =
