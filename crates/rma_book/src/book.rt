@@ -18,6 +18,7 @@ ghost use Rattle.rma_book.specs.inside.Naming.{value_of};
 
 mod access;
 mod datatype;
+mod lookup;
 mod request;
 
 use crate::names::WindowState;
@@ -25,6 +26,7 @@ use crate::naming::{Naming, Said};
 use crate::requests::Requests;
 pub use access::JudgedAccess;
 use indexmap::IndexMap;
+use lookup::is_world;
 use rma_base::limits::SPACE;
 use rma_base::{FormReason, Memory, Name, Rank, RankSet};
 use rma_call::WhatRef;
@@ -164,7 +166,7 @@ impl Book {
                 Ok(self.judged(lacks, FormReason::UnknownComm))
             }
             Said::OnWindow(window) => {
-                let lacks = !self.finds(window);
+                let lacks = !self.finds_window(window);
                 Ok(self.judged(lacks, FormReason::UnknownWindow))
             }
             Said::WithPeer(comm, rank) => {
@@ -172,7 +174,7 @@ impl Book {
                 Ok(self.judged_with(lacks, FormReason::UnknownComm, rank))
             }
             Said::WithTarget(window, rank) => {
-                let lacks = !self.finds(window);
+                let lacks = !self.finds_window(window);
                 Ok(self.judged_with(lacks, FormReason::UnknownWindow, rank))
             }
             Said::WithRoot(comm, root) => Ok(self.judged_for(self.root_reason(comm, root))),
@@ -348,117 +350,12 @@ impl Book {
         }
     }
 
-    // Whether there is a communicator of which a call speaks: mostly that of which one spoke last, which is looked at first.
-    #[inline]
-    fn finds_comm(&mut self, comm: &Name) -> bool
-        ensures is { result ≡ (is_same world comm.now || is_some (lookup (is_same comm.now) self.old.comms)) }
-        ensures same { self.new ≡ self.old }
-    {
-        match self.members_at(self.last_comm, comm) {
-            Some(_) => true,
-            None => self.finds_comm_anew(comm),
-        }
-    }
-
-    // The same, where it is not known where the communicator stands.
-    #[inline(never)]
-    fn finds_comm_anew(&mut self, comm: &Name) -> bool
-        ensures is { result ≡ (is_same world comm.now || is_some (lookup (is_same comm.now) self.old.comms)) }
-        ensures same { self.new ≡ self.old }
-    {
-        match self.comms.get_full(comm) {
-            Some((index, _, _)) => {
-                self.last_comm = index;
-                true
-            }
-            None => is_world(comm),
-        }
-    }
-
-    // The members of the communicator that stands at an index, if it is this one.
-    #[inline]
-    fn members_at(&self, index: usize, comm: &Name) -> Option<&RankSet>
-        ensures { IfSome result (λ ranks. lookup (is_same comm.now) self.now.comms ≡ Some ranks.now) }
-    {
-        match self.comms.get_index(index) {
-            Some((name, ranks)) if name == comm => Some(ranks),
-            _ => None,
-        }
-    }
-
-    // The members of a communicator, if it was declared.
-    #[inline]
-    fn members(&self, comm: &Name) -> Option<&RankSet>
-        ensures { option_copied result ≡ lookup (is_same comm.now) self.now.comms }
-    {
-        match self.members_at(self.last_comm, comm) {
-            Some(ranks) => Some(ranks),
-            None => self.comms.get(comm),
-        }
-    }
-
-    // Whether there is such a communicator.
-    fn has_comm(&self, comm: &Name) -> bool
-        ensures { result ≡ (is_same world comm.now || is_some (lookup (is_same comm.now) self.now.comms)) }
-    {
-        is_world(comm) || self.members(comm).is_some()
-    }
-
     fn lacks_window(&self, naming: &Naming<'_>) -> bool
         ensures { (events : List Event) → Represents self.now events → result ≡ lacks_window events (value_of naming.now) }
     {
         match naming.needed_window {
-            Some(window) => !self.is_there(window),
+            Some(window) => !self.has_window(window),
             None => false,
-        }
-    }
-
-    // Whether the window was created, and not freed.
-    fn is_there(&self, window: &Name) -> bool
-        ensures { result ≡ is_there (lookup (is_same window.now) self.now.windows) }
-    {
-        match self.windows.get(window) {
-            Some(state) => is_open(*state),
-            None => false,
-        }
-    }
-
-    // Whether a window is there of which a call speaks: mostly that of which one spoke last, which is looked at first.
-    #[inline]
-    fn finds(&mut self, window: &Name) -> bool
-        ensures is { result ≡ is_there (lookup (is_same window.now) self.old.windows) }
-        ensures same { self.new ≡ self.old }
-    {
-        match self.state_at(self.last_window, window) {
-            Some(state) => is_open(state),
-            None => self.finds_anew(window),
-        }
-    }
-
-    // The same, where it is not known where the window stands.
-    #[inline(never)]
-    fn finds_anew(&mut self, window: &Name) -> bool
-        ensures is { result ≡ is_there (lookup (is_same window.now) self.old.windows) }
-        ensures same { self.new ≡ self.old }
-    {
-        match self.windows.get_full(window) {
-            Some((index, _, state)) => {
-                let open = is_open(*state);
-                self.last_window = index;
-                open
-            }
-            None => false,
-        }
-    }
-
-    // What became of the window that stands at an index, if it is this one.
-    #[inline]
-    fn state_at(&self, index: usize, window: &Name) -> Option<WindowState>
-        ensures { IfSome result (λ state. lookup (is_same window.now) self.now.windows ≡ Some state) }
-    {
-        match self.windows.get_index(index) {
-            Some((name, state)) if name == window => Some(*state),
-            _ => None,
         }
     }
 
@@ -526,18 +423,6 @@ impl Book {
         }
     }
 
-    // Whether the window is there, with memory of its own.
-    fn is_fixed(&self, window: &Name) -> bool
-        ensures { result ≡ is_fixed (lookup (is_same window.now) self.now.windows) }
-    {
-        match self.windows.get(window) {
-            Some(WindowState::Fixed) => true,
-            Some(WindowState::Dynamic) => false,
-            Some(WindowState::Freed) => false,
-            None => false,
-        }
-    }
-
     // Notes what a call does to the names, and answers the number of its request.
     fn note(&mut self, naming: &Naming<'_>) -> Result<Option<u32>, Memory>
         ensures taken { OnOk result ((event : Event) → value_of naming.now ≡ attributes_of event → is_end event ≡ false → is_datatype event ≡ false → IsTaken self.old self.new event) }
@@ -577,13 +462,6 @@ impl Book {
             Err(_) => Err(Memory),
         }
     }
-}
-
-/// Whether the name is that of the communicator of all ranks.
-fn is_world(comm: &Name) -> bool
-    ensures { result ≡ is_same world comm.now }
-{
-    b"world".as_slice() == comm.bytes()
 }
 
 /// The first of the reasons among names that holds.
@@ -641,16 +519,5 @@ fn leaves_space(naming: &Naming<'_>) -> bool
     match naming.memory {
         Some((address, size)) => size > SPACE || address > SPACE - size,
         None => false,
-    }
-}
-
-/// Whether a window of which this became is there.
-fn is_open(state: WindowState) -> bool
-    ensures { result ≡ is_there (Some state) }
-{
-    match state {
-        WindowState::Fixed => true,
-        WindowState::Dynamic => true,
-        WindowState::Freed => false,
     }
 }

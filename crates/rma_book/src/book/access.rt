@@ -105,7 +105,7 @@ impl Book {
         match self.later_reason() {
             Some(reason) => Some(reason),
             None => first_access_reason(
-                !self.is_there(&line.window),
+                !self.has_window(&line.window),
                 lacks_type,
                 self.is_pending(request),
                 self.is_far(line.target),

@@ -22,9 +22,9 @@ returns-in-OnComm-clause-judged c = λ event is.
 pub returns-in-OnWindow-clause-judged : goal.returns-in-OnWindow-clause-judged
 returns-in-OnWindow-clause-judged c = λ event is.
     let book = c.args.self.now in
-    rw c.finds-lacks.ensures.same
+    rw c.finds_window-lacks.ensures.same
     (IsJudged_on_window book event (call_is book.types _ _ event is) (reason_in c.judged-in-OnWindow.result) c.in-OnWindow.window.now (c.in-OnWindow.ensures book.types event is.does is.request)
-    (rw (c.finds-lacks.ensures.is, c.finds-lacks.ensures.same) at c.judged-in-OnWindow.ensures.reason))
+    (rw (c.finds_window-lacks.ensures.is, c.finds_window-lacks.ensures.same) at c.judged-in-OnWindow.ensures.reason))
 
 pub returns-in-WithPeer-clause-judged : goal.returns-in-WithPeer-clause-judged
 returns-in-WithPeer-clause-judged c = λ event is.
@@ -36,9 +36,9 @@ returns-in-WithPeer-clause-judged c = λ event is.
 pub returns-in-WithTarget-clause-judged : goal.returns-in-WithTarget-clause-judged
 returns-in-WithTarget-clause-judged c = λ event is.
     let book = c.args.self.now in
-    rw c.finds-lacks-in-WithTarget.ensures.same
+    rw c.finds_window-lacks-in-WithTarget.ensures.same
     (IsJudged_with_target book event (call_is book.types _ _ event is) (reason_in c.judged_with-in-WithTarget.result) c.in-WithTarget.window.now c.in-WithTarget.rank.0
-    (c.in-WithTarget.ensures book.types event is.does is.request) (rw (c.finds-lacks-in-WithTarget.ensures.is, c.finds-lacks-in-WithTarget.ensures.same) at c.judged_with-in-WithTarget.ensures.reason))
+    (c.in-WithTarget.ensures book.types event is.does is.request) (rw (c.finds_window-lacks-in-WithTarget.ensures.is, c.finds_window-lacks-in-WithTarget.ensures.same) at c.judged_with-in-WithTarget.ensures.reason))
 
 pub returns-in-WithRoot-clause-judged : goal.returns-in-WithRoot-clause-judged
 returns-in-WithRoot-clause-judged c = λ event is.
