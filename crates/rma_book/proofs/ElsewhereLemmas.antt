@@ -29,7 +29,7 @@ use Rattle.rma_form.proofs.KindLemmas.{bind_ok, made_from}
 use Rattle.rma_form.specs.Tails.{Tail, TailValue, tail_counted, tail_of}
 use Rattle.rma_reader.specs.Elsewhere.{AreElsewhere, Details, IsElsewhere, Says, SaysAt, form_of_call, joined, name_alone, no_details, number_alone, part_of, places_of, request_alone}
 use Rattle.rma_reader.specs.declared.call_form.CallForm.{CallForm}
-use Rattle.rma_reader.specs.declared.call_form.CallForm.TheVariants.{Put, Get, Accumulate, GetAccumulate, FetchAndOp, CompareAndSwap, Load, Store, Poll, Barrier, Send, Recv, Isend, Irecv, Wait, Received, Fence, Post, Start, Complete, Expwait, Lock, Unlock, LockAll, UnlockAll, Flush, FlushAll, FlushLocal, FlushLocalAll, Sync, Attach, Detach, Bcast, Scatter, Gather, Reduce, Allreduce, Allgather, Alltoall}
+use Rattle.rma_reader.specs.declared.call_form.CallForm.TheVariants.{Put, Get, Accumulate, GetAccumulate, FetchAndOp, CompareAndSwap, Load, Store, Poll, Comm, Barrier, Send, Recv, Isend, Irecv, Wait, Received, Fence, Post, Start, Complete, Expwait, Lock, Unlock, LockAll, UnlockAll, Flush, FlushAll, FlushLocal, FlushLocalAll, Sync, Attach, Detach, Bcast, Scatter, Gather, Reduce, Allreduce, Allgather, Alltoall}
 use Rattle.rma_reader.specs.declared.call_form.Part.{Part}
 use Rattle.rma_reader.specs.declared.call_form.Part.TheVariants as part
 use Rattle.rma_reader.specs.declared.call_form.Place.{Place}
@@ -303,6 +303,7 @@ fields_of CompareAndSwap = kept name ∷ numbered target_at ∷ numbered address
 fields_of Load = buffer_fields
 fields_of Store = buffer_fields
 fields_of Poll = buffer_fields
+fields_of Comm = named ∷ kept ranks ∷ []
 fields_of Barrier = named ∷ []
 fields_of Send = message_fields
 fields_of Recv = message_fields

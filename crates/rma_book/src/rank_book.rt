@@ -1,11 +1,11 @@
 //! The log of one rank, as its bytes come.
-ghost use Rattle.std.specs.Prelude.{◌≡◌, ℕ, ◌+◌, ◌≤◌, List, [], ◌++◌, length, take, is_some, is_err, IfOk, IsErr, OnOk, OnErr, false};
+ghost use Rattle.std.specs.Prelude.{◌≡◌, ℕ, ◌+◌, ◌<◌, ◌≤◌, List, [], ◌++◌, length, take, is_some, is_err, IfOk, IsErr, OnOk, OnErr, false};
 ghost use Rattle.rma_lex.specs.Checked.{checked_lines};
 ghost use Rattle.rma_lex.specs.Line.{lines};
 ghost use Rattle.rma_book.specs.Calls.{calls_of, end_line};
 ghost use Rattle.rma_book.specs.Ends.{IsEnd};
 ghost use Rattle.rma_book.specs.Logs.{AreGoodUntil, IsFirstFault, entries, whole_lines};
-ghost use Rattle.rma_book.specs.inside.RankState.{RanOut, Represents};
+ghost use Rattle.rma_book.specs.inside.RankState.{RanOut, ReadsPart, Represents};
 
 use crate::fault::{BookEnd, FormFault};
 use crate::reader::{Reader, read_lines};
@@ -16,6 +16,9 @@ use rma_lex::LineCutter;
 use rma_reader::SharedSites;
 use std::alloc::Global;
 use std::marker::Model;
+
+/// So many bytes of a piece are read together: what is brought near for them is near still when their lines are read.
+const PART: usize = 2_048;
 
 /// The log of one rank: the book of its good lines, its first bad line, and the rest that is no whole line yet.
 #[derive(Drop)]
@@ -93,13 +96,31 @@ impl RankBook {
         }
         // It stays so unless the piece is read to its end.
         self.ran_out = true;
-        self.cutter.feed(piece)?;
-        self.reader.prefetch(piece);
-        read_lines(&mut self.cutter, &mut self.reader)?;
-        self.cutter.shorten();
+        let mut rest = self.read_part(piece)?;
+        'parts: while !rest.is_empty() {
+            rest = self.read_part(rest)?;
+        }
         self.fault = self.reader.fault;
         self.ran_out = false;
         Ok(())
+    }
+
+    /// Reads the first bytes of a piece of the log, and answers the rest of it.
+    fn read_part<'a>(&mut self, piece: &'a [u8]) -> Result<&'a [u8], Memory>
+        requires goes_on { self.old.text.closed ≡ false }
+        requires fits { self.old.text.fed + length piece.now ≤ FED }
+        ensures read { IfOk result (λ rest. (part : List ℕ) × (piece.now ≡ part ++ rest.now) × ReadsPart self.old.text self.new.text self.old.reader self.new.reader part) }
+        ensures smaller { IfOk result (λ rest. 0 < length piece.now → length rest.now < length piece.now) }
+        ensures kept { OnOk result (length self.new.text.rest ≤ LINE + 1) }
+        ensures open { self.new.text.closed ≡ false }
+        ensures same { self.new ≡ record self.old { text = self.new.text; reader = self.new.reader } }
+    {
+        let (part, rest) = piece.split_at(piece.len().min(PART));
+        self.cutter.feed(part)?;
+        self.reader.prefetch(part);
+        read_lines(&mut self.cutter, &mut self.reader)?;
+        self.cutter.shorten();
+        Ok(rest)
     }
 
     /// How many lines the log has so far, a last one without a line feed too.

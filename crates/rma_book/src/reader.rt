@@ -93,7 +93,7 @@ impl Reader {
         requires { self.old.fault ≡ None }
         ensures { OnOk result (ReadsNext self.old self.new no.0 (Ok text.now)) }
     {
-        let line = SplitLine::new(text);
+        let line = self.lines.split(text);
         match self.lines.known(&line) {
             Ok(Some(call)) => self.read_call(no, call.site, call.what, call.request.as_ref()),
             Ok(None) => self.read_other(no, &line),
@@ -437,7 +437,7 @@ impl Reader {
         let number = self.add(words, what, request, lasts)?;
         if let (Some(line), Some(form)) = (words, form) {
             self.lines
-                .note_access(&mut self.texts, line, form, number, request)?;
+                .note_template(&mut self.texts, line, form, number, request)?;
         }
         Ok(number)
     }

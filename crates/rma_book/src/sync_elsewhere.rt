@@ -20,7 +20,7 @@ pub(crate) fn sync_elsewhere(
     ensures { IfOk result (λ found. IfSome found (IsSyncAt (what_of what.entry) to.now name)) }
 {
     match what {
-        WhatRef::Frame(call) => Ok(frame_elsewhere(call, to, name)),
+        WhatRef::Frame(call) => frame_elsewhere(call, to, name),
         WhatRef::Message(call) => Ok(message_elsewhere(call, to, name)),
         WhatRef::Window(call) => Ok(window_elsewhere(call, to, name)),
         WhatRef::Epoch(call) => epoch_elsewhere(call, to, name),
@@ -30,17 +30,28 @@ pub(crate) fn sync_elsewhere(
     }
 }
 
-/// The same barrier on another communicator.
-fn frame_elsewhere(call: &FrameCall, to: &[u64], name: Option<Name>) -> Option<SyncCall>
-    ensures { IfSome result (λ moved. moved ≡ sync.Frame (frame_at call.now to.now name)) }
+/// The same barrier on another communicator, or another communicator of the same ranks.
+fn frame_elsewhere(
+    call: &FrameCall,
+    to: &[u64],
+    name: Option<Name>,
+) -> Result<Option<SyncCall>, Memory>
+    ensures { IfOk result (λ found. IfSome found (λ moved. moved ≡ sync.Frame (frame_at call.now to.now name))) }
 {
     let Some(comm) = name else {
-        return None;
+        return Ok(None);
     };
-    match (call, to) {
-        (FrameCall::Barrier { .. }, []) => Some(SyncCall::Frame(FrameCall::Barrier { comm })),
-        _ => None,
+    if !to.is_empty() {
+        return Ok(None);
     }
+    let call = match call {
+        FrameCall::Comm { ranks, .. } => FrameCall::Comm {
+            comm,
+            ranks: ranks.copy()?,
+        },
+        FrameCall::Barrier { .. } => FrameCall::Barrier { comm },
+    };
+    Ok(Some(SyncCall::Frame(call)))
 }
 
 /// The same message with another rank and another tag, or the completion of another request.
@@ -274,7 +285,7 @@ fn rootless_elsewhere(call: &MovingCall, bytes: u64, comm: Name) -> Option<SyncC
 /// The form of a call that accesses no memory, if programs make it again elsewhere.
 pub(crate) fn form_of_sync(call: &SyncCall) -> Option<CallForm> {
     match call {
-        SyncCall::Frame(call) => form_of_frame(call),
+        SyncCall::Frame(call) => Some(form_of_frame(call)),
         SyncCall::Message(call) => Some(form_of_message(call)),
         SyncCall::Window(call) => form_of_window(call),
         SyncCall::Epoch(call) => Some(form_of_epoch(call)),
@@ -282,11 +293,11 @@ pub(crate) fn form_of_sync(call: &SyncCall) -> Option<CallForm> {
     }
 }
 
-/// The form of a barrier.
-fn form_of_frame(call: &FrameCall) -> Option<CallForm> {
+/// The form of a communicator that is made, or of a barrier.
+fn form_of_frame(call: &FrameCall) -> CallForm {
     match call {
-        FrameCall::Barrier { .. } => Some(CallForm::Barrier),
-        FrameCall::Comm { .. } => None,
+        FrameCall::Comm { .. } => CallForm::Comm,
+        FrameCall::Barrier { .. } => CallForm::Barrier,
     }
 }
 

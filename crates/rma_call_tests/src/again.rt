@@ -8,7 +8,7 @@ use rma_call::{CallList, EpochCall, FrameCall, MessageCall, MovingCall, WhatRef,
 use std::process::Abort;
 use std::test::Fail;
 
-static CASES: [Case; 27] = [
+static CASES: [Case; 29] = [
     (
         "type contiguous d 1 INT\ntype commit d\nput W 1 0 1 d 8192 1 d\nput W 1 0 1 d 8192 1 d\nput W 1 0 1 d 8192 1 d\nput W 1 0 1 d 8192 1 d\ntype free d\nput W 1 0 1 d 8192 1 d\n",
         Err((10, FormReason::UnknownType)),
@@ -88,6 +88,14 @@ static CASES: [Case; 27] = [
     (
         "comm a1 0,1\ncomm a2 0,1\ncomm a3 0,1\nbarrier a1\nbarrier a2\nbarrier a3\nbarrier a4\n",
         Err((9, FormReason::UnknownComm)),
+    ),
+    (
+        "comm a1 0,1\ncomm a2 0,1\ncomm a3 0,1\ncomm a2 0,1\n",
+        Err((6, FormReason::NameInUse)),
+    ),
+    (
+        "comm a1 0,1\ncomm a2 0,1\ncomm a3 0,1\ncomm a4 1\n",
+        Err((6, FormReason::NotInGroup)),
     ),
     (
         "flush W 1\nflush W 0\nflush W 1\nflush V 0\n",
@@ -354,6 +362,16 @@ fn is_named(what: WhatRef<'_>, form: usize, names: (&str, &str, &str), number: u
     }
 }
 
+/// Whether a communicator of this name is declared, of both ranks.
+fn is_declared(what: WhatRef<'_>, name: &str) -> bool {
+    match what {
+        WhatRef::Frame(FrameCall::Comm { comm, ranks }) => {
+            comm.text() == name && ranks.numbers() == [0, 1].as_slice()
+        }
+        _ => false,
+    }
+}
+
 fn is_requested(call: &MessageCall, form: usize, name: &str, number: u64) -> bool {
     match call {
         MessageCall::Isend { to, tag, comm } => {
@@ -411,6 +429,7 @@ fn window_of(call: &EpochCall) -> &Name {
 fn check_named(rt: &impl Abort, calls: &CallList) {
     assert!(rt; calls.len() == DECLARED + NAMES.len() * FORMS);
     for time in 0..NAMES.len() {
+        assert!(rt; is_declared(calls.get(3 * time).what, NAMES[time].0));
         for form in 0..FORMS {
             let call = calls.get(DECLARED + time * FORMS + form);
             assert!(rt; is_named(call.what, form, NAMES[time], time as u64 + 1));

@@ -26,7 +26,7 @@ use Rattle.rma_reader.specs.declared.call_form.Place.{Place}
 use Rattle.rma_reader.specs.declared.call_form.Place.TheVariants.{Same, Rank, Address, Tag, Name, Request}
 use Rattle.rma_reader.specs.declared.part_at.NextWord.{NextWord}
 use Rattle.rma_reader.specs.declared.part_at.PartAt.{PartAt}
-use Rattle.rma_reader.specs.inside.Accesses.{AreAlike, AreGoneOver, Begins, Fit, HasPart, IsLow, IsNextWord, IsNoted, IsOfParts, IsPartWord, Stand, words_in}
+use Rattle.rma_reader.specs.inside.Templates.{AreAlike, AreGoneOver, Begins, Fit, HasPart, IsLow, IsNextWord, IsNoted, IsOfParts, IsPartWord, Stand, words_in}
 use Rattle.rma_reader.proofs.SlotLemmas.{some_is}
 use Rattle.rma_reader.proofs.WordLemmas.{begins_front, ends_blank, runs, runs_before, runs_behind, runs_blanks, runs_then_blanks, runs_word, some_blanks, texts_fields_from, words_round}
 

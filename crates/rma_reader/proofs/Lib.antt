@@ -2,5 +2,5 @@ pub mod WordLemmas
 pub mod SiteLemmas
 pub mod SlotLemmas
 pub mod ReaderLemmas
-pub mod AccessLemmas
+pub mod TemplateLemmas
 pub mod AlikeLemmas

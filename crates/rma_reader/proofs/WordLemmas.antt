@@ -5,7 +5,7 @@ use Rattle.std.proofs.lemmas.List.{append-nil, append_assoc}
 use Rattle.std.specs.List.{list_all, onto_first}
 use Rattle.rma_base.proofs.NameLemmas.{and_left, and_right}
 use Rattle.rma_lex.specs.Field.{Field, is_blank, is_field, begins_field, onto_first_field, fields_from, fields, texts}
-use Rattle.rma_reader.specs.inside.Accesses.{EndsBlank, words_in}
+use Rattle.rma_reader.specs.inside.Templates.{EndsBlank, words_in}
 
 -- the longest runs of bytes that are no blanks
 abbrev pub runs : List ℕ → List (List ℕ)

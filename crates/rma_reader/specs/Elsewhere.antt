@@ -11,7 +11,7 @@ use Rattle.rma_form.specs.Forms.{form_of}
 use Rattle.rma_form.specs.declared.form.LineForm.{LineForm}
 use Rattle.rma_form.specs.declared.form.LineForm.TheVariants as form
 use Rattle.rma_reader.specs.declared.call_form.CallForm.{CallForm}
-use Rattle.rma_reader.specs.declared.call_form.CallForm.TheVariants.{Put, Get, Accumulate, GetAccumulate, FetchAndOp, CompareAndSwap, Load, Store, Poll, Barrier, Send, Recv, Isend, Irecv, Wait, Received, Fence, Post, Start, Complete, Expwait, Lock, Unlock, LockAll, UnlockAll, Flush, FlushAll, FlushLocal, FlushLocalAll, Sync, Attach, Detach, Bcast, Scatter, Gather, Reduce, Allreduce, Allgather, Alltoall}
+use Rattle.rma_reader.specs.declared.call_form.CallForm.TheVariants.{Put, Get, Accumulate, GetAccumulate, FetchAndOp, CompareAndSwap, Load, Store, Poll, Comm, Barrier, Send, Recv, Isend, Irecv, Wait, Received, Fence, Post, Start, Complete, Expwait, Lock, Unlock, LockAll, UnlockAll, Flush, FlushAll, FlushLocal, FlushLocalAll, Sync, Attach, Detach, Bcast, Scatter, Gather, Reduce, Allreduce, Allgather, Alltoall}
 use Rattle.rma_reader.specs.declared.call_form.Part.{Part}
 use Rattle.rma_reader.specs.declared.call_form.Part.TheVariants as part
 use Rattle.rma_reader.specs.declared.call_form.Place.{Place}
@@ -29,6 +29,7 @@ form_of_call CompareAndSwap = form.CompareAndSwap
 form_of_call Load = form.Load
 form_of_call Store = form.Store
 form_of_call Poll = form.Poll
+form_of_call Comm = form.Comm
 form_of_call Barrier = form.Barrier
 form_of_call Send = form.Send
 form_of_call Recv = form.Recv
@@ -71,6 +72,7 @@ places_of CompareAndSwap = Same ∷ Rank ∷ Address ∷ Same ∷ Address ∷ Ad
 places_of Load = Address ∷ Same ∷ Same ∷ []
 places_of Store = Address ∷ Same ∷ Same ∷ []
 places_of Poll = Address ∷ Same ∷ Same ∷ []
+places_of Comm = Name ∷ Same ∷ []
 places_of Barrier = Name ∷ []
 places_of Send = Rank ∷ Tag ∷ Name ∷ []
 places_of Recv = Rank ∷ Tag ∷ Name ∷ []

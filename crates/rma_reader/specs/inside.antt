@@ -1,3 +1,3 @@
 pub mod Dated
-pub mod Accesses
+pub mod Templates
 pub mod Tables

@@ -7,7 +7,8 @@ use rma_base::limits::SPACE;
 use rma_form::LineForm;
 
 /// The form of a line that states a call, which programs make again elsewhere: an access or a synchronisation (MPI 4.0,
-/// "One-Sided Communications"), a message ("Point-to-Point Communication"), or a collective ("Collective Communication").
+/// "One-Sided Communications"), a message ("Point-to-Point Communication"), a collective ("Collective Communication"), or one that
+/// makes a communicator ("Groups, Contexts, Communicators, and Caching").
 #[derive(Clone, Copy, Debug, PartialEq, Eq)]
 pub enum CallForm {
     /// `put`
@@ -28,6 +29,8 @@ pub enum CallForm {
     Store,
     /// `poll`
     Poll,
+    /// `comm`
+    Comm,
     /// `barrier`
     Barrier,
     /// `send`
@@ -154,6 +157,7 @@ impl CallForm {
             CallForm::Load => form == LineForm::Load,
             CallForm::Store => form == LineForm::Store,
             CallForm::Poll => form == LineForm::Poll,
+            CallForm::Comm => form == LineForm::Comm,
             CallForm::Barrier => form == LineForm::Barrier,
             CallForm::Send => form == LineForm::Send,
             CallForm::Recv => form == LineForm::Recv,
@@ -217,7 +221,7 @@ impl CallForm {
             CallForm::Irecv => &[Request, Name],
             CallForm::Wait => &[Request],
             CallForm::Received => &[Request, Rank, Tag],
-            CallForm::Post | CallForm::Start => &[Name, Same],
+            CallForm::Comm | CallForm::Post | CallForm::Start => &[Name, Same],
             CallForm::Lock => &[Name, Rank, Same],
             CallForm::Unlock | CallForm::Flush | CallForm::FlushLocal => &[Name, Rank],
             CallForm::Attach => &[Name, Address, Same],

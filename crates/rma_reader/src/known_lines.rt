@@ -55,13 +55,19 @@ impl KnownLines {
         })
     }
 
-    /// The known line of these words, of which this is the key, read in this version.
+    /// The known line of these words, of which this is the key, read in this version. None, where they are not looked up.
     #[inline]
-    pub(crate) fn find(&self, key: u64, version: Version, words: &[u8]) -> Option<&KnownLine>
+    pub(crate) fn find(
+        &self,
+        key: Option<u64>,
+        version: Version,
+        words: &[u8],
+    ) -> Option<&KnownLine>
         ensures among { IfSome result (λ line. IsAmong self.now line.now.known) }
         ensures version { IfSome result (λ line. line.now.known.version ≡ version) }
         ensures words { IfSome result (λ line. line.now.known.words ≡ words.now) }
     {
+        let key = key?;
         if !self.has_key(key) {
             return None;
         }
@@ -81,7 +87,7 @@ impl KnownLines {
     }
 
     /// Notes that these words, read in this version, state a call that does this, where they come again: then the slot has this
-    /// line. It is said whether they state the same call whatever the datatypes are.
+    /// line, if it is looked up. It is said whether they state the same call whatever the datatypes are.
     pub(crate) fn note(
         &mut self,
         alloc: Global,
@@ -94,7 +100,9 @@ impl KnownLines {
         ensures { (known : Known) → IsAmong self.new known
             → IsAmong self.old known ⊎ (known ≡ record { version = version; words = line.now.words; what = what; request = option_copied request.entry; lasts = lasts }) }
     {
-        let key = line.key();
+        let Some(key) = line.key() else {
+            return Ok(());
+        };
         if !comes_again(&mut self.keys, key) {
             return Ok(());
         }

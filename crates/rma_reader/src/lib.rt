@@ -12,10 +12,10 @@
 #![tactic(auto)]
 
 mod call_form;
+mod call_template;
+mod call_templates;
 mod decimal;
 mod key;
-mod known_access;
-mod known_accesses;
 mod known_line;
 mod known_lines;
 mod line_reader;
@@ -23,6 +23,7 @@ mod numbered_calls;
 mod part_at;
 mod particulars;
 mod read_line;
+mod repetition;
 mod shared_sites;
 mod site_slots;
 mod split_line;

@@ -16,11 +16,12 @@ ghost use Rattle.rma_reader.specs.Split.{IsSplit};
 ghost use Rattle.rma_reader.specs.inside.Tables.{Reads};
 
 use crate::call_form::CallForm;
-use crate::known_accesses::KnownAccesses;
+use crate::call_templates::CallTemplates;
 use crate::known_lines::KnownLines;
 use crate::numbered_calls::NumberedCalls;
 use crate::particulars::Particulars;
 use crate::read_line::{KnownCall, PlacedCall, ReadLine};
+use crate::repetition::Repetition;
 use crate::shared_sites::SharedSites;
 use crate::split_line::{SplitLine, is_comment};
 use rma_base::{LineNo, Memory, Name, Version};
@@ -39,8 +40,10 @@ pub struct LineReader {
     alloc: Global,
     /// The lines that come again.
     lines: KnownLines,
+    /// How many of them do.
+    repetition: Repetition,
     /// The calls that come again elsewhere.
-    accesses: KnownAccesses,
+    templates: CallTemplates,
     /// The calls that were appended, with their tables.
     calls: NumberedCalls,
 }
@@ -48,14 +51,14 @@ pub struct LineReader {
 impl Model for LineReader {
     ghost use Rattle.std.specs.Prelude.{◌++◌, length};
     ghost use Rattle.rma_reader.specs.Reading.{Reading};
-    ghost use Rattle.rma_reader.specs.inside.Accesses.{known_of};
+    ghost use Rattle.rma_reader.specs.inside.Templates.{known_of};
     ghost use Rattle.rma_reader.specs.inside.Dated.{AreNumbered};
 
     ghost Value = { Reading };
 
-    ghost view = { λ reader. record { version = reader.version; calls = reader.calls; known = reader.lines ++ known_of reader.accesses } };
+    ghost view = { λ reader. record { version = reader.version; calls = reader.calls; known = reader.lines ++ known_of reader.templates } };
 
-    ghost invariant = { λ reader. AreNumbered (length reader.calls.whats) (reader.lines ++ known_of reader.accesses) };
+    ghost invariant = { λ reader. AreNumbered (length reader.calls.whats) (reader.lines ++ known_of reader.templates) };
 }
 
 impl LineReader {
@@ -71,12 +74,14 @@ impl LineReader {
             version: Version::One,
             alloc,
             lines: KnownLines::new(alloc)?,
-            accesses: KnownAccesses::new(alloc)?,
+            repetition: Repetition::new(),
+            templates: CallTemplates::new(alloc)?,
             calls: NumberedCalls::new(alloc, sites),
         })
     }
 
-    /// Brings near what the sites of the lines of this piece of the log are looked up in. The lines themselves come later.
+    /// Brings near what the sites of the lines of this piece of the log are looked up in. The lines themselves come next; of a long
+    /// piece much would be far again by then.
     pub fn prefetch(&mut self, piece: &[u8])
         ensures { self.new ≡ self.old }
     {
@@ -88,6 +93,16 @@ impl LineReader {
         ensures { self.new ≡ record self.old { version = version } }
     {
         self.version = version;
+    }
+
+    /// The next line, of this text, as its words and its site.
+    #[inline]
+    pub fn split<'a>(&mut self, text: &'a [u8]) -> SplitLine<'a>
+        ensures line { result.line ≡ text.now }
+        ensures same { self.new ≡ self.old }
+    {
+        let is_looked_up = self.repetition.looks_up_next();
+        SplitLine::new(text, is_looked_up)
     }
 
     /// The call that the line states, where its words are known. Its site stands in the tables then.
@@ -116,6 +131,7 @@ impl LineReader {
             Ok(site) => site,
             Err(error) => return Err(error),
         };
+        self.repetition.note_known();
         Ok(Some(KnownCall {
             what,
             request,
@@ -135,7 +151,7 @@ impl LineReader {
         ensures known { IfOk result (λ found. IfSome found (λ found. IsKnownElsewhere self.now.known self.now.version line.now.words found.what found.requests found.from.now to.new)) }
         ensures within { IfOk result (λ found. IfSome found (λ found. found.what < length self.now.calls.whats)) }
     {
-        self.accesses.find(texts, self.version, line.words(), to)
+        self.templates.find(texts, self.version, line.words(), to)
     }
 
     /// The number of the site of the line, if it has one. It stands in the tables then.
@@ -253,7 +269,7 @@ impl LineReader {
 
     /// Notes that the words of a line state a call of this form that does this, and has this request, so that it is known when it
     /// comes again elsewhere, until the datatypes change.
-    pub fn note_access(
+    pub fn note_template(
         &mut self,
         texts: &mut Texts,
         line: &SplitLine<'_>,
@@ -267,7 +283,7 @@ impl LineReader {
         ensures same { self.new ≡ record self.old { known = self.new.known } }
     {
         let at = self.calls.list().len();
-        self.accesses
+        self.templates
             .note(texts, self.version, line.words(), form, what, request, at)
     }
 
@@ -278,7 +294,7 @@ impl LineReader {
         ensures same { self.new ≡ record self.old { known = self.new.known } }
     {
         self.lines.forget_accesses();
-        self.accesses.forget();
+        self.templates.forget();
     }
 
     /// What calls do that have this number.

@@ -24,9 +24,6 @@ use std::marker::Model;
 /// Where there are fewer slots, what sites are looked up in is near without being brought.
 const FAR: usize = 2_048;
 
-/// So many bytes of a piece are looked at: what is brought near for more would be far again.
-const NEAR: usize = 65_536;
-
 /// The keys of some texts.
 type Keys = ArrayVec<u64, 64>;
 
@@ -91,7 +88,7 @@ impl NumberedCalls {
         }
         let mut seen = self.seen;
         let mut keys = Keys::new();
-        for at in memchr_iter(b'@', &piece[..piece.len().min(NEAR)]) {
+        for at in memchr_iter(b'@', piece) {
             if keys.is_full() {
                 seen ^= self.read_ahead(keys.as_slice());
                 keys.clear();

@@ -2,7 +2,7 @@
 ghost use Rattle.std.specs.Prelude.{◌≡◌, ◌+◌, ◌<◌, ◌≤◌, ◌^◌, false, IfSome, ◌∷◌, drop, length, take, true};
 ghost use Rattle.std.specs.List.{list_all};
 ghost use Rattle.rma_lex.specs.Field.{begins_field, is_blank, is_field};
-ghost use Rattle.rma_reader.specs.inside.Accesses.{IsNextWord, IsNoted, Stand};
+ghost use Rattle.rma_reader.specs.inside.Templates.{IsNextWord, IsNoted, Stand};
 
 use crate::call_form::{Part, Place};
 use arrayvec::ArrayVec;

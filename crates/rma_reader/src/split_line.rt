@@ -17,8 +17,8 @@ pub struct SplitLine<'a> {
     words: &'a [u8],
     /// The text of the site.
     site: Option<&'a [u8]>,
-    /// The key of the words. That of a comment, which is not looked up, is 0.
-    key: u64,
+    /// The key of the words, if these are looked up.
+    key: Option<u64>,
 }
 
 impl<'a> Model for SplitLine<'a> {
@@ -33,9 +33,9 @@ impl<'a> Model for SplitLine<'a> {
 }
 
 impl<'a> SplitLine<'a> {
-    /// The line of this text.
+    /// The line of this text. It is said whether its words are looked up, if it is no comment.
     #[inline]
-    pub fn new(line: &'a [u8]) -> SplitLine<'a>
+    pub(crate) fn new(line: &'a [u8], is_looked_up: bool) -> SplitLine<'a>
         ensures { result.line ≡ line.now }
     {
         if is_comment(line) {
@@ -43,16 +43,19 @@ impl<'a> SplitLine<'a> {
                 line,
                 words: line,
                 site: None,
-                key: 0,
+                key: None,
             };
         }
         let (words, site) = split_site(line);
-        let key = key_of(words);
         SplitLine {
             line,
             words,
             site,
-            key,
+            key: if is_looked_up {
+                Some(key_of(words))
+            } else {
+                None
+            },
         }
     }
 
@@ -82,9 +85,9 @@ impl<'a> SplitLine<'a> {
         self.site
     }
 
-    /// The key of its words.
+    /// The key of its words, if these are looked up.
     #[inline]
-    pub(crate) fn key(&self) -> u64 {
+    pub(crate) fn key(&self) -> Option<u64> {
         self.key
     }
 }

@@ -5,7 +5,7 @@ use Rattle.rma_call.specs.declared.epoch.EpochCall.{EpochCall}
 use Rattle.rma_call.specs.declared.epoch.EpochCall.TheVariants.{Fence, Post, Start, Complete, Expwait, Lock, Unlock, LockAll, UnlockAll, Flush, FlushAll, FlushLocal, FlushLocalAll}
 use Rattle.rma_call.specs.declared.epoch.EpochCall.TheVariants as epoch
 use Rattle.rma_call.specs.declared.frame.FrameCall.{FrameCall}
-use Rattle.rma_call.specs.declared.frame.FrameCall.TheVariants.{Barrier}
+use Rattle.rma_call.specs.declared.frame.FrameCall.TheVariants.{Comm, Barrier}
 use Rattle.rma_call.specs.declared.message.MessageCall.{MessageCall}
 use Rattle.rma_call.specs.declared.message.MessageCall.TheVariants.{Send, Recv, Isend, Irecv, Wait}
 use Rattle.rma_call.specs.declared.moving.MovingCall.{MovingCall}
@@ -29,8 +29,9 @@ use Rattle.rma_book.specs.inside.Known.{AreKnown, IsCallOf, IsStatedBy}
 
 -- ---- calls with other numbers and another name; the same, where they are none of theirs
 
--- a barrier on another communicator
+-- a communicator of another name, and a barrier on another one
 abbrev pub frame_at : FrameCall → List ℕ → Option (List ℕ) → FrameCall
+frame_at (Comm comm ranks) [] (Some name) = Comm name ranks
 frame_at (Barrier comm) [] (Some name) = Barrier name
 frame_at call _ _ = call
 

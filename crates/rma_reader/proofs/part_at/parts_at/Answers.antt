@@ -1,7 +1,7 @@
 use Rattle.std.proofs.Common.{◌+◌, ◌∷◌, drop, slice_index_or, subst}
 use Rattle.std.proofs.Math.ListN.{drop_of_length-le}
 use Rattle.rma_reader.specs.declared.call_form.Place.TheVariants.{Same}
-use Rattle.rma_reader.specs.inside.Accesses.{AreGoneOver}
+use Rattle.rma_reader.specs.inside.Templates.{AreGoneOver}
 use Rattle.rma_reader.proofs.AlikeLemmas.{all_gone, next_item, verb_gone, word_gone}
 use Rattle.rma_reader.proofs.part_at.parts_at.Goals as goal
 

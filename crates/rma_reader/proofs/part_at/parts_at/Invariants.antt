@@ -1,6 +1,6 @@
 use Rattle.std.proofs.Common.{◌∷◌, drop}
 use Rattle.rma_reader.specs.declared.call_form.Place.TheVariants.{Same}
-use Rattle.rma_reader.specs.inside.Accesses.{AreGoneOver}
+use Rattle.rma_reader.specs.inside.Templates.{AreGoneOver}
 use Rattle.rma_reader.proofs.part_at.parts_at.Given as goal
 
 -- the words before were gone over

@@ -1,14 +1,14 @@
 use Rattle.std.proofs.Common.{⊎_elim}
 use Rattle.rma_reader.specs.Known.{IsAmong}
-use Rattle.rma_reader.specs.inside.Accesses.{IsKnownAmong, known_of}
-use Rattle.rma_reader.proofs.AccessLemmas.{among_either, among_lines, none_known_among}
+use Rattle.rma_reader.specs.inside.Templates.{IsKnownAmong, known_of}
+use Rattle.rma_reader.proofs.TemplateLemmas.{among_either, among_lines, none_known_among}
 use Rattle.rma_reader.proofs.line_reader.LineReader.forget_accesses.Goals as goal
 
 -- what is known still is known of a line
 pub invariant_of-self : goal.invariant_of-self
 invariant_of-self c = λ known there.
     c.self.invariant known (⊎_elim
-    (λ (own : IsAmong c.forget_accesses.new.self known). among_lines c.self.inside.lines (known_of c.self.inside.accesses) known (c.forget_accesses.ensures.among known own))
+    (λ (own : IsAmong c.forget_accesses.new.self known). among_lines c.self.inside.lines (known_of c.self.inside.templates) known (c.forget_accesses.ensures.among known own))
     (λ (other : IsKnownAmong c.forget.new.self known). absurd (none_known_among c.forget.new.self known c.forget.ensures other))
     (among_either c.forget_accesses.new.self (known_of c.forget.new.self) known there))
 
@@ -16,7 +16,7 @@ pub returns-clause-among : goal.returns-clause-among
 returns-clause-among c =
     rw (← c.self.view_is) (λ known there.
     ⊎_elim
-    (λ (own : IsAmong c.forget_accesses.new.self known). among_lines c.self.inside.lines (known_of c.self.inside.accesses) known (c.forget_accesses.ensures.among known own))
+    (λ (own : IsAmong c.forget_accesses.new.self known). among_lines c.self.inside.lines (known_of c.self.inside.templates) known (c.forget_accesses.ensures.among known own))
     (λ (other : IsKnownAmong c.forget.new.self known). absurd (none_known_among c.forget.new.self known c.forget.ensures other))
     (among_either c.forget_accesses.new.self (known_of c.forget.new.self) known there))
 

@@ -1,6 +1,6 @@
 use Rattle.std.proofs.Common.{◌∙◌}
-use Rattle.rma_reader.specs.inside.Accesses.{known_of}
-use Rattle.rma_reader.proofs.AccessLemmas.{among_lines}
+use Rattle.rma_reader.specs.inside.Templates.{known_of}
+use Rattle.rma_reader.proofs.TemplateLemmas.{among_lines}
 use Rattle.rma_reader.proofs.line_reader.LineReader.known.Goals as goal
 
 pub returns-in_default-request-clause-err : goal.returns-in_default-request-clause-err
@@ -8,7 +8,7 @@ returns-in_default-request-clause-err c =
     rw (← c.self.view_is) (
       c.in-Some.known.now.known,
       record {
-        among = among_lines c.self.inside.lines (known_of c.self.inside.accesses) c.in-Some.known.now.known c.in-Some.ensures.among;
+        among = among_lines c.self.inside.lines (known_of c.self.inside.templates) c.in-Some.known.now.known c.in-Some.ensures.among;
         version = c.in-Some.ensures.version;
         words = c.in-Some.ensures.words ∙ c.words.ensures;
         split = c.site-text.ensures.split;
@@ -25,4 +25,4 @@ invariant_of-self-2 c = λ known there. rw c.site_at.ensures.adds.whats (c.self.
 pub returns-clause-within : goal.returns-clause-within
 returns-clause-within c =
     rw (c.site_at.ensures.adds.whats, c.what-what.ensures)
-    (c.self.invariant c.in-Some.known.now.known (among_lines c.self.inside.lines (known_of c.self.inside.accesses) c.in-Some.known.now.known c.in-Some.ensures.among))
+    (c.self.invariant c.in-Some.known.now.known (among_lines c.self.inside.lines (known_of c.self.inside.templates) c.in-Some.known.now.known c.in-Some.ensures.among))

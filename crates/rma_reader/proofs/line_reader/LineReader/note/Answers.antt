@@ -1,14 +1,14 @@
 use Rattle.std.proofs.Common.{◌≡◌, ◌<◌, length, ⊎_elim, inl, inr, sym, subst, option_copied}
 use Rattle.rma_reader.specs.Known.{Known, IsAmong}
 use Rattle.rma_reader.specs.Reading.{Reading}
-use Rattle.rma_reader.specs.inside.Accesses.{known_of}
-use Rattle.rma_reader.proofs.AccessLemmas.{among_either, among_lines, among_others}
+use Rattle.rma_reader.specs.inside.Templates.{known_of}
+use Rattle.rma_reader.proofs.TemplateLemmas.{among_either, among_lines, among_others}
 use Rattle.rma_reader.proofs.line_reader.LineReader.note.Goals as goal
 
 pub invariant_of-self : goal.invariant_of-self
 invariant_of-self c = λ known there.
     let lines = c.self.inside.lines in
-    let others = known_of c.self.inside.accesses in
+    let others = known_of c.self.inside.templates in
     ⊎_elim
     (λ (own : IsAmong c.note.new.self known).
     ⊎_elim
@@ -23,7 +23,7 @@ invariant_of-self c = λ known there.
 pub returns-clause-known : goal.returns-clause-known
 returns-clause-known c =
     let lines = c.self.inside.lines in
-    let others = known_of c.self.inside.accesses in
+    let others = known_of c.self.inside.templates in
     rw (← c.self.view_is) (λ known there.
     ⊎_elim
     (λ (own : IsAmong c.note.new.self known).

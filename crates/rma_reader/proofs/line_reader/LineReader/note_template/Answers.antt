@@ -1,0 +1,35 @@
+use Rattle.std.proofs.Common.{◌≡◌, ◌<◌, length, false, option_copied, ⊎_elim, inl, inr, sym, subst}
+use Rattle.rma_reader.specs.Known.{Known, IsAmong}
+use Rattle.rma_reader.specs.Reading.{Reading}
+use Rattle.rma_reader.specs.inside.Templates.{IsKnownAmong, known_of}
+use Rattle.rma_reader.proofs.TemplateLemmas.{among_either, among_lines, among_others}
+use Rattle.rma_reader.proofs.line_reader.LineReader.note_template.Goals as goal
+
+pub invariant_of-self : goal.invariant_of-self
+invariant_of-self c = λ known there.
+    let lines = c.self.inside.lines in
+    let others = known_of c.self.inside.templates in
+    ⊎_elim
+    (λ (own : IsAmong lines known). c.self.invariant known (among_lines lines others known own))
+    (λ (other : IsKnownAmong c.note.new.self known).
+    ⊎_elim
+    (λ (old : IsAmong others known). c.self.invariant known (among_others lines others known old))
+    (λ (same : known ≡ record { version = c.self.inside.version; words = c.args.line.now.words; what = c.args.what; request = option_copied c.args.request; lasts = false }).
+    let within : c.args.what < length c.self.inside.calls.whats = subst (λ (reading : Reading). c.args.what < length reading.calls.whats) (sym c.self.view_is) c.requires in
+    subst (λ (k : Known). k.what < length c.self.inside.calls.whats) (sym same) within)
+    (rw c.words.ensures at (c.note.ensures known other)))
+    (among_either lines (known_of c.note.new.self) known there)
+
+pub returns-clause-known : goal.returns-clause-known
+returns-clause-known c =
+    let lines = c.self.inside.lines in
+    let others = known_of c.self.inside.templates in
+    rw (← c.self.view_is) (λ known there.
+    ⊎_elim
+    (λ (own : IsAmong lines known). inl (among_lines lines others known own))
+    (λ (other : IsKnownAmong c.note.new.self known).
+    ⊎_elim
+    (λ (old : IsAmong others known). inl (among_others lines others known old))
+    (λ (same : known ≡ record { version = c.self.inside.version; words = c.args.line.now.words; what = c.args.what; request = option_copied c.args.request; lasts = false }). inr same)
+    (rw c.words.ensures at (c.note.ensures known other)))
+    (among_either lines (known_of c.note.new.self) known there))
