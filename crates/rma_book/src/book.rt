@@ -10,7 +10,7 @@ ghost use Rattle.rma_form.specs.declared.event.Event.{Event};
 ghost use Rattle.rma_form.specs.declared.event.Event.TheVariants.{Header, End};
 ghost use Rattle.rma_book.specs.Naming.{attributes_of, is_end};
 ghost use Rattle.rma_book.specs.Types.{is_datatype};
-ghost use Rattle.rma_book.specs.Names.{is_same, of_name, world, has_comm, had_window, pending, is_there, is_fixed, request_number};
+ghost use Rattle.rma_book.specs.Names.{is_same, of_name, world, has_comm, had_window, pending, request_number};
 ghost use Rattle.rma_book.specs.Judging.{first_that_holds, name_reason, use_reason, lacks_comm, lacks_window, is_far, leaves_out, leaves_space, attaches_wrongly};
 ghost use Rattle.rma_book.specs.inside.BookState.{Represents, IsJudged, IsTaken, reason_in, number_in};
 ghost use Rattle.rma_book.specs.inside.Known.{IsCall, IsCallOf};

@@ -1,9 +1,9 @@
-use Rattle.std.proofs.Common.{◌≡◌, ◌+◌, ◌++◌, ℕ, List, [], length, count_by, eqb, eqb-true, append_assoc, length-append, refl, ap, sym, ◌∙◌, subst, arith}
+use Rattle.std.proofs.Common.{◌≡◌, ◌+◌, ◌++◌, ℕ, List, [], length, count_by, eqb-true, append_assoc, length-append, refl, ap, sym, ◌∙◌, subst, arith}
 use Rattle.std.specs.Prelude.{◌==◌}
 use Rattle.std.proofs.lemmas.List.{append-nil, nil_from_length}
 use Rattle.rma_lex.specs.Cutting.{Cutting}
 use Rattle.rma_book.specs.declared.reader.Reader.{Reader}
-use Rattle.rma_book.specs.inside.RankState.{RankState, ReadsPart, Represents}
+use Rattle.rma_book.specs.inside.RankState.{RankState, ReadsPart}
 use Rattle.rma_book.specs.inside.Reading.{IsReading}
 use Rattle.rma_book.proofs.rank_book.RankBook.feed.Goals as goal
 
