@@ -1,5 +1,5 @@
 //! The names and the sites of one log.
-ghost use Rattle.std.specs.Prelude.{◌≡◌, IfErr, IfOk};
+ghost use Rattle.std.specs.Prelude.{◌≡◌, true, Ok, length, take, IfErr, IfOk, IfSome};
 ghost use Rattle.rma_field.specs.Kinds.{name_of};
 ghost use Rattle.rma_field.specs.Sites.{site};
 ghost use Rattle.rma_field.specs.Steps.{Gives};
@@ -15,6 +15,9 @@ use std::marker::Model;
 // How many names are at hand.
 const AT_HAND: usize = 256;
 
+// How many names are known by their first byte.
+const INITIALS: usize = 32;
+
 /// The names and the sites of one log. Each is kept once, so that what comes again takes no memory; the name of a request is
 /// kept for a while alone, since a log may have as many as it has lines.
 #[derive(Drop)]
@@ -22,6 +25,8 @@ pub struct Texts {
     alloc: Global,
     // The names that came last, each in the slot that the key of its text gives: none, or `AT_HAND` of them.
     at_hand: Vec<Option<Name>>,
+    // The names of windows and communicators that came last, each in the slot that its first byte gives: none, or `INITIALS`.
+    by_initial: Vec<Option<Name>>,
     // Each by the key of its text. Of two texts with one key the first is kept.
     names: IndexMap<u64, Name>,
     sites: IndexMap<u64, Site>,
@@ -39,6 +44,7 @@ impl Texts {
         Texts {
             alloc,
             at_hand: Vec::new(alloc),
+            by_initial: Vec::new(alloc),
             names: IndexMap::new(alloc),
             sites: IndexMap::new(alloc),
         }
@@ -49,9 +55,50 @@ impl Texts {
         self.alloc
     }
 
-    /// The field as a name.
+    /// The name that came last of those that begin with the same byte, if the text begins with it. A longer name may stand there.
     #[inline]
+    pub fn name_before(&self, text: &[u8]) -> Result<Option<Name>, Memory>
+        ensures name { IfOk result (λ found. IfSome found (λ name. name_of name ≡ Ok name)) }
+        ensures front { IfOk result (λ found. IfSome found (λ name. take (length name) text.now ≡ name)) }
+    {
+        let Some(first) = text.first() else {
+            return Ok(None);
+        };
+        match self.by_initial.get(slot_of_initial(*first)) {
+            Some(Some(known)) if begins_with(text, known.bytes()) => Ok(Some(known.copy()?)),
+            _ => Ok(None),
+        }
+    }
+
+    /// The field as a name.
     pub fn name(&mut self, text: &[u8]) -> Result<Name, ParseError>
+        ensures { Gives result (name_of text.now) }
+    {
+        let name = self.known_name(text)?;
+        match self.note_initial(&name) {
+            Ok(()) => Ok(name),
+            Err(Memory) => Err(ParseError::Memory),
+        }
+    }
+
+    // A name, which is known by its first byte from now on.
+    fn note_initial(&mut self, name: &Name) -> Result<(), Memory> {
+        if self.by_initial.is_empty() {
+            self.by_initial = no_names(self.alloc, INITIALS)?;
+        }
+        let Some(first) = name.bytes().first() else {
+            return Ok(());
+        };
+        let at = slot_of_initial(*first);
+        if let Some(slot) = self.by_initial.get_mut(at) {
+            *slot = Some(name.copy()?);
+        }
+        Ok(())
+    }
+
+    // The field as a name, which is mostly at hand.
+    #[inline]
+    fn known_name(&mut self, text: &[u8]) -> Result<Name, ParseError>
         ensures { Gives result (name_of text.now) }
     {
         let key = key_of(text);
@@ -116,7 +163,7 @@ impl Texts {
         ensures err { IfErr result (λ error. error ≡ ParseError.Memory) }
     {
         if self.at_hand.is_empty() {
-            match no_names(self.alloc) {
+            match no_names(self.alloc, AT_HAND) {
                 Ok(slots) => self.at_hand = slots,
                 Err(_) => return Err(ParseError::Memory),
             }
@@ -159,10 +206,10 @@ impl Texts {
     }
 }
 
-// Slots without names.
-fn no_names(alloc: Global) -> Result<Vec<Option<Name>>, Memory> {
-    let mut slots = Vec::with_capacity(alloc, AT_HAND)?;
-    for _ in 0..AT_HAND {
+// So many slots without names.
+fn no_names(alloc: Global, count: usize) -> Result<Vec<Option<Name>>, Memory> {
+    let mut slots = Vec::with_capacity(alloc, count)?;
+    for _ in 0..count {
         slots.push(None)?;
     }
     Ok(slots)
@@ -172,6 +219,23 @@ fn no_names(alloc: Global) -> Result<Vec<Option<Name>>, Memory> {
 #[inline]
 fn slot_of(key: u64) -> usize {
     (key % AT_HAND as u64) as usize
+}
+
+// The slot of the names that begin with this byte.
+#[inline]
+fn slot_of_initial(byte: u8) -> usize {
+    usize::from(byte) % INITIALS
+}
+
+// Whether a text begins with another.
+#[inline]
+fn begins_with(text: &[u8], front: &[u8]) -> bool
+    ensures { result ≡ true → take (length front.now) text.now ≡ front.now }
+{
+    match text.get(..front.len()) {
+        Some(own) => own == front,
+        None => false,
+    }
 }
 
 // The same name.
