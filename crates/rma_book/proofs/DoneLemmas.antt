@@ -18,11 +18,12 @@ use Rattle.rma_buffer.specs.Operands.{kind_of, operand_of, operands_of}
 use Rattle.rma_buffer.specs.Rules.{buffers_reason, memory_reason}
 use Rattle.rma_buffer.specs.declared.operand.Operand.{Operand}
 use Rattle.rma_buffer.specs.declared.operand.Operands.{Operands}
-use Rattle.rma_reader.specs.Elsewhere.{Details, IsKnownElsewhere}
+use Rattle.rma_known.specs.Elsewhere.{Details, IsKnownElsewhere}
 use Rattle.rma_reader.specs.Reading.{Reading}
 use Rattle.rma_type.specs.Table.{Table}
 use Rattle.rma_book.specs.inside.Elsewhere.{DoesElsewhere, StatesAccess, StatesWhat, event_at, request_at, sync_at}
-use Rattle.rma_book.specs.inside.Known.{IsCallOf, IsStatedBy}
+use Rattle.rma_judge.specs.inside.CallEvent.{IsCallOf}
+use Rattle.rma_book.specs.inside.Known.{IsStatedBy}
 use Rattle.rma_book.proofs.ElsewhereLemmas.{stated_elsewhere}
 
 none_is : {A : Type 0} (x : Option A) → is_some x ≡ false → x ≡ None

@@ -27,13 +27,13 @@ use Rattle.rma_form.specs.declared.form.LineForm.{LineForm}
 use Rattle.rma_form.specs.declared.form.LineForm.TheVariants as form
 use Rattle.rma_form.proofs.KindLemmas.{bind_ok, made_from}
 use Rattle.rma_form.specs.Tails.{Tail, TailValue, tail_counted, tail_of}
-use Rattle.rma_reader.specs.Elsewhere.{AreElsewhere, Details, IsElsewhere, Says, SaysAt, form_of_call, joined, name_alone, no_details, number_alone, part_of, places_of, request_alone}
-use Rattle.rma_reader.specs.declared.call_form.CallForm.{CallForm}
-use Rattle.rma_reader.specs.declared.call_form.CallForm.TheVariants.{Put, Get, Accumulate, GetAccumulate, FetchAndOp, CompareAndSwap, Load, Store, Poll, Comm, Barrier, Send, Recv, Isend, Irecv, Wait, Received, Fence, Post, Start, Complete, Expwait, Lock, Unlock, LockAll, UnlockAll, Flush, FlushAll, FlushLocal, FlushLocalAll, Sync, Attach, Detach, Bcast, Scatter, Gather, Reduce, Allreduce, Allgather, Alltoall}
-use Rattle.rma_reader.specs.declared.call_form.Part.{Part}
-use Rattle.rma_reader.specs.declared.call_form.Part.TheVariants as part
-use Rattle.rma_reader.specs.declared.call_form.Place.{Place}
-use Rattle.rma_reader.specs.declared.call_form.Place.TheVariants.{Same, Rank, Address, Tag, Name, Request}
+use Rattle.rma_known.specs.Elsewhere.{AreElsewhere, Details, IsElsewhere, Says, SaysAt, form_of_call, joined, name_alone, no_details, number_alone, part_of, places_of, request_alone}
+use Rattle.rma_known.specs.declared.call_form.CallForm.{CallForm}
+use Rattle.rma_known.specs.declared.call_form.CallForm.TheVariants.{Put, Get, Accumulate, GetAccumulate, FetchAndOp, CompareAndSwap, Load, Store, Poll, Comm, Barrier, Send, Recv, Isend, Irecv, Wait, Received, Fence, Post, Start, Complete, Expwait, Lock, Unlock, LockAll, UnlockAll, Flush, FlushAll, FlushLocal, FlushLocalAll, Sync, Attach, Detach, Bcast, Scatter, Gather, Reduce, Allreduce, Allgather, Alltoall}
+use Rattle.rma_known.specs.declared.call_form.Part.{Part}
+use Rattle.rma_known.specs.declared.call_form.Part.TheVariants as part
+use Rattle.rma_known.specs.declared.call_form.Place.{Place}
+use Rattle.rma_known.specs.declared.call_form.Place.TheVariants.{Same, Rank, Address, Tag, Name, Request}
 use Rattle.rma_book.specs.inside.Elsewhere.{event_at}
 use Rattle.rma_book.specs.inside.Known.{IsStatedBy}
 

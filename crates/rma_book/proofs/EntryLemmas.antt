@@ -5,10 +5,10 @@ use Rattle.std.specs.Option.{option_or}
 use Rattle.std.proofs.lemmas.List.{append-nil, map-append}
 use Rattle.rma_base.specs.declared.version.Version.TheVariants.{One}
 use Rattle.rma_form.specs.declared.event.Event.{Event}
-use Rattle.rma_book.specs.Latest.{latest}
-use Rattle.rma_book.specs.Naming.{is_end, named_version}
+use Rattle.rma_judge.specs.Latest.{latest}
+use Rattle.rma_judge.specs.Naming.{is_end, named_version}
 use Rattle.rma_book.specs.Calls.{Entry, call_of, calls_behind, calls_of, end_line, event_of, events_of, version_of}
-use Rattle.rma_book.proofs.StateLemmas.{latest_more, unwrap_or_or}
+use Rattle.rma_judge.proofs.StateLemmas.{latest_more, unwrap_or_or}
 
 pub events_of_more : (entries : List Entry) (entry : Entry) → events_of (entries ++ entry ∷ []) ≡ events_of entries ++ event_of entry ∷ []
 events_of_more entries entry = map-append event_of entries (entry ∷ [])

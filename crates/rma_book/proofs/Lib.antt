@@ -1,8 +1,3 @@
-pub mod TypeLemmas
-pub mod StateLemmas
-pub mod JudgingLemmas
-pub mod RequestLemmas
-pub mod AccessLemmas
 pub mod EntryLemmas
 pub mod KnownLemmas
 pub mod ElsewhereLemmas

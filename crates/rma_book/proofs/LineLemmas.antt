@@ -10,22 +10,23 @@ use Rattle.rma_form.specs.Lines.{reading, site_of}
 use Rattle.rma_field.specs.Steps.{Fails, ◌>>=◌}
 use Rattle.rma_field.specs.declared.parse_error.ParseError.TheVariants.{Fault}
 use Rattle.rma_call.specs.declared.what.What.{What}
-use Rattle.rma_reader.specs.Known.{Known, IsKnownLine}
+use Rattle.rma_known.specs.Known.{Known, IsKnownLine}
+use Rattle.rma_known.specs.Split.{IsSplit, SplitText}
 use Rattle.rma_reader.specs.Reading.{Reading, Grows}
 use Rattle.rma_reader.specs.Sites.{IsSite, IsSiteOf}
-use Rattle.rma_reader.specs.Split.{IsSplit, SplitText}
 use Rattle.rma_reader.proofs.ReaderLemmas.{fails_at}
 use Rattle.rma_reader.proofs.SiteLemmas.{at_site, reading_split, stated_at}
 use Rattle.rma_type.specs.Table.{Table}
-use Rattle.rma_book.specs.Types.{types_after}
+use Rattle.rma_judge.specs.Types.{types_after}
 use Rattle.rma_book.specs.Calls.{events_of}
 use Rattle.rma_book.specs.Logs.{Checked, entries, judged}
 use Rattle.rma_book.specs.declared.reader.Reader.{Reader}
-use Rattle.rma_book.specs.inside.BookState.{BookState, Represents}
+use Rattle.rma_judge.specs.inside.BookState.{BookState, Represents}
 use Rattle.rma_book.specs.inside.Elsewhere.{StatesWhat}
-use Rattle.rma_book.specs.inside.Known.{IsCallOf, IsKnownCall, IsStatedBy}
+use Rattle.rma_judge.specs.inside.CallEvent.{IsCallOf}
+use Rattle.rma_book.specs.inside.Known.{IsKnownCall, IsStatedBy}
 use Rattle.rma_book.specs.inside.Reading.{Adds, HasTaken, HasRead, ReadsNext, Reads}
-use Rattle.rma_book.proofs.KnownLemmas.{call_same}
+use Rattle.rma_judge.proofs.CallLemmas.{call_same}
 use Rattle.rma_book.proofs.ReadingLemmas.{HasRead_more, HasRead_refused, HasRead_taken, HasTaken_grown, HasTaken_nothing, HasTaken_read}
 
 -- ---- a line whose text was read, where the tables of the reader of lines have grown

@@ -20,25 +20,27 @@ use Rattle.rma_form.specs.declared.event.Event.TheVariants.{Header, End, Call, D
 use Rattle.rma_form.specs.declared.event.Stated.{Stated}
 use Rattle.rma_call.specs.Call.{Call as CallOf, CallTable}
 use Rattle.rma_call.specs.declared.what.What.{What}
-use Rattle.rma_reader.specs.Known.{Known, IsAmong}
+use Rattle.rma_known.specs.Known.{Known, IsAmong}
 use Rattle.rma_reader.specs.Reading.{Reading, Grows}
 use Rattle.rma_reader.specs.Sites.{IsSite}
 use Rattle.rma_type.specs.Table.{Table}
-use Rattle.rma_book.specs.Names.{request_number}
-use Rattle.rma_book.specs.Naming.{attributes_of, is_end, is_header, named_version}
-use Rattle.rma_book.specs.Types.{is_datatype, types_after}
-use Rattle.rma_book.specs.Judging.{reason_of}
+use Rattle.rma_judge.specs.Names.{request_number}
+use Rattle.rma_judge.specs.Naming.{attributes_of, is_end, is_header, named_version}
+use Rattle.rma_judge.specs.Types.{is_datatype, types_after}
+use Rattle.rma_judge.specs.Judging.{reason_of}
 use Rattle.rma_book.specs.Calls.{Entry, call_of, call_with, calls_of, end_line, events_of, version_of}
 use Rattle.rma_book.specs.Logs.{Checked, AreGood, IsFirstBad, IsFirstFault, entries, entries_behind, entry_of, says, says_after, line_reason, judged}
 use Rattle.rma_book.specs.declared.fault.FormFault.{FormFault}
 use Rattle.rma_book.specs.declared.reader.Reader.{Reader}
-use Rattle.rma_book.specs.declared.book.access.JudgedAccess.TheVariants as access
-use Rattle.rma_book.specs.inside.BookState.{BookState, Represents, IsGoodAccess, IsJudged}
-use Rattle.rma_book.specs.inside.Known.{AreKnown, IsCall, IsCallOf, IsStatedBy, request_of}
+use Rattle.rma_judge.specs.declared.book.access.JudgedAccess.TheVariants as access
+use Rattle.rma_judge.specs.inside.BookState.{BookState, Represents, IsGoodAccess, IsJudged}
+use Rattle.rma_judge.specs.inside.CallEvent.{IsCall, IsCallOf, request_of}
+use Rattle.rma_book.specs.inside.Known.{AreKnown, IsStatedBy}
 use Rattle.rma_book.specs.inside.Reading.{Adds, Appends, HasTaken, HasStopped, HasGood, HasRead, IsBehind, IsReading, Takes, Refuses, GoesOn, Reads}
-use Rattle.rma_book.proofs.JudgingLemmas.{call_is}
-use Rattle.rma_book.proofs.KnownLemmas.{known_grown, known_noted, known_on, typed_none}
-use Rattle.rma_book.proofs.TypeLemmas.{what_in_same}
+use Rattle.rma_judge.proofs.JudgingLemmas.{call_is}
+use Rattle.rma_judge.proofs.CallLemmas.{typed_none}
+use Rattle.rma_book.proofs.KnownLemmas.{known_grown, known_noted, known_on}
+use Rattle.rma_judge.proofs.TypeLemmas.{what_in_same}
 use Rattle.rma_book.proofs.EntryLemmas.{events_of_more, version_of_more, calls_of_more, end_line_more}
 
 -- ---- lists with one item more
@@ -455,10 +457,6 @@ HasGood_read rank logs lines reader h = step reader.fault h
     }
 
 -- ---- answers
-
-pub OnOk_then : {X E A B : Type 0} → (r : Result X E) → OnOk r A → (A → B) → OnOk r B
-OnOk_then (Ok x) h f = f h
-OnOk_then (Err e) h f = h
 
 -- what holds in any case holds where there is an answer
 pub OnOk_any : {X E B : Type 0} → (r : Result X E) → B → OnOk r B

@@ -5,9 +5,9 @@ use Rattle.std.proofs.lemmas.Bool.{false≢true}
 use Rattle.std.proofs.lemmas.List.{length-append}
 use Rattle.rma_lex.specs.Checked.{checked_lines}
 use Rattle.rma_lex.specs.Cutting.{Cutting, Represents}
-use Rattle.rma_lex.specs.Line.{has_open_end}
+use Rattle.rma_lex.specs.Line.{has_open_end, line_feeds}
 use Rattle.rma_lex.proofs.CheckLemmas.{checked_lines_at, length_checked_lines}
-use Rattle.rma_lex.proofs.LineLemmas.{feeds, feeds_append, length_lines, Plain_from_Contains}
+use Rattle.rma_lex.proofs.LineLemmas.{feeds_append, length_lines, Plain_from_Contains}
 use Rattle.rma_book.specs.Logs.{whole_lines}
 use Rattle.rma_book.specs.inside.Reading.{HasRead}
 use Rattle.rma_book.specs.inside.RankState.{RankState}
@@ -19,15 +19,15 @@ closed_end (byte ∷ []) = refl
 closed_end (byte ∷ next ∷ text) = closed_end (next ∷ text)
 
 -- a cutter with no whole line left has handed out a line for each line feed
-pub whole_handed : (cutting : Cutting) (text : List ℕ) → Represents cutting text → cutting.closed ≡ false → ¬ Contains cutting.rest 10 → cutting.handed ≡ feeds text
+pub whole_handed : (cutting : Cutting) (text : List ℕ) → Represents cutting text → cutting.closed ≡ false → ¬ Contains cutting.rest 10 → cutting.handed ≡ line_feeds text
 whole_handed cutting text h goes_on none =
     let all = ap length (h.lines_left (10 ∷ []) (λ closed. absurd (false≢true (sym goes_on ∙ closed)))) in
     let left = ap length (checked_lines_at cutting.rest [] (Plain_from_Contains cutting.rest none)) in
-    let one : feeds (10 ∷ []) ≡ 1 = refl in
+    let one : line_feeds (10 ∷ []) ≡ 1 = refl in
     omega (
       arith,
       length_checked_lines (text ++ 10 ∷ []),
-      length_lines (text ++ 10 ∷ []) ∙ ap (λ open_end. feeds (text ++ 10 ∷ []) + cond open_end 1 0) (closed_end text),
+      length_lines (text ++ 10 ∷ []) ∙ ap (λ open_end. line_feeds (text ++ 10 ∷ []) + cond open_end 1 0) (closed_end text),
       feeds_append text (10 ∷ []),
       length-append h.done (checked_lines (cutting.rest ++ 10 ∷ [])),
       h.handed,

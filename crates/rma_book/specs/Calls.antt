@@ -4,18 +4,14 @@ use Rattle.rma_base.specs.declared.line.LineNo.{LineNo}
 use Rattle.rma_base.specs.declared.version.Version.{Version}
 use Rattle.rma_base.specs.declared.version.Version.TheVariants.{One}
 use Rattle.rma_form.specs.declared.event.Event.{Event}
-use Rattle.rma_form.specs.declared.event.Event.TheVariants as event
 use Rattle.rma_form.specs.declared.event.Stated.{Stated}
-use Rattle.rma_book.specs.Latest.{latest}
-use Rattle.rma_book.specs.Naming.{attributes_of, is_end, named_version}
-use Rattle.rma_book.specs.Names.{request_number}
-use Rattle.rma_book.specs.Types.{types_after}
-use Rattle.rma_buffer.specs.Calls.{local_call_of, rma_call_of}
-use Rattle.rma_buffer.specs.Operands.{operand_of, operands_of}
+use Rattle.rma_judge.specs.Calls.{what_in}
+use Rattle.rma_judge.specs.Latest.{latest}
+use Rattle.rma_judge.specs.Naming.{attributes_of, is_end, named_version}
+use Rattle.rma_judge.specs.Names.{request_number}
+use Rattle.rma_judge.specs.Types.{types_after}
 use Rattle.rma_call.specs.Call.{Call}
 use Rattle.rma_call.specs.declared.what.What.{What}
-use Rattle.rma_call.specs.declared.what.What.TheVariants as what
-use Rattle.rma_type.specs.Table.{Table}
 
 -- a line that states something, with its number
 pub record Entry : Type 0 where
@@ -37,13 +33,6 @@ end_line entries = latest (λ entry. if is_end (event_of entry) then Some entry.
 -- the version of the format that some lines have: the one that their header names, and the first before it
 abbrev pub version_of : List Entry → Version
 version_of entries = unwrap_or (latest (λ entry. named_version (event_of entry)) entries) One
-
--- what the call of an event does among these datatypes, where it is a call
-abbrev pub what_in : Table → Event → Option What
-what_in types (event.Call call request) = Some (what.Sync call)
-what_in types (event.Rma line request) = option_map (λ operands. what.Rma (rma_call_of types.origins line operands)) (operands_of types.live line.access)
-what_in types (event.Local line) = option_map (λ memory. what.Local (local_call_of types.origins line.access memory)) (operand_of types.live line.buffer)
-what_in types _ = None
 
 -- the call of a line with this site, which does this, and with a request of this number
 abbrev pub call_with : LineNo → Option (List ℕ) → Option ℕ → What → Call

@@ -1,10 +1,5 @@
 pub use Rattle.rma_lex.specs.Checked
 pub use Rattle.rma_lex.specs.Line
-pub mod Latest
-pub mod Naming
-pub mod Names
-pub mod Types
-pub mod Judging
 pub mod Calls
 pub mod Logs
 pub mod Ends

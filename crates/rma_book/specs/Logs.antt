@@ -1,13 +1,14 @@
 -- The first bad line of a log, and what its good lines state (the log format of this product).
-use Rattle.std.specs.Prelude.{◌≡◌, ℕ, ◌+◌, List, [], ◌∷◌, ◌++◌, length, take, count_by, ◌==◌, slice_get, Option, Some, None, IsSome, Result, Ok, Err, ◌⊎◌}
+use Rattle.std.specs.Prelude.{◌≡◌, ℕ, ◌+◌, List, [], ◌∷◌, ◌++◌, length, take, slice_get, Option, Some, None, IsSome, Result, Ok, Err, ◌⊎◌}
 use Rattle.rma_base.specs.declared.form_reason.FormReason.{FormReason}
 use Rattle.rma_base.specs.declared.form_reason.FormReason.TheVariants.{MissingEnd}
 use Rattle.rma_lex.specs.Checked.{checked_lines}
+use Rattle.rma_lex.specs.Line.{line_feeds}
 use Rattle.rma_form.specs.declared.event.Stated.{Stated}
 use Rattle.rma_form.specs.Lines.{reading}
 use Rattle.rma_base.specs.declared.version.Version.{Version}
 use Rattle.rma_book.specs.Calls.{Entry, events_of, end_line, version_of}
-use Rattle.rma_book.specs.Judging.{reason_of}
+use Rattle.rma_judge.specs.Judging.{reason_of}
 use Rattle.rma_book.specs.declared.fault.FormFault.{FormFault}
 
 -- what is known of a line by itself: its text, or why it has none
@@ -78,7 +79,7 @@ IsLogFault rank logs lines (Some fault) = IsFirstBad rank logs lines fault ⊎ L
 
 -- the lines of a text that a line feed ends
 abbrev pub whole_lines : List ℕ → List Checked
-whole_lines bytes = take (count_by (λ byte. byte == 10) bytes) (checked_lines bytes)
+whole_lines bytes = take (line_feeds bytes) (checked_lines bytes)
 
 -- the first bad one of some lines, if one is bad
 abbrev pub IsFirstFault : ℕ → ℕ → List Checked → Option FormFault → Type 0

@@ -1,6 +1,3 @@
-pub mod Naming
-pub mod Requests
-pub mod BookState
 pub mod Known
 pub mod Elsewhere
 pub mod Reading

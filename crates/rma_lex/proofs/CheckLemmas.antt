@@ -4,10 +4,10 @@ use Rattle.std.proofs.lemmas.Bool.{cases_Bool, lt-ltb}
 use Rattle.std.proofs.lemmas.List.{length-append}
 use Rattle.rma_base.specs.Limits.{line_limit}
 use Rattle.rma_base.specs.declared.form_reason.FormReason.TheVariants.{LineTooLong}
-use Rattle.rma_lex.specs.Line.{lines, has_open_end}
+use Rattle.rma_lex.specs.Line.{lines, has_open_end, line_feeds}
 use Rattle.rma_lex.specs.Text.{text_of}
 use Rattle.rma_lex.specs.Checked.{checked_with, checked_lines}
-use Rattle.rma_lex.proofs.LineLemmas.{feeds, feeds_append, feeds_cons, Plain, Plain_append, lines_at, lines_last, lines_some}
+use Rattle.rma_lex.proofs.LineLemmas.{feeds_append, feeds_cons, Plain, Plain_append, lines_at, lines_last, lines_some}
 
 checked_with_cons : (open_end : Bool) (line : List ℕ) (them : List (List ℕ)) → 0 < length them → checked_with open_end (line ∷ them) ≡ text_of true line ∷ checked_with open_end them
 checked_with_cons open_end line [] some = absurd (omega arith)
@@ -88,19 +88,19 @@ checked_lines_long line more plain long = ⊎_elim
     none_after (byte ∷ bytes) on = ap (drop 1) (checked_lines_last (byte ∷ bytes) on (λ e. cc))
 
 -- what a line is stays as it is when the text goes on after its line feed
-pub checked_lines_more : (n : ℕ) (text more : List ℕ) → n ≤ feeds text → take n (checked_lines (text ++ more)) ≡ take n (checked_lines text)
+pub checked_lines_more : (n : ℕ) (text more : List ℕ) → n ≤ line_feeds text → take n (checked_lines (text ++ more)) ≡ take n (checked_lines text)
 checked_lines_more zero text more within = refl
 checked_lines_more (suc n) text more within =
     let first = ⊎_elim (λ (plain : Plain text). absurd {A = BeginsLine text} (omega (arith, feeds_plain text plain))) (λ (it : BeginsLine text). it) (first_line text) in
     let ended = first.line ++ 10 ∷ first.rest in
-    let fewer : n ≤ feeds first.rest =
-    omega (arith, ap feeds first.is, feeds_append first.line (10 ∷ first.rest), feeds_cons 10 first.rest, feeds_plain first.line first.plain) in
+    let fewer : n ≤ line_feeds first.rest =
+    omega (arith, ap line_feeds first.is, feeds_append first.line (10 ∷ first.rest), feeds_cons 10 first.rest, feeds_plain first.line first.plain) in
     ap (λ t. take (suc n) (checked_lines (t ++ more))) first.is
     ∙ ap (λ t. take (suc n) (checked_lines t)) (append_assoc first.line (10 ∷ first.rest) more)
     ∙ ap (take (suc n)) (checked_lines_at first.line (first.rest ++ more) first.plain)
     ∙ ap (λ them. text_of true first.line ∷ them) (checked_lines_more n first.rest more fewer)
     ∙ sym (ap (λ t. take (suc n) (checked_lines t)) first.is ∙ ap (take (suc n)) (checked_lines_at first.line first.rest first.plain))
   where
-    feeds_plain : (line : List ℕ) → Plain line → feeds line ≡ 0
+    feeds_plain : (line : List ℕ) → Plain line → line_feeds line ≡ 0
     feeds_plain [] plain = refl
-    feeds_plain (byte ∷ line) plain = let here = feeds_cons byte line ∙ ap (λ b. cond b 1 0 + feeds line) plain.0 in omega (arith, here, feeds_plain line plain.1)
+    feeds_plain (byte ∷ line) plain = let here = feeds_cons byte line ∙ ap (λ b. cond b 1 0 + line_feeds line) plain.0 in omega (arith, here, feeds_plain line plain.1)

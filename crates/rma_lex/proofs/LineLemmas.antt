@@ -1,19 +1,15 @@
 -- The lines of a text.
 use Rattle.std.proofs.Common.{◌≡◌, ℕ, zero, suc, ◌+◌, ◌-◌, ◌<◌, ◌≤◌, Bool, true, false, cond, eqb, List, [], ◌∷◌, ◌++◌, length, get_or, refl, sym, ap, ◌∙◌, arith}
-use Rattle.std.specs.Prelude.{count_by, Contains, All, not}
+use Rattle.std.specs.Prelude.{Contains, All, not}
 use Rattle.std.proofs.lemmas.Bool.{eqb-true, eqb-false, ne_eqb}
 use Rattle.std.proofs.lemmas.List.Elements.{All-nil, All-cons, All-head, All-tail}
 use Rattle.std.proofs.lemmas.List.Sums.{sum_by-cons, sum_by-append}
-use Rattle.rma_lex.specs.Line.{lines, onto_first, joined, has_open_end}
+use Rattle.rma_lex.specs.Line.{lines, onto_first, joined, has_open_end, line_feeds}
 
--- the line feeds of a text
-abbrev pub feeds : List ℕ → ℕ
-feeds text = count_by (λ byte. eqb byte 10) text
-
-pub feeds_cons : (byte : ℕ) (bytes : List ℕ) → feeds (byte ∷ bytes) ≡ cond (eqb byte 10) 1 0 + feeds bytes
+pub feeds_cons : (byte : ℕ) (bytes : List ℕ) → line_feeds (byte ∷ bytes) ≡ cond (eqb byte 10) 1 0 + line_feeds bytes
 feeds_cons byte bytes = sum_by-cons (λ x. cond (eqb x 10) 1 0) byte bytes
 
-pub feeds_append : (text more : List ℕ) → feeds (text ++ more) ≡ feeds text + feeds more
+pub feeds_append : (text more : List ℕ) → line_feeds (text ++ more) ≡ line_feeds text + line_feeds more
 feeds_append text more = sum_by-append (λ x. cond (eqb x 10) 1 0) text more
 
 -- no byte is a line feed, by recursion
@@ -37,11 +33,11 @@ length_more : (byte n : ℕ) (on : Bool) (them : List (List ℕ)) → 0 < length
     → length (cond (eqb byte 10) ([] ∷ them) (onto_first byte them)) ≡ cond (eqb byte 10) 1 0 + n + cond on 1 0
 length_more byte n on them some rest = grind arith
 
-pub length_lines : (text : List ℕ) → length (lines text) ≡ feeds text + cond (has_open_end text) 1 0
+pub length_lines : (text : List ℕ) → length (lines text) ≡ line_feeds text + cond (has_open_end text) 1 0
 length_lines [] = refl
 length_lines (byte ∷ []) = grind (arith, feeds_cons byte [])
 length_lines (byte ∷ next ∷ bytes) =
-    length_more byte (feeds (next ∷ bytes)) (has_open_end (next ∷ bytes)) (lines (next ∷ bytes)) (lines_some next bytes) (length_lines (next ∷ bytes))
+    length_more byte (line_feeds (next ∷ bytes)) (has_open_end (next ∷ bytes)) (lines (next ∷ bytes)) (lines_some next bytes) (length_lines (next ∷ bytes))
     ∙ ap (λ n. n + cond (has_open_end (next ∷ bytes)) 1 0) (sym (feeds_cons byte (next ∷ bytes)))
 
 -- no more lines than bytes
@@ -94,7 +90,7 @@ All_lines (byte ∷ bytes) = step (eqb byte 10) refl (lines bytes) (All_lines by
     step false e [] all = All-cons IsPlain (byte ∷ []) [] (front e [] (Contains_from_Plain [] tt)) (All-nil IsPlain)
     step false e (line ∷ them) all = All-cons IsPlain (byte ∷ line) them (front e line (All-head IsPlain line them all)) (All-tail IsPlain line them all)
 
--- lines without line feeds are the lines of the text that they make
+-- lines without line line_feeds are the lines of the text that they make
 pub lines_joined : (them : List (List ℕ)) → All IsPlain them → lines (joined them) ≡ them
 lines_joined [] all = refl
 lines_joined (line ∷ them) all =

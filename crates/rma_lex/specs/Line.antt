@@ -1,5 +1,5 @@
 -- The lines of a text.
-use Rattle.std.specs.Prelude.{ℕ, Bool, false, not, List, [], ◌∷◌, ◌++◌, ◌==◌, if◌then◌else◌}
+use Rattle.std.specs.Prelude.{ℕ, Bool, false, not, List, [], ◌∷◌, ◌++◌, ◌==◌, count_by, if◌then◌else◌}
 
 -- the lines, where the first has one byte more before it
 abbrev pub onto_first : ℕ → List (List ℕ) → List (List ℕ)
@@ -10,6 +10,10 @@ onto_first byte (line ∷ rest) = (byte ∷ line) ∷ rest
 abbrev pub lines : List ℕ → List (List ℕ)
 lines [] = []
 lines (byte ∷ bytes) = if byte == 10 then [] ∷ lines bytes else onto_first byte (lines bytes)
+
+-- how many line feeds a text has: so many of its lines are whole while it goes on
+abbrev pub line_feeds : List ℕ → ℕ
+line_feeds text = count_by (λ byte. byte == 10) text
 
 -- the lines one after another, each with its line feed
 abbrev pub joined : List (List ℕ) → List ℕ

@@ -1,7 +1,7 @@
 //! A cutter of lines: it is fed a text in pieces and hands out its lines one by one.
-ghost use Rattle.std.specs.Prelude.{◌≡◌, ◌↔◌, ℕ, ◌+◌, ◌^◌, ◌<◌, ◌≤◌, true, false, List, [], ◌++◌, length, IsNone, IfSome, OnOk, OnErr, slice_get, drop, vec_len, count_by, Contains, ◌==◌};
+ghost use Rattle.std.specs.Prelude.{◌≡◌, ◌↔◌, ℕ, ◌+◌, ◌^◌, ◌<◌, ◌≤◌, true, false, List, [], ◌++◌, length, IsNone, IfSome, OnOk, OnErr, slice_get, drop, vec_len, Contains};
 ghost use Rattle.std.specs.List.{list_all};
-ghost use Rattle.rma_lex.specs.Line.{lines, has_open_end};
+ghost use Rattle.rma_lex.specs.Line.{lines, has_open_end, line_feeds};
 ghost use Rattle.rma_lex.specs.Cutting.{Represents, HasNoLine};
 ghost use Rattle.rma_lex.specs.Text.{is_text_byte, text_of};
 ghost use Rattle.rma_lex.specs.Checked.{checked_lines};
@@ -193,7 +193,7 @@ fn line_count(text: &[u8]) -> u32
 
 /// How many line feeds the text has.
 fn line_feed_count(text: &[u8]) -> usize
-    ensures count { result ≡ count_by (λ byte. byte == 10) text.now }
+    ensures count { result ≡ line_feeds text.now }
     ensures bound { result ≤ length text.now }
 {
     text.iter().filter(|byte| **byte == b'\n').count()

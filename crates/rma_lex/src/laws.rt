@@ -1,6 +1,6 @@
 //! What the lines of a text are, in other words.
-ghost use Rattle.std.specs.Prelude.{◌≡◌, ℕ, List, [], ◌∷◌, ◌++◌, ◌≤◌, ◌==◌, true, length, take, count_by, All, Contains, if◌then◌else◌};
-ghost use Rattle.rma_lex.specs.Line.{lines, joined, has_open_end};
+ghost use Rattle.std.specs.Prelude.{◌≡◌, ℕ, List, [], ◌∷◌, ◌++◌, ◌≤◌, ◌==◌, true, length, take, All, Contains, if◌then◌else◌};
+ghost use Rattle.rma_lex.specs.Line.{lines, joined, has_open_end, line_feeds};
 ghost use Rattle.rma_lex.specs.Checked.{checked_lines};
 ghost use Rattle.rma_lex.specs.Cutting.{Cutting, Represents};
 
@@ -16,7 +16,7 @@ pub fn lines_make_the_text()
 /// the line feed that ends it.
 pub fn checked_lines_stay()
     ensures as_many { (text : List ℕ) → length (checked_lines text) ≡ length (lines text) }
-    ensures stay { (n : ℕ) (text more : List ℕ) → n ≤ count_by (λ byte. byte == 10) text → take n (checked_lines (text ++ more)) ≡ take n (checked_lines text) }
+    ensures stay { (n : ℕ) (text more : List ℕ) → n ≤ line_feeds text → take n (checked_lines (text ++ more)) ≡ take n (checked_lines text) }
 {}
 
 /// The text that a cutter represents and the number of lines that it handed out determine all that it hands out from then

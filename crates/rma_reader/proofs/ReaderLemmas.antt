@@ -10,10 +10,10 @@ use Rattle.rma_field.specs.Steps.{Fails, ◌>>=◌}
 use Rattle.rma_form.specs.declared.event.Event.{Event}
 use Rattle.rma_form.specs.declared.event.Stated.{Stated}
 use Rattle.rma_form.specs.Lines.{reading, site_of, states}
+use Rattle.rma_known.specs.Split.{IsSplit, SplitText}
 use Rattle.rma_reader.specs.declared.read_line.ReadLine.{ReadLine}
 use Rattle.rma_reader.specs.Reading.{IsRead}
 use Rattle.rma_reader.specs.Sites.{IsSiteOf}
-use Rattle.rma_reader.specs.Split.{IsSplit, SplitText}
 use Rattle.rma_reader.specs.inside.Tables.{Keeps, Reads}
 use Rattle.rma_reader.proofs.SiteLemmas.{at_site, reading_split, stated_at}
 

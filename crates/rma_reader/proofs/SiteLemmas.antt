@@ -13,8 +13,8 @@ use Rattle.rma_form.specs.declared.event.Stated.{Stated}
 use Rattle.rma_form.specs.declared.form.LineForm.{LineForm}
 use Rattle.rma_form.specs.Forms.{event_of, form_of, kind_words}
 use Rattle.rma_form.specs.Lines.{begins_with, behind_at, counted, fields_of, last_or, read_words, reading, site_of, site_text, stated_by, stated_in, states}
-use Rattle.rma_reader.specs.Split.{IsSplit}
-use Rattle.rma_reader.proofs.WordLemmas.{texts_fields_last}
+use Rattle.rma_known.specs.Split.{IsSplit}
+use Rattle.rma_known.proofs.WordLemmas.{texts_fields_last}
 
 -- a step that went well
 bind_ok : {A B : Type 0} (read : Result A FormReason) (next : A → Result B FormReason) (b : B) → (read >>= next) ≡ Ok b → (a : A) × (read ≡ Ok a) × (next a ≡ Ok b)

@@ -1,9 +1,9 @@
 pub use Rattle.rma_call.specs.Call
 pub use Rattle.rma_form.specs.Lines
 pub use Rattle.rma_field.specs.Steps
-pub mod Split
+pub use Rattle.rma_known.specs.Elsewhere
+pub use Rattle.rma_known.specs.Known
+pub use Rattle.rma_known.specs.Split
 pub mod Sites
-pub mod Known
-pub mod Elsewhere
 pub mod Reading
 pub mod inside

@@ -8,8 +8,8 @@ use Rattle.rma_call.specs.declared.what.What.TheVariants.{Rma}
 use Rattle.rma_call.specs.Call.{CallTable}
 use Rattle.rma_call.specs.Rma.{placed}
 use Rattle.rma_form.specs.declared.event.Stated.{Stated}
+use Rattle.rma_known.specs.Known.{Known}
 use Rattle.rma_reader.specs.declared.read_line.ReadLine.{ReadLine}
-use Rattle.rma_reader.specs.Known.{Known}
 use Rattle.rma_reader.specs.Sites.{IsSite}
 
 -- the version in which lines are read, the calls with their tables, and the words that are known

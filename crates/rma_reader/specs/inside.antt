@@ -1,3 +1,1 @@
-pub mod Dated
-pub mod Templates
 pub mod Tables

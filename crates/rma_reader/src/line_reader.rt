@@ -8,25 +8,22 @@ ghost use Rattle.rma_form.specs.declared.event.Stated.{Stated};
 ghost use Rattle.rma_form.specs.declared.event.Event.{Event};
 ghost use Rattle.rma_form.specs.Lines.{reading, site_of, states};
 ghost use Rattle.rma_field.specs.Steps.{Fails};
-ghost use Rattle.rma_reader.specs.Elsewhere.{IsKnownElsewhere, no_details};
-ghost use Rattle.rma_reader.specs.Known.{Known, IsAmong, IsKnownLine};
+ghost use Rattle.rma_known.specs.Elsewhere.{IsKnownElsewhere, no_details};
+ghost use Rattle.rma_known.specs.Known.{Known, IsAmong, IsKnownLine};
+ghost use Rattle.rma_known.specs.Split.{IsSplit};
 ghost use Rattle.rma_reader.specs.Reading.{Grows, IsPlaced, IsRead};
 ghost use Rattle.rma_reader.specs.Sites.{IsSiteOf};
-ghost use Rattle.rma_reader.specs.Split.{IsSplit};
 ghost use Rattle.rma_reader.specs.inside.Tables.{Reads};
 
-use crate::call_form::CallForm;
-use crate::call_templates::CallTemplates;
-use crate::known_lines::KnownLines;
 use crate::numbered_calls::NumberedCalls;
-use crate::particulars::Particulars;
-use crate::read_line::{KnownCall, PlacedCall, ReadLine};
-use crate::repetition::Repetition;
+use crate::read_line::{KnownCall, ReadLine};
 use crate::shared_sites::SharedSites;
-use crate::split_line::{SplitLine, is_comment};
 use rma_base::{LineNo, Memory, Name, Version};
 use rma_call::{CallList, Placement, What, WhatRef};
 use rma_form::{Event, Stated};
+use rma_known::{
+    CallForm, CallTemplates, KnownLines, Particulars, PlacedCall, Repetition, SplitLine, is_comment,
+};
 use rma_parse::{ParseError, Texts, parse_line};
 use std::alloc::Global;
 use std::marker::Model;
@@ -50,9 +47,9 @@ pub struct LineReader {
 
 impl Model for LineReader {
     ghost use Rattle.std.specs.Prelude.{◌++◌, length};
+    ghost use Rattle.rma_known.specs.inside.Templates.{known_of};
+    ghost use Rattle.rma_known.specs.inside.Dated.{AreNumbered};
     ghost use Rattle.rma_reader.specs.Reading.{Reading};
-    ghost use Rattle.rma_reader.specs.inside.Templates.{known_of};
-    ghost use Rattle.rma_reader.specs.inside.Dated.{AreNumbered};
 
     ghost Value = { Reading };
 
@@ -101,8 +98,12 @@ impl LineReader {
         ensures line { result.line ≡ text.now }
         ensures same { self.new ≡ self.old }
     {
-        let is_looked_up = self.repetition.looks_up_next();
-        SplitLine::new(text, is_looked_up)
+        let line = SplitLine::new(text);
+        if self.repetition.looks_up_next() {
+            line.keyed()
+        } else {
+            line
+        }
     }
 
     /// The call that the line states, where its words are known. Its site stands in the tables then.

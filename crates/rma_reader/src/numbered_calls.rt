@@ -10,13 +10,13 @@ ghost use Rattle.rma_reader.specs.Reading.{IsPlaced};
 ghost use Rattle.rma_reader.specs.Sites.{IsNumbered, IsSite, IsSiteOf};
 ghost use Rattle.rma_reader.specs.inside.Tables.{AddsSites, AddsWhats};
 
-use crate::key::key_of;
 use crate::shared_sites::SharedSites;
 use crate::site_slots::{PROBES, SiteSlots};
 use arrayvec::ArrayVec;
 use memchr::{memchr, memchr_iter};
 use rma_base::{FormReason, LineNo, Memory, NameError, Site};
 use rma_call::{CallList, Placement, What};
+use rma_known::key_of;
 use rma_parse::{ParseError, ParseFault};
 use std::alloc::Global;
 use std::marker::Model;

@@ -22,10 +22,11 @@ use Rattle.rma_call.specs.declared.what.What.TheVariants as what
 use Rattle.rma_form.specs.declared.event.Event.{Event}
 use Rattle.rma_form.specs.declared.event.Event.TheVariants.{Call, Rma, Local}
 use Rattle.rma_buffer.specs.Elsewhere.{line_at, local_at}
-use Rattle.rma_reader.specs.Elsewhere.{Details}
+use Rattle.rma_known.specs.Elsewhere.{Details}
 use Rattle.rma_reader.specs.Reading.{Reading}
 use Rattle.rma_type.specs.Table.{Table}
-use Rattle.rma_book.specs.inside.Known.{AreKnown, IsCallOf, IsStatedBy}
+use Rattle.rma_judge.specs.inside.CallEvent.{IsCallOf}
+use Rattle.rma_book.specs.inside.Known.{AreKnown, IsStatedBy}
 
 -- ---- calls with other numbers and another name; the same, where they are none of theirs
 

@@ -1,8 +1,9 @@
 -- What the book of a rank keeps of its log, and which bytes it represents.
-use Rattle.std.specs.Prelude.{◌≡◌, ℕ, ◌+◌, ◌==◌, ◌++◌, Bool, true, false, List, Option, length, take, count_by}
+use Rattle.std.specs.Prelude.{◌≡◌, ℕ, ◌+◌, ◌++◌, Bool, true, false, List, Option, length, take}
 use Rattle.rma_lex.specs.Checked.{checked_lines}
 use Rattle.rma_lex.specs.Cutting.{Cutting}
 use Rattle.rma_lex.specs.Cutting as cutting
+use Rattle.rma_lex.specs.Line.{line_feeds}
 use Rattle.rma_book.specs.inside.Reading.{HasRead, IsReading}
 use Rattle.rma_book.specs.declared.fault.FormFault.{FormFault}
 use Rattle.rma_book.specs.declared.reader.Reader.{Reader}
@@ -23,7 +24,7 @@ pub record Represents (rank logs : ℕ) (state : RankState) (bytes : List ℕ) :
   pub in_memory : state.ran_out ≡ false
   pub fed : cutting.Represents state.text bytes
   pub goes_on : state.text.closed ≡ false
-  pub whole : state.text.handed ≡ count_by (λ byte. byte == 10) bytes
+  pub whole : state.text.handed ≡ line_feeds bytes
   pub read : HasRead rank logs (take state.text.handed (checked_lines bytes)) state.reader
   pub fault_read : state.fault ≡ state.reader.fault
 
@@ -31,4 +32,4 @@ pub record Represents (rank logs : ℕ) (state : RankState) (bytes : List ℕ) :
 pub record ReadsPart (before after : Cutting) (old new : Reader) (part : List ℕ) : Type 0 where
   pub fed : after.fed ≡ before.fed + length part
   pub reads : (rank logs : ℕ) (bytes : List ℕ) → IsReading rank logs before bytes old
-      → IsReading rank logs after (bytes ++ part) new × (after.handed ≡ count_by (λ byte. byte == 10) (bytes ++ part))
+      → IsReading rank logs after (bytes ++ part) new × (after.handed ≡ line_feeds (bytes ++ part))

@@ -6,9 +6,9 @@ use Rattle.rma_field.specs.declared.parse_error.ParseError.{ParseError}
 use Rattle.rma_field.specs.Steps.{Fails}
 use Rattle.rma_form.specs.declared.event.Stated.{Stated}
 use Rattle.rma_form.specs.Lines.{reading, states}
+use Rattle.rma_known.specs.Split.{SplitText}
 use Rattle.rma_reader.specs.declared.read_line.ReadLine.{ReadLine}
 use Rattle.rma_reader.specs.Reading.{IsRead}
-use Rattle.rma_reader.specs.Split.{SplitText}
 
 -- each number keeps what it names
 abbrev pub Keeps : {A : Type 0} → List A → List A → Type 0

@@ -1,5 +1,5 @@
-use Rattle.std.proofs.Common.{◌≡◌, ◌+◌, ◌++◌, ℕ, List, [], length, count_by, eqb-true, append_assoc, length-append, refl, ap, sym, ◌∙◌, subst, arith}
-use Rattle.std.specs.Prelude.{◌==◌}
+use Rattle.std.proofs.Common.{◌≡◌, ◌++◌, ℕ, List, [], length, eqb-true, append_assoc, length-append, refl, ap, sym, ◌∙◌, subst, arith}
+use Rattle.rma_lex.specs.Line.{line_feeds}
 use Rattle.std.proofs.lemmas.List.{append-nil, nil_from_length}
 use Rattle.rma_lex.specs.Cutting.{Cutting}
 use Rattle.rma_book.specs.declared.reader.Reader.{Reader}
@@ -13,7 +13,7 @@ parts_read : (one two three : Cutting) (first second third : Reader) (part more 
 parts_read one two three first second third part more before after = record {
   fed = after.fed ∙ omega (arith, before.fed, length-append part more);
   reads = λ rank logs bytes h.
-      subst (λ (text : List ℕ). IsReading rank logs three text third × (three.handed ≡ count_by (λ byte. byte == 10) text)) (append_assoc bytes part more)
+      subst (λ (text : List ℕ). IsReading rank logs three text third × (three.handed ≡ line_feeds text)) (append_assoc bytes part more)
       (after.reads rank logs (bytes ++ part) (before.reads rank logs bytes h).0);
 }
 
@@ -49,8 +49,8 @@ returns-clause-text c = λ rank logs bytes h.
     let none : c.parts.rest.now ≡ [] = nil_from_length c.parts.rest.now (eqb-true (length c.parts.rest.now) 0 (sym c.is_empty.ensures ∙ c.parts-test.false)) in
     let whole : all.0 ≡ piece = sym (all.1 ∙ ap (λ rest. all.0 ++ rest) none ∙ append-nil all.0) in
     let inside = c.self-2.inside in
-    let read = subst (λ (part : List ℕ). IsReading rank logs inside.cutter (bytes ++ part) inside.reader × (inside.cutter.handed ≡ count_by (λ byte. byte == 10) (bytes ++ part))) whole
-    (subst (λ (state : RankState). IsReading rank logs state.text (bytes ++ all.0) state.reader × (state.text.handed ≡ count_by (λ byte. byte == 10) (bytes ++ all.0))) (sym c.self-2.view_is)
+    let read = subst (λ (part : List ℕ). IsReading rank logs inside.cutter (bytes ++ part) inside.reader × (inside.cutter.handed ≡ line_feeds (bytes ++ part))) whole
+    (subst (λ (state : RankState). IsReading rank logs state.text (bytes ++ all.0) state.reader × (state.text.handed ≡ line_feeds (bytes ++ all.0))) (sym c.self-2.view_is)
     (all.2.reads rank logs bytes (record { represents = h.fed; read = h.read }))) in
     record {
       in_memory = refl;

@@ -1,5 +1,5 @@
 use Rattle.std.specs.Option.{option_copied}
-use Rattle.rma_book.proofs.ReadingLemmas.{OnOk_then}
+use Rattle.rma_judge.proofs.CallLemmas.{OnOk_then}
 use Rattle.rma_book.proofs.LineLemmas.{ReadsNext_elsewhere, ReadsNext_unsited}
 use Rattle.rma_book.proofs.reader.Reader.read_added.Goals as goal
 

@@ -3,8 +3,9 @@ use Rattle.std.specs.Option.{option_copied}
 use Rattle.rma_call.specs.Call.{what_of}
 use Rattle.rma_form.specs.declared.event.Event.{Event}
 use Rattle.rma_book.specs.declared.reader.Reader.{Reader}
-use Rattle.rma_book.specs.inside.BookState.{Represents, reason_in}
-use Rattle.rma_book.proofs.ReadingLemmas.{OnOk_then, Reads_taken, Takes_call}
+use Rattle.rma_judge.specs.inside.BookState.{Represents, reason_in}
+use Rattle.rma_judge.proofs.CallLemmas.{OnOk_then}
+use Rattle.rma_book.proofs.ReadingLemmas.{Reads_taken, Takes_call}
 use Rattle.rma_book.proofs.reader.Reader.read_call.Goals as goal
 
 some_is : {A : Type 0} → (x y : A) → Some x ≡ Some y → x ≡ y

@@ -1,7 +1,7 @@
 use Rattle.std.proofs.Common.{◌++◌, ◌∷◌, [], sym, ap, refl, append-nil, ◌∙◌}
 use Rattle.rma_form.specs.declared.event.Event.TheVariants.{Datatype}
 use Rattle.rma_reader.specs.Reading.{Reading}
-use Rattle.rma_book.specs.Types.{types_after}
+use Rattle.rma_judge.specs.Types.{types_after}
 use Rattle.rma_book.proofs.KnownLemmas.{known_lasting}
 use Rattle.rma_book.proofs.ReadingLemmas.{Reads_taken}
 use Rattle.rma_book.proofs.reader.Reader.read_datatype.Goals as goal

@@ -2,7 +2,7 @@ use Rattle.std.proofs.Common.{subst, sym, ap, refl, append-nil, ◌∙◌}
 use Rattle.rma_form.specs.declared.event.Event.TheVariants.{Header}
 use Rattle.rma_reader.specs.Reading.{Reading}
 use Rattle.rma_book.specs.declared.reader.Reader.{Reader}
-use Rattle.rma_book.specs.Types.{types_after}
+use Rattle.rma_judge.specs.Types.{types_after}
 use Rattle.rma_book.specs.inside.Known.{AreKnown}
 use Rattle.rma_book.proofs.KnownLemmas.{known_on}
 use Rattle.rma_book.proofs.ReadingLemmas.{Reads_refused, Reads_taken}

@@ -1,7 +1,7 @@
 use Rattle.std.proofs.Common.{sym, subst}
 use Rattle.rma_form.specs.declared.event.Event.{Event}
 use Rattle.rma_book.specs.inside.Reading.{Reads}
-use Rattle.rma_book.proofs.ReadingLemmas.{OnOk_then}
+use Rattle.rma_judge.proofs.CallLemmas.{OnOk_then}
 use Rattle.rma_book.proofs.reader.Reader.read_line.Goals as goal
 
 pub returns-in-Header : goal.returns-in-Header

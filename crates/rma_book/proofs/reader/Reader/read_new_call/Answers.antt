@@ -5,7 +5,8 @@ use Rattle.rma_form.specs.declared.event.Event.TheVariants.{Call}
 use Rattle.rma_book.specs.declared.reader.Reader.{Reader}
 use Rattle.rma_book.specs.inside.Known.{IsStatedBy}
 use Rattle.rma_book.specs.inside.Reading.{Reads}
-use Rattle.rma_book.proofs.ReadingLemmas.{OnOk_then, Reads_before, said_words, site_kept}
+use Rattle.rma_judge.proofs.CallLemmas.{OnOk_then}
+use Rattle.rma_book.proofs.ReadingLemmas.{Reads_before, said_words, site_kept}
 use Rattle.rma_book.proofs.reader.Reader.read_new_call.Goals as goal
 
 pub returns : goal.returns

@@ -1,7 +1,7 @@
 use Rattle.std.proofs.Common.{◌≡◌, Ok, OnOk, ap, subst}
 use Rattle.rma_book.specs.declared.reader.Reader.{Reader}
 use Rattle.rma_book.specs.inside.Reading.{ReadsNext}
-use Rattle.rma_book.proofs.ReadingLemmas.{OnOk_then}
+use Rattle.rma_judge.proofs.CallLemmas.{OnOk_then}
 use Rattle.rma_book.proofs.reader.Reader.read_other.Goals as goal
 
 pub returns-in-Some : goal.returns-in-Some

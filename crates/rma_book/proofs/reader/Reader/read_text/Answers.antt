@@ -1,10 +1,10 @@
 use Rattle.std.proofs.Common.{◌≡◌, List, ℕ, Ok, slice_get, ap, sym, subst, ◌∙◌}
 use Rattle.std.specs.Result.{OnOk}
 use Rattle.rma_reader.specs.Reading.{Reading}
-use Rattle.rma_book.specs.inside.Known.{IsCallOf}
+use Rattle.rma_judge.specs.inside.CallEvent.{IsCallOf}
 use Rattle.rma_book.specs.inside.Reading.{ReadsNext}
 use Rattle.rma_book.specs.declared.reader.Reader.{Reader}
-use Rattle.rma_book.proofs.ReadingLemmas.{OnOk_then}
+use Rattle.rma_judge.proofs.CallLemmas.{OnOk_then}
 use Rattle.rma_book.proofs.LineLemmas.{ReadsNext_bad, ReadsNext_known}
 use Rattle.rma_book.proofs.reader.Reader.read_text.Goals as goal
 

@@ -1,5 +1,6 @@
 use Rattle.std.proofs.Common.{refl}
-use Rattle.rma_book.proofs.ReadingLemmas.{Appends_added, OnOk_then}
+use Rattle.rma_judge.proofs.CallLemmas.{OnOk_then}
+use Rattle.rma_book.proofs.ReadingLemmas.{Appends_added}
 use Rattle.rma_book.proofs.reader.Reader.take.Goals as goal
 
 pub returns : goal.returns

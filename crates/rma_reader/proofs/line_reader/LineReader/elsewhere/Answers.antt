@@ -1,4 +1,4 @@
-use Rattle.rma_reader.proofs.TemplateLemmas.{made_known, made_within}
+use Rattle.rma_known.proofs.TemplateLemmas.{made_known, made_within}
 use Rattle.rma_reader.proofs.line_reader.LineReader.elsewhere.Goals as goal
 
 pub returns-clause-known : goal.returns-clause-known

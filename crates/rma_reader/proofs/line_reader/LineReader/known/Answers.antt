@@ -1,6 +1,6 @@
 use Rattle.std.proofs.Common.{◌∙◌}
-use Rattle.rma_reader.specs.inside.Templates.{known_of}
-use Rattle.rma_reader.proofs.TemplateLemmas.{among_lines}
+use Rattle.rma_known.specs.inside.Templates.{known_of}
+use Rattle.rma_known.proofs.TemplateLemmas.{among_lines}
 use Rattle.rma_reader.proofs.line_reader.LineReader.known.Goals as goal
 
 pub returns-in_default-request-clause-err : goal.returns-in_default-request-clause-err

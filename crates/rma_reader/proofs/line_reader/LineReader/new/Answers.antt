@@ -1,7 +1,7 @@
 use Rattle.std.proofs.Common.{⊎_elim}
-use Rattle.rma_reader.specs.Known.{IsAmong}
-use Rattle.rma_reader.specs.inside.Templates.{IsKnownAmong, known_of}
-use Rattle.rma_reader.proofs.TemplateLemmas.{among_either, none_known_among}
+use Rattle.rma_known.specs.Known.{IsAmong}
+use Rattle.rma_known.specs.inside.Templates.{IsKnownAmong, known_of}
+use Rattle.rma_known.proofs.TemplateLemmas.{among_either, none_known_among}
 use Rattle.rma_reader.proofs.line_reader.LineReader.new.Goals as goal
 
 pub invariant_of-result : goal.invariant_of-result

@@ -1,8 +1,8 @@
 use Rattle.std.proofs.Common.{◌≡◌, ◌<◌, length, false, option_copied, ⊎_elim, inl, inr, sym, subst}
-use Rattle.rma_reader.specs.Known.{Known, IsAmong}
+use Rattle.rma_known.specs.Known.{Known, IsAmong}
+use Rattle.rma_known.specs.inside.Templates.{IsKnownAmong, known_of}
+use Rattle.rma_known.proofs.TemplateLemmas.{among_either, among_lines, among_others}
 use Rattle.rma_reader.specs.Reading.{Reading}
-use Rattle.rma_reader.specs.inside.Templates.{IsKnownAmong, known_of}
-use Rattle.rma_reader.proofs.TemplateLemmas.{among_either, among_lines, among_others}
 use Rattle.rma_reader.proofs.line_reader.LineReader.note_template.Goals as goal
 
 pub invariant_of-self : goal.invariant_of-self

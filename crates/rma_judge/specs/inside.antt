@@ -1,0 +1,4 @@
+pub mod Naming
+pub mod Requests
+pub mod BookState
+pub mod CallEvent

@@ -1,0 +1,4 @@
+pub mod WordLemmas
+pub mod SlotLemmas
+pub mod TemplateLemmas
+pub mod AlikeLemmas

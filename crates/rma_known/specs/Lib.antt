@@ -1,0 +1,4 @@
+pub mod Split
+pub mod Known
+pub mod Elsewhere
+pub mod inside

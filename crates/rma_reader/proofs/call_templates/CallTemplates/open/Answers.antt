@@ -1,4 +1,0 @@
-use Rattle.rma_reader.proofs.call_templates.CallTemplates.open.Goals as goal
-
-pub returns-in_ok-self-inside : goal.returns-in_ok-self-inside
-returns-in_ok-self-inside c = λ known there. absurd (c.in_ok-self-inside.ensures known there)
