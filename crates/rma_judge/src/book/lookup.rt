@@ -14,7 +14,7 @@ impl Book {
     pub(super) fn has_comm(&self, comm: &Name) -> bool
         ensures { result ≡ (is_same world comm.now || is_some (lookup (is_same comm.now) self.now.comms)) }
     {
-        self.members(comm).is_some() || is_world(comm)
+        is_world(comm) || self.members(comm).is_some()
     }
 
     /// The members of a communicator, if it was declared: mostly of that of which a call spoke last, which is looked at first.
