@@ -1,5 +1,5 @@
 //! What lines of one-sided communication and of local accesses state, field by field.
-use crate::calls::stated;
+use crate::lines::stated;
 use rma_base::{Rank, Version};
 use rma_call::LocalAccess;
 use rma_datatype::Op;
@@ -34,7 +34,7 @@ fn check_put(rt: &impl Abort, event: &Event) {
 
 #[test]
 fn puts_are_read_field_by_field(rt: HostRuntime) -> Result<(), Fail> {
-    let stated = stated(&rt, Version::One, b"rput q W 3 4 5 A 6 7 B")?;
+    let stated = stated(rt.alloc(), Version::One, b"rput q W 3 4 5 A 6 7 B")?;
     check_put(&rt, &stated.event);
     Ok(())
 }
@@ -71,7 +71,11 @@ fn check_result(rt: &impl Abort, event: &Event) {
 
 #[test]
 fn results_are_read_field_by_field(rt: HostRuntime) -> Result<(), Fail> {
-    let stated = stated(&rt, Version::One, b"getacc BOR W null 4 5 A 6 7 B 8 9 C")?;
+    let stated = stated(
+        rt.alloc(),
+        Version::One,
+        b"getacc BOR W null 4 5 A 6 7 B 8 9 C",
+    )?;
     check_result(&rt, &stated.event);
     Ok(())
 }
@@ -97,7 +101,7 @@ fn check_swap(rt: &impl Abort, event: &Event) {
 
 #[test]
 fn swaps_are_read_field_by_field(rt: HostRuntime) -> Result<(), Fail> {
-    let stated = stated(&rt, Version::One, b"cas W 3 4 A 5 6 7")?;
+    let stated = stated(rt.alloc(), Version::One, b"cas W 3 4 A 5 6 7")?;
     check_swap(&rt, &stated.event);
     Ok(())
 }
@@ -123,7 +127,7 @@ fn check_element(rt: &impl Abort, event: &Event) {
 
 #[test]
 fn elements_are_read_field_by_field(rt: HostRuntime) -> Result<(), Fail> {
-    let stated = stated(&rt, Version::One, b"fop MIN W 3 4 A 5 6")?;
+    let stated = stated(rt.alloc(), Version::One, b"fop MIN W 3 4 A 5 6")?;
     check_element(&rt, &stated.event);
     Ok(())
 }
@@ -142,7 +146,7 @@ fn check_poll(rt: &impl Abort, event: &Event) {
 
 #[test]
 fn polls_are_read_field_by_field(rt: HostRuntime) -> Result<(), Fail> {
-    let stated = stated(&rt, Version::Two, b"poll 5 6 A")?;
+    let stated = stated(rt.alloc(), Version::Two, b"poll 5 6 A")?;
     check_poll(&rt, &stated.event);
     Ok(())
 }

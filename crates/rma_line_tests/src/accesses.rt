@@ -1,11 +1,8 @@
-//! Lines of one-sided communication and of local accesses, good and bad, and what each says.
-use crate::calls::{canonical_line, reason_of};
+//! Lines of one-sided communication and of local accesses, good and bad.
 use rma_base::{FormReason, Version};
-use std::process::Abort;
-use std::test::Fail;
 
-// The first reason that holds of each line, in a log of the version.
-static BAD: [(Version, &str, FormReason); 90] = [
+/// The first reason that holds of each line, in a log of the version.
+pub(crate) static BAD: [(Version, &str, FormReason); 90] = [
     (Version::One, "put W 1 0 1 INT 8 1", FormReason::WrongCount),
     (
         Version::One,
@@ -338,8 +335,8 @@ static BAD: [(Version, &str, FormReason); 90] = [
     (Version::Two, "poll 8 1 1", FormReason::BadName),
 ];
 
-// Lines of a log of the version, and the canonical lines of what they state.
-static CANONICAL: [(Version, &str, &str); 22] = [
+/// Lines of a log of the version, and the canonical lines of what they state.
+pub(crate) static CANONICAL: [(Version, &str, &str); 22] = [
     (
         Version::One,
         "put W 1 0x10 01 INT 8 1 INT @p",
@@ -443,24 +440,3 @@ static CANONICAL: [(Version, &str, &str); 22] = [
         "acc BOR W 1 0 1 INT 8 1 INT",
     ),
 ];
-
-#[test]
-fn bad_lines_of_accesses_have_their_reason(rt: HostRuntime) {
-    for (version, line, reason) in &BAD {
-        assert!(rt;
-            reason_of(&rt, *version, line.as_bytes()) == Some(*reason),
-            "{line}"
-        );
-    }
-}
-
-#[test]
-fn canonical_lines_of_accesses_are_read_back(rt: HostRuntime) -> Result<(), Fail> {
-    for (version, line, canonical) in &CANONICAL {
-        let written = canonical_line(&rt, *version, line.as_bytes())?;
-        assert!(rt; written.as_str() == *canonical, "{line}");
-        let again = canonical_line(&rt, *version, written.as_bytes())?;
-        assert!(rt; again.as_str() == *canonical, "{line}");
-    }
-    Ok(())
-}

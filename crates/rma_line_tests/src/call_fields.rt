@@ -1,5 +1,5 @@
 //! What lines of calls state, field by field.
-use crate::calls::stated;
+use crate::lines::stated;
 use rma_base::{AccOps, Rank, Version, WinModel};
 use rma_call::{FrameCall, MessageCall, SyncCall, WindowCall};
 use rma_form::Event;
@@ -33,7 +33,7 @@ fn check_communicator(rt: &impl Abort, event: &Event) {
 
 #[test]
 fn communicators_are_read_field_by_field(rt: HostRuntime) -> Result<(), Fail> {
-    let stated = stated(&rt, Version::One, b"comm C.1-a 7,0x2,063,0")?;
+    let stated = stated(rt.alloc(), Version::One, b"comm C.1-a 7,0x2,063,0")?;
     check_communicator(&rt, &stated.event);
     Ok(())
 }
@@ -51,7 +51,7 @@ fn check_send(rt: &impl Abort, event: &Event) {
 
 #[test]
 fn sends_are_read_field_by_field(rt: HostRuntime) -> Result<(), Fail> {
-    let stated = stated(&rt, Version::One, b"send 5 0x77 C")?;
+    let stated = stated(rt.alloc(), Version::One, b"send 5 0x77 C")?;
     check_send(&rt, &stated.event);
     Ok(())
 }
@@ -74,7 +74,7 @@ fn check_wait(rt: &impl Abort, event: &Event) {
 
 #[test]
 fn waits_are_read_field_by_field(rt: HostRuntime) -> Result<(), Fail> {
-    let stated = stated(&rt, Version::One, b"wait q 3 9")?;
+    let stated = stated(rt.alloc(), Version::One, b"wait q 3 9")?;
     check_wait(&rt, &stated.event);
     Ok(())
 }
@@ -111,7 +111,7 @@ fn check_window(rt: &impl Abort, event: &Event) {
 #[test]
 fn windows_are_read_field_by_field(rt: HostRuntime) -> Result<(), Fail> {
     let stated = stated(
-        &rt,
+        rt.alloc(),
         Version::One,
         b"win create W C 281474976710656 0x8 3 separate same_op_no_op @a",
     )?;

@@ -1,12 +1,8 @@
-//! Lines, good and bad, and what each says.
-use rma_base::{FormReason, Rank, Version};
-use rma_form::line_of;
-use rma_parse::{Event, ParseError, Stated, Texts, parse_line};
-use std::process::Abort;
-use std::test::Fail;
+//! Lines of calls, good and bad.
+use rma_base::{FormReason, Version};
 
-// The first reason that holds of each line, in a log of the version.
-static BAD: [(Version, &str, FormReason); 141] = [
+/// The first reason that holds of each line, in a log of the version.
+pub(crate) static BAD: [(Version, &str, FormReason); 141] = [
     (Version::One, "rma2 1 0 1", FormReason::UnknownVerb),
     (Version::One, "@x", FormReason::UnknownVerb),
     (Version::One, "RMA 1 0 1", FormReason::UnknownVerb),
@@ -302,10 +298,8 @@ static BAD: [(Version, &str, FormReason); 141] = [
     ),
 ];
 
-const NOTHING: [&[u8]; 6] = [b"", b" ", b"\t \t", b"# a", b"  #rma 1 x", b"#"];
-
-// Lines of a log of the version, and the canonical lines of what they state.
-static CANONICAL: [(Version, &str, &str); 54] = [
+/// Lines of a log of the version, and the canonical lines of what they state.
+pub(crate) static CANONICAL: [(Version, &str, &str); 54] = [
     (Version::One, "rma 1 3 16", "rma 1 3 16"),
     (Version::One, "\trma  1 0x3\t0x10 ", "rma 1 3 16"),
     (
@@ -413,106 +407,3 @@ static CANONICAL: [(Version, &str, &str); 54] = [
         "alltoall 281474976710656 world",
     ),
 ];
-
-pub(crate) fn reason_of(rt: &HostRuntime, version: Version, line: &[u8]) -> Option<FormReason> {
-    let mut texts = Texts::new(rt.alloc());
-    match parse_line(&mut texts, version, line) {
-        Err(ParseError::Fault(fault)) => Some(fault.reason),
-        _ => None,
-    }
-}
-
-// What a line states, in a box: a test is checked sooner where it does not drop the parts itself.
-pub(crate) fn stated(rt: &HostRuntime, version: Version, line: &[u8]) -> Result<Box<Stated>, Fail> {
-    let mut texts = Texts::new(rt.alloc());
-    match parse_line(&mut texts, version, line)? {
-        Some(stated) => Ok(Box::new(rt.alloc(), stated)?),
-        None => Err(Fail::from("nothing")),
-    }
-}
-
-#[test]
-fn bad_lines_have_their_reason(rt: HostRuntime) {
-    for (version, line, reason) in &BAD {
-        assert!(rt;
-            reason_of(&rt, *version, line.as_bytes()) == Some(*reason),
-            "{line}"
-        );
-    }
-}
-
-// Whether the line states nothing.
-fn states_nothing(rt: &HostRuntime, version: Version, line: &[u8]) -> bool {
-    let mut texts = Texts::new(rt.alloc());
-    match parse_line(&mut texts, version, line) {
-        Ok(None) => true,
-        _ => false,
-    }
-}
-
-#[test]
-fn blank_lines_and_comments_state_nothing(rt: HostRuntime) {
-    for line in NOTHING {
-        assert!(rt; states_nothing(&rt, Version::One, line));
-        assert!(rt; states_nothing(&rt, Version::Two, line));
-    }
-}
-
-// The canonical line of what a line states.
-pub(crate) fn canonical_line(
-    rt: &HostRuntime,
-    version: Version,
-    line: &[u8],
-) -> Result<String, Fail> {
-    let stated = stated(rt, version, line)?;
-    Ok(line_of(rt.alloc(), &stated)?)
-}
-
-#[test]
-fn canonical_lines_are_read_back(rt: HostRuntime) -> Result<(), Fail> {
-    for (version, line, canonical) in &CANONICAL {
-        let written = canonical_line(&rt, *version, line.as_bytes())?;
-        assert!(rt; written.as_str() == *canonical, "{line}");
-        let again = canonical_line(&rt, *version, written.as_bytes())?;
-        assert!(rt; again.as_str() == *canonical, "{line}");
-    }
-    Ok(())
-}
-
-fn check_header(rt: &impl Abort, event: &Event) {
-    match event {
-        Event::Header {
-            version,
-            rank,
-            size,
-        } => {
-            assert!(rt; *version == Version::One);
-            assert!(rt; *rank == Rank(3));
-            assert!(rt; *size == 16);
-        }
-        _ => assert!(rt; false),
-    }
-}
-
-#[test]
-fn headers_are_read(rt: HostRuntime) -> Result<(), Fail> {
-    let stated = stated(&rt, Version::Two, b"\trma  1 0x3\t0x10 @s")?;
-    check_header(&rt, &stated.event);
-    Ok(())
-}
-
-// Whether the line states a site of this text.
-fn has_site(rt: &HostRuntime, line: &[u8], text: &[u8]) -> Result<bool, Fail> {
-    let stated = stated(rt, Version::One, line)?;
-    Ok(match &stated.site {
-        Some(site) => site.bytes() == text,
-        None => false,
-    })
-}
-
-#[test]
-fn sites_are_read(rt: HostRuntime) -> Result<(), Fail> {
-    assert!(rt; has_site(&rt, b"\trma  1 0x3\t0x10 @s", b"s")?);
-    assert!(rt; has_site(&rt, b"end @@a.c:4", b"@a.c:4")?);
-    Ok(())
-}

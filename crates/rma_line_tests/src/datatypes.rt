@@ -1,13 +1,8 @@
-//! Lines of datatypes, good and bad, and what each says.
-use crate::calls::{canonical_line, reason_of, stated};
+//! Lines of datatypes, good and bad.
 use rma_base::{FormReason, Version};
-use rma_datatype::{Block, Dimension, Make, Order};
-use rma_form::{Event, TypeLine};
-use std::process::Abort;
-use std::test::Fail;
 
-// The first reason that holds of each line, in a log of the version.
-static BAD: [(Version, &str, FormReason); 99] = [
+/// The first reason that holds of each line, in a log of the version.
+pub(crate) static BAD: [(Version, &str, FormReason); 99] = [
     (Version::One, "type", FormReason::WrongCount),
     (Version::One, "type @x", FormReason::WrongCount),
     (Version::One, "type make N", FormReason::BadWord),
@@ -357,8 +352,8 @@ static BAD: [(Version, &str, FormReason); 99] = [
     (Version::One, "type free +", FormReason::BadName),
 ];
 
-// Lines of a log of the version, and the canonical lines of what they state.
-static CANONICAL: [(Version, &str, &str); 22] = [
+/// Lines of a log of the version, and the canonical lines of what they state.
+pub(crate) static CANONICAL: [(Version, &str, &str); 22] = [
     (
         Version::One,
         "type  contiguous N 0x3 INT @a",
@@ -450,134 +445,3 @@ static CANONICAL: [(Version, &str, &str); 22] = [
     (Version::One, "type commit\tN @c", "type commit N @c"),
     (Version::One, "type free  N", "type free N"),
 ];
-
-#[test]
-fn bad_lines_of_datatypes_have_their_reason(rt: HostRuntime) {
-    for (version, line, reason) in &BAD {
-        assert!(rt;
-            reason_of(&rt, *version, line.as_bytes()) == Some(*reason),
-            "{line}"
-        );
-    }
-}
-
-#[test]
-fn canonical_lines_of_datatypes_are_read_back(rt: HostRuntime) -> Result<(), Fail> {
-    for (version, line, canonical) in &CANONICAL {
-        let written = canonical_line(&rt, *version, line.as_bytes())?;
-        assert!(rt; written.as_str() == *canonical, "{line}");
-        let again = canonical_line(&rt, *version, written.as_bytes())?;
-        assert!(rt; again.as_str() == *canonical, "{line}");
-    }
-    Ok(())
-}
-
-// The constructor of the datatype N that the event makes.
-fn made(event: &Event) -> Option<&Make> {
-    match event {
-        Event::Datatype(TypeLine::Make { name, make }) if name.text() == "N" => Some(make),
-        _ => None,
-    }
-}
-
-fn check_vector(rt: &impl Abort, event: &Event) {
-    match made(event) {
-        Some(
-            Make::Vector {
-                count,
-                length,
-                stride,
-                old,
-            },
-        ) => {
-            assert!(rt; *count == 2);
-            assert!(rt; *length == 3);
-            assert!(rt; *stride == -4);
-            assert!(rt; old.text() == "M");
-        }
-        _ => assert!(rt; false),
-    }
-}
-
-#[test]
-fn vectors_are_read_field_by_field(rt: HostRuntime) -> Result<(), Fail> {
-    let stated = stated(&rt, Version::One, b"type vector N 2 3 -4 M")?;
-    check_vector(&rt, &stated.event);
-    Ok(())
-}
-
-fn check_blocks(rt: &impl Abort, event: &Event) {
-    match made(event) {
-        Some(Make::Indexed { old, blocks }) => {
-            let wanted = [
-                Block {
-                    length: 1,
-                    displacement: -2,
-                },
-                Block {
-                    length: 3,
-                    displacement: 4,
-                },
-            ];
-            assert!(rt; old.text() == "M");
-            assert!(rt; blocks.as_slice() == wanted.as_slice());
-        }
-        _ => assert!(rt; false),
-    }
-}
-
-#[test]
-fn blocks_are_read_group_by_group(rt: HostRuntime) -> Result<(), Fail> {
-    let stated = stated(&rt, Version::One, b"type indexed N M 1 -2 3 4")?;
-    check_blocks(&rt, &stated.event);
-    Ok(())
-}
-
-fn check_members(rt: &impl Abort, event: &Event) {
-    match made(event) {
-        Some(Make::Struct { members }) => {
-            assert!(rt; members.len() == 2);
-            let second = &members.as_slice()[1];
-            assert!(rt; second.length == 2);
-            assert!(rt; second.displacement == -16);
-            assert!(rt; second.old.text() == "B");
-        }
-        _ => assert!(rt; false),
-    }
-}
-
-#[test]
-fn members_are_read_group_by_group(rt: HostRuntime) -> Result<(), Fail> {
-    let stated = stated(&rt, Version::One, b"type struct N 1 8 A 2 -16 B")?;
-    check_members(&rt, &stated.event);
-    Ok(())
-}
-
-fn check_dimensions(rt: &impl Abort, event: &Event) {
-    match made(event) {
-        Some(
-            Make::Subarray {
-                order,
-                old,
-                dimensions,
-            },
-        ) => {
-            let wanted = [Dimension {
-                size: 6,
-                part: 4,
-                start: 1,
-            }];
-            assert!(rt; *order == Order::FirstFastest);
-            assert!(rt; old.text() == "M");
-            assert!(rt; dimensions.as_slice() == wanted.as_slice());
-        }
-        _ => assert!(rt; false),
-    }
-}
-
-#[test]
-fn subarrays_are_read_group_by_group(rt: HostRuntime) -> Result<(), Fail> {
-    let stated = stated(&rt, Version::One, b"type subarray N fortran M 6 4 1")?;
-    check_dimensions(&rt, &stated.event);
-    Ok(())
-}

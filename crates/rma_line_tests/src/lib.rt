@@ -11,4 +11,8 @@ mod call_fields;
 #[cfg(test)]
 mod calls;
 #[cfg(test)]
+mod datatype_fields;
+#[cfg(test)]
 mod datatypes;
+#[cfg(test)]
+mod lines;

@@ -1,13 +1,1 @@
-pub mod ArgumentLemmas
-pub mod WalkLemmas
-pub mod AgreementLemmas
-pub mod RowLemmas
-pub mod PlaceLemmas
-pub mod RegularLemmas
-pub mod CallCountLemmas
-pub mod SoFarLemmas
-pub mod BalanceLemmas
-pub mod ScanLemmas
-pub mod RoundLemmas
-pub mod ByRankLemmas
-pub mod MissingLemmas
+mod AppendLemmas

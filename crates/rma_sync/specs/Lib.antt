@@ -2,9 +2,10 @@ pub use Rattle.rma_member.specs.Declaration
 pub use Rattle.rma_member.specs.Attribute
 pub use Rattle.rma_member.specs.Member
 pub use Rattle.rma_member.specs.Difference
-pub mod Argument
-pub mod Collective
-pub mod Round
-pub mod Missing
+pub use Rattle.rma_agreement.specs.Argument
+pub use Rattle.rma_agreement.specs.Collective
+pub use Rattle.rma_agreement.specs.Round
+pub use Rattle.rma_agreement.specs.Balance
+pub use Rattle.rma_missing.specs.Missing
 pub mod Matching
 pub mod inside

@@ -14,9 +14,9 @@ use Rattle.rma_member.specs.Declaration.{declarations}
 use Rattle.rma_member.specs.Attribute.{declared, same_ranks, created, same_attributes}
 use Rattle.rma_member.specs.Difference.{differences}
 use Rattle.rma_round.specs.declared.kind.Kind.TheVariants as kind
-use Rattle.rma_sync.specs.Collective.{round_calls}
-use Rattle.rma_sync.specs.Round.{round_differences}
-use Rattle.rma_sync.specs.Missing.{missing_calls, missing_data}
+use Rattle.rma_agreement.specs.Collective.{round_calls}
+use Rattle.rma_agreement.specs.Round.{round_differences}
+use Rattle.rma_missing.specs.Missing.{missing_calls, missing_data}
 
 -- the faults of one reason, by rank and then by line
 abbrev pub faults_of : List RankCalls → MatchReason → List MatchFault

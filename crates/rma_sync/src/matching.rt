@@ -2,20 +2,22 @@
 ghost use Rattle.std.specs.Prelude.{◌≡◌, ◌++◌, [], true, IfOk, OnOk};
 ghost use Rattle.rma_run.specs.Run.{IsRun};
 ghost use Rattle.rma_match.specs.Matches.{AreMatches};
-ghost use Rattle.rma_round.specs.declared.kind.Kind.TheVariants as kind;
-ghost use Rattle.rma_sync.specs.inside.Agreement.{IsRegular};
+ghost use Rattle.rma_round.specs.declared.kind.Kind.{Kind};
+ghost use Rattle.rma_agreement.specs.Balance.{AreBalanced};
+ghost use Rattle.rma_agreement.specs.Collective.{round_calls};
+ghost use Rattle.rma_agreement.specs.Round.{round_differences};
 ghost use Rattle.rma_member.specs.inside.Member.{AreMembers};
-ghost use Rattle.rma_sync.specs.Missing.{missing_calls, missing_data};
+ghost use Rattle.rma_missing.specs.Missing.{missing_calls, missing_data};
 ghost use Rattle.rma_sync.specs.Matching.{match_faults};
 ghost use Rattle.rma_sync.specs.inside.Matching.{first_faults, last_faults};
 
-use crate::agreement::are_regular;
-use crate::missing::{MissingFaults, missing_calls};
-use crate::scan::Scan;
+use rma_agreement::are_regular;
 use rma_base::{MatchReason, Memory, Sequence};
 use rma_call::{MatchFault, RankCalls};
+use rma_difference::{RoundDifferences, round_differences};
 use rma_match::Matches;
 use rma_member::{Members, differences};
+use rma_missing::{MissingFaults, missing_calls};
 use std::alloc::Global;
 
 /// The faults of matching of a run with these matches, by reason in the order of the report, then by rank, then by line.
@@ -75,11 +77,8 @@ impl RoundFaults {
         members: &Members,
     ) -> Result<RoundFaults, Memory>
         requires members { AreMembers ranks.now members.now }
-        requires collectives { IsRegular kind.Collective ranks.now }
-        requires frees { IsRegular kind.Free ranks.now }
-        requires fences { IsRegular kind.Fence ranks.now }
-        requires movings { IsRegular kind.Moving ranks.now }
-        requires run { IsRun ranks.now }
+        requires balanced { (kind : Kind) → AreBalanced kind ranks.now }
+        requires agree { (kind : Kind) → round_differences kind (round_calls kind ranks.now) ≡ [] }
         ensures first { IfOk result (λ faults. faults.first ≡ first_faults ranks.now) }
         ensures last { IfOk result (λ faults. faults.last ≡ last_faults ranks.now) }
     {
@@ -99,41 +98,38 @@ impl RoundFaults {
         ensures first { IfOk result (λ faults. faults.first ≡ first_faults ranks.now) }
         ensures last { IfOk result (λ faults. faults.last ≡ last_faults ranks.now) }
     {
-        let Scan {
-            comms,
-            creations,
-            rounds,
-        } = Scan::new(alloc, ranks)?;
-        let members = Members::new(alloc, ranks, comms, creations)?;
-        let balanced = rounds.are_balanced(&members);
+        let RoundDifferences {
+            members,
+            collectives: mut first,
+            fences,
+            movings,
+            is_balanced,
+        } = round_differences(alloc, ranks)?;
         let mut last = differences(alloc, MatchReason::WindowDiffers, &members.creations)?;
         let comm_faults = differences(alloc, MatchReason::CommDiffers, &members.comms)?;
-        let missing = missing(alloc, ranks, members, balanced)?;
-        let fence_faults = rounds.fences.faults();
-        let moving_faults = rounds.movings.faults();
-        let mut first = rounds.collectives.faults();
+        let missing = missing(alloc, ranks, members, is_balanced)?;
         append(&mut first, &missing.calls)?;
-        append(&mut first, &fence_faults)?;
+        append(&mut first, &fences)?;
         append(&mut last, &comm_faults)?;
-        append(&mut last, &moving_faults)?;
+        append(&mut last, &movings)?;
         append(&mut last, &missing.movings)?;
         Ok(RoundFaults { first, last })
     }
 }
+
 /// The faults of the calls that some member does not make, of which there are none where the counts are balanced.
 fn missing(
     alloc: Global,
     ranks: &[RankCalls],
     members: Members,
-    balanced: bool,
+    is_balanced: bool,
 ) -> Result<MissingFaults, Memory>
     requires members { AreMembers ranks.now members }
-    requires calls { balanced ≡ true → missing_calls ranks.now ≡ [] }
-    requires movings { balanced ≡ true → missing_data ranks.now ≡ [] }
+    requires balanced { is_balanced ≡ true → (kind : Kind) → AreBalanced kind ranks.now }
     ensures calls { IfOk result (λ missing. missing.calls ≡ missing_calls ranks.now) }
     ensures movings { IfOk result (λ missing. missing.movings ≡ missing_data ranks.now) }
 {
-    if balanced {
+    if is_balanced {
         Ok(MissingFaults::new(alloc))
     } else {
         missing_calls(alloc, ranks, members)

@@ -2,7 +2,7 @@ use Rattle.std.proofs.Common.{ap, ◌∙◌}
 use Rattle.rma_base.specs.declared.match_reason.MatchReason.TheVariants.{SendUnreceived, ReceiveUnsent, CollectiveDiffers, CollectiveMissing, AssertDiffers, PostUnmatched, StartUnmatched, WindowDiffers, CommDiffers, DataDiffers, DataMissing}
 use Rattle.rma_message.specs.RunMessages.{RunMessages}
 use Rattle.rma_sync.specs.Matching.{faults_of}
-use Rattle.rma_sync.proofs.WalkLemmas.{appended, joined}
+use Rattle.rma_sync.proofs.AppendLemmas.{appended, joined}
 use Rattle.rma_sync.proofs.matching.match_faults.Goals as goal
 
 pub returns : goal.returns

@@ -1,0 +1,5 @@
+pub mod Argument
+pub mod Collective
+pub mod Round
+pub mod Balance
+pub mod inside

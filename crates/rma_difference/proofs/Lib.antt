@@ -1,0 +1,5 @@
+mod CallCountLemmas
+mod SoFarLemmas
+mod BalanceLemmas
+mod ScanLemmas
+mod RoundLemmas

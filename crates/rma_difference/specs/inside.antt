@@ -1,0 +1,3 @@
+pub mod CallCount
+pub mod Round
+pub mod Scan

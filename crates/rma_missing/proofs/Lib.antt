@@ -1,0 +1,3 @@
+mod NameCountLemmas
+mod ByRankLemmas
+pub mod MissingLemmas

@@ -1,0 +1,3 @@
+pub mod NameCount
+pub mod ByRank
+pub mod Missing

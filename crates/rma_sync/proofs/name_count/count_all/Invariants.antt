@@ -1,7 +1,0 @@
-use Rattle.std.proofs.Common.{take}
-use Rattle.rma_sync.specs.inside.NameCount.{AreCounts}
-use Rattle.rma_sync.proofs.name_count.count_all.Given as goal
-
--- the numbers of the calls so far
-abbrev pub invariant-loop-i : goal.invariant-loop-i
-invariant-loop-i l = AreCounts l.kind (take l.i l.calls.calls) l.counts.entries
