@@ -1,12 +1,10 @@
-//! Tests of how messages, posts and starts, and the calls of rounds, match, through public calls: small runs with what is to be answered of each,
-//! worked out by hand.
+//! Tests of how messages, posts and starts match, through public calls: small runs with what is to be answered of each, worked
+//! out by hand.
 #![tactic(auto)]
 
 #[cfg(test)]
 mod exposure;
 #[cfg(test)]
 mod message;
-#[cfg(test)]
-mod round;
 #[cfg(test)]
 mod shorthand;
