@@ -1,9 +1,9 @@
 //! The links of runs, and the calls that are never left.
-use crate::logs::run_of;
 use rma_base::{LineNo, Rank};
 use rma_match::Matches;
 use rma_order::{ImpossibleCall, impossible_calls, run_links};
 use rma_run::is_run;
+use rma_test_runs::run_of;
 use std::alloc::Global;
 use std::process::Abort;
 use std::test::Fail;

@@ -7,6 +7,4 @@ mod clock;
 #[cfg(test)]
 mod impossible;
 #[cfg(test)]
-mod logs;
-#[cfg(test)]
 mod source;

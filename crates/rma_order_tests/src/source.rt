@@ -1,8 +1,8 @@
 //! What the returns of calls wait for, as the calls come.
-use crate::logs::run_of;
 use rma_base::{Point, Rank};
 use rma_call::RankCalls;
 use rma_match::LiveMatch;
+use rma_test_runs::run_of;
 use std::alloc::Global;
 use std::process::Abort;
 use std::test::Fail;
@@ -252,33 +252,41 @@ fn waits_for(
     }
 }
 
+/// Whether the return of the row's call waits for the row's points.
+fn holds(alloc: Global, row: &Row) -> Result<bool, Fail> {
+    let run = run_of(alloc, row.logs)?;
+    let mut live = LiveMatch::new(alloc, 3)?;
+    take_all(&mut live, run.as_slice(), row.taken)?;
+    waits_for(alloc, &live, run.as_slice(), row.call, row.sources)
+}
+
 #[test]
 fn returns_wait_for_their_sources(rt: HostRuntime) -> Result<(), Fail> {
-    let alloc = rt.alloc();
     for row in ROWS {
-        let run = run_of(alloc, row.logs)?;
-        let mut live = LiveMatch::new(alloc, 3)?;
-        take_all(&mut live, run.as_slice(), row.taken)?;
-        let same = waits_for(alloc, &live, run.as_slice(), row.call, row.sources)?;
-        assert!(&rt; same, "{}", row.shows);
+        let same = holds(rt.alloc(), row)?;
+        assert!(rt; same, "{}", row.shows);
     }
+    Ok(())
+}
+
+/// The partners of the posts and starts of `EXPOSURE`, of which all but the expwait are taken, and then that too.
+fn check_partners(rt: &impl Abort, live: &mut LiveMatch, run: &[RankCalls]) -> Result<(), Fail> {
+    assert!(rt; partner(live, run, (0, 1), 1) == Some(1));
+    assert!(rt; partner(live, run, (1, 1), 0) == Some(1));
+    assert!(rt; partner(live, run, (0, 1), 2).is_none());
+    assert!(rt; partner(live, run, (0, 0), 1) == Some(0));
+    assert!(rt; live.expwait_of(Rank(0), 1).is_none());
+    take(live, run, 0, 2)?;
+    assert!(rt; live.expwait_of(Rank(0), 1) == Some(2));
     Ok(())
 }
 
 #[test]
 fn calls_have_their_partners_as_they_come(rt: HostRuntime) -> Result<(), Fail> {
-    let alloc = rt.alloc();
-    let run = run_of(alloc, EXPOSURE)?;
-    let mut live = LiveMatch::new(alloc, 3)?;
+    let run = run_of(rt.alloc(), EXPOSURE)?;
+    let mut live = LiveMatch::new(rt.alloc(), 3)?;
     take_all(&mut live, run.as_slice(), &[0, 0, 1, 1])?;
-    assert!(&rt; partner(&live, run.as_slice(), (0, 1), 1) == Some(1));
-    assert!(&rt; partner(&live, run.as_slice(), (1, 1), 0) == Some(1));
-    assert!(&rt; partner(&live, run.as_slice(), (0, 1), 2).is_none());
-    assert!(&rt; partner(&live, run.as_slice(), (0, 0), 1) == Some(0));
-    assert!(&rt; live.expwait_of(Rank(0), 1).is_none());
-    take(&mut live, run.as_slice(), 0, 2)?;
-    assert!(&rt; live.expwait_of(Rank(0), 1) == Some(2));
-    Ok(())
+    check_partners(&rt, &mut live, run.as_slice())
 }
 
 /// The call of the other rank that matches a call.

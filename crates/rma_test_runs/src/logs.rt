@@ -18,7 +18,11 @@ fn calls_of(alloc: Global, rank: u32, ranks: u32, text: &str) -> Result<RankCall
     }
 }
 
-/// The calls of a run, by the logs of its ranks.
+/// The calls of a run, by the logs of its ranks, the first of which is that of rank 0.
+///
+/// # Errors
+///
+/// What is wrong with a log: it has a bad line, or a thousand bytes and more; or that memory ran out.
 pub fn run_of(alloc: Global, texts: &[&str]) -> Result<Sequence<RankCalls>, Fail> {
     let Ok(ranks) = u32::try_from(texts.len()) else {
         return Err(Fail::from("too many ranks"));
