@@ -12,8 +12,8 @@ use std::alloc::Global;
 use std::hash::{FoldHasher, Hasher};
 use std::marker::Model;
 
-// How many names are at hand.
-const AT_HAND: usize = 256;
+// How many names are at hand: few, so that those of requests, which come and go, stay near.
+const AT_HAND: usize = 64;
 
 // How many names are known by their first byte.
 const INITIALS: usize = 32;

@@ -18,8 +18,8 @@ use std::marker::Model;
 /// How many calls are kept.
 const SLOTS: usize = 1_024;
 
-/// Calls that came before, each in the slot that its shape gives, if one of its shape came twice running to it.
-/// What accesses do depends on the datatypes: all calls are known until those change.
+/// Calls that came before, each in one of the two slots that its shape gives, if one of its shape came twice to them with no more
+/// than one other between. What accesses do depends on the datatypes: all calls are known until those change.
 #[derive(Drop)]
 pub struct CallTemplates {
     /// The slots: none, or `SLOTS` of them.
@@ -77,7 +77,30 @@ impl CallTemplates {
         if self.slots.is_empty() {
             return Ok(None);
         }
-        match self.slots.get(slot_of(shape_of(words))) {
+        let slot = slot_of(shape_of(words));
+        match self.find_in(slot, texts, version, words, to)? {
+            Some(call) => Ok(Some(call)),
+            None => {
+                *to = Particulars::new();
+                self.find_in(beside(slot), texts, version, words, to)
+            }
+        }
+    }
+
+    /// The same of the call that stands in a slot.
+    #[inline]
+    fn find_in(
+        &self,
+        slot: usize,
+        texts: &mut Texts,
+        version: Version,
+        words: &[u8],
+        to: &mut Particulars,
+    ) -> Result<Option<PlacedCall<'_>>, Memory>
+        requires { to.old ≡ no_details }
+        ensures { IfOk result (λ found. IfSome found (λ found. IsMadeAmong self.now version words.now found.what found.requests found.from.now to.new)) }
+    {
+        match self.slots.get(slot) {
             Some(Some(template)) => template.elsewhere(texts, version, words, to),
             _ => Ok(None),
         }
@@ -103,9 +126,18 @@ impl CallTemplates {
             return Ok(());
         }
         match CallTemplate::new(texts, version, words, form, what, request) {
-            Ok(Some(template)) => self.keep(texts.allocator(), slot_of(shape), template),
+            Ok(Some(template)) => self.keep(texts.allocator(), self.slot_for(shape), template),
             Ok(None) => Ok(()),
             Err(Memory) => Err(Memory),
+        }
+    }
+
+    /// The slot for a call of this shape: the second of its two, if that alone is free, and else the first.
+    fn slot_for(&self, shape: u64) -> usize {
+        let slot = slot_of(shape);
+        match (self.slots.get(slot), self.slots.get(beside(slot))) {
+            (Some(Some(_)), Some(None)) => beside(slot),
+            _ => slot,
         }
     }
 
@@ -140,14 +172,15 @@ impl CallTemplates {
     }
 }
 
-/// Whether a call of this shape, behind so many calls, is to be kept: one of the same shape came last to its slot. Where
+/// Whether a call of this shape, behind so many calls, is to be kept: one of the same shape came last to one of its slots. Where
 /// calls of one shape are not found though one is kept, they differ in other words, and it gives way to another more and more
 /// seldom; but at once where all were found for long.
 fn comes_again(last: &mut Vec<Last>, shape: u64, at: usize) -> bool {
-    let Some(last) = last.get_mut(slot_of(shape)) else {
+    let at = lower_half(at as u64);
+    let slot = slot_of_last(last, shape, at);
+    let Some(last) = last.get_mut(slot) else {
         return false;
     };
-    let at = lower_half(at as u64);
     let is_far = at.wrapping_sub(last.at) > FAR;
     last.at = at;
     if last.shape != lower_half(shape) {
@@ -161,6 +194,23 @@ fn comes_again(last: &mut Vec<Last>, shape: u64, at: usize) -> bool {
         last.times.wrapping_add(1)
     };
     last.times.is_power_of_two()
+}
+
+/// The slot to which one of this shape came last, behind so many calls, or else that of its two to which none came for longer.
+fn slot_of_last(last: &Vec<Last>, shape: u64, at: u32) -> usize {
+    let slot = slot_of(shape);
+    let (Some(own), Some(other)) = (last.get(slot), last.get(beside(slot))) else {
+        return slot;
+    };
+    if own.shape == lower_half(shape) {
+        return slot;
+    }
+    let is_older = at.wrapping_sub(other.at) > at.wrapping_sub(own.at);
+    if other.shape == lower_half(shape) || is_older {
+        beside(slot)
+    } else {
+        slot
+    }
 }
 
 /// Has the call in this slot, if there is such a slot.
@@ -202,7 +252,13 @@ fn lower_half(number: u64) -> u32 {
     (number & 0xffff_ffff) as u32
 }
 
-/// The slot of a shape: its first ten bits, of which there are `SLOTS`.
+/// The other slot of a shape of which this is one.
+#[inline]
+fn beside(slot: usize) -> usize {
+    slot ^ 1
+}
+
+/// The first slot of a shape: its first ten bits, of which there are `SLOTS`.
 #[inline]
 fn slot_of(shape: u64) -> usize {
     (shape >> 54) as usize

@@ -10,6 +10,7 @@
 //! [`LineReader::forget_accesses`] is called where those change.
 #![tactic(auto)]
 
+mod foreseen_sites;
 mod line_reader;
 mod numbered_calls;
 mod read_line;

@@ -10,10 +10,9 @@ ghost use Rattle.rma_reader.specs.Reading.{IsPlaced};
 ghost use Rattle.rma_reader.specs.Sites.{IsNumbered, IsSite, IsSiteOf};
 ghost use Rattle.rma_reader.specs.inside.Tables.{AddsSites, AddsWhats};
 
+use crate::foreseen_sites::ForeseenSites;
 use crate::shared_sites::SharedSites;
 use crate::site_slots::{PROBES, SiteSlots};
-use arrayvec::ArrayVec;
-use memchr::{memchr, memchr_iter};
 use rma_base::{FormReason, LineNo, Memory, NameError, Site};
 use rma_call::{CallList, Placement, What};
 use rma_known::key_of;
@@ -23,12 +22,6 @@ use std::marker::Model;
 
 /// Where there are fewer slots, what sites are looked up in is near without being brought.
 const FAR: usize = 2_048;
-
-/// The keys of some texts.
-type Keys = ArrayVec<u64, 64>;
-
-/// The numbers of some sites.
-type Numbers = ArrayVec<u32, 64>;
 
 /// The calls of a log. What is read of a line has the numbers of their tables.
 #[derive(Drop)]
@@ -41,8 +34,8 @@ pub(crate) struct NumberedCalls {
     slots: SiteSlots,
     /// The sites of all logs of the run.
     shared: SharedSites,
-    /// What came of reading ahead. It says nothing: that it is kept keeps the reads.
-    seen: u64,
+    /// The sites of the next lines, most likely.
+    foreseen: ForeseenSites,
 }
 
 impl Model for NumberedCalls {
@@ -66,7 +59,7 @@ impl NumberedCalls {
             sites: 0,
             slots: SiteSlots::new(alloc),
             shared,
-            seen: 0,
+            foreseen: ForeseenSites::new(),
         }
     }
 
@@ -78,42 +71,16 @@ impl NumberedCalls {
         &self.list
     }
 
-    /// Brings near what the sites of the lines of this piece of the log are looked up in: memory answers many reads at once, where
-    /// each would wait for the one before it.
+    /// Brings near what the sites of the lines of this piece of the log are looked up in.
     pub(crate) fn prefetch(&mut self, piece: &[u8])
         ensures { self.new ≡ self.old }
     {
         if self.slots.len() < FAR {
-            return;
+            self.foreseen.clear();
+        } else {
+            self.foreseen
+                .foresee(piece, &self.slots, &self.list, self.sites);
         }
-        let mut seen = self.seen;
-        let mut keys = Keys::new();
-        for at in memchr_iter(b'@', piece) {
-            if keys.is_full() {
-                seen ^= self.read_ahead(keys.as_slice());
-                keys.clear();
-            }
-            keys.push(key_of(site_at(piece, at)));
-        }
-        self.seen = seen ^ self.read_ahead(keys.as_slice());
-    }
-
-    /// Reads the slots of these keys, and then the texts of the sites that they name.
-    fn read_ahead(&self, keys: &[u64]) -> u64 {
-        let mut numbers = Numbers::new();
-        for key in keys {
-            if numbers.is_full() {
-                break;
-            }
-            numbers.push(self.slots.likely_number(*key));
-        }
-        let mut seen = 0;
-        for number in numbers.as_slice() {
-            if *number < self.sites {
-                seen ^= self.list.site(*number).bytes().len() as u64;
-            }
-        }
-        seen
     }
 
     /// The calls, where no more are read.
@@ -201,6 +168,31 @@ impl NumberedCalls {
     /// The number of the site of this text.
     #[inline]
     fn site(&mut self, alloc: Global, text: &[u8]) -> Result<u32, ParseError>
+        ensures ok { IfOk result (λ number. IsNumbered self.new text.now number) }
+        ensures err { IfErr result (λ error. Fails error (site text.now)) }
+        ensures adds { AddsSites self.old self.new }
+    {
+        match self.foreseen(text) {
+            Some(number) => Ok(number),
+            None => self.looked_up(alloc, text),
+        }
+    }
+
+    /// The number of the site of this text, if it is the one that is foreseen.
+    #[inline]
+    fn foreseen(&mut self, text: &[u8]) -> Option<u32>
+        ensures number { IfSome result (λ number. IsNumbered self.new text.now number) }
+        ensures same { self.new ≡ self.old }
+    {
+        match self.foreseen.next() {
+            Some(number) if self.has(number, text) => Some(number),
+            _ => None,
+        }
+    }
+
+    /// The number of the site of this text, which is not foreseen.
+    #[inline(never)]
+    fn looked_up(&mut self, alloc: Global, text: &[u8]) -> Result<u32, ParseError>
         ensures ok { IfOk result (λ number. IsNumbered self.new text.now number) }
         ensures err { IfErr result (λ error. Fails error (site text.now)) }
         ensures adds { AddsSites self.old self.new }
@@ -328,15 +320,4 @@ fn doubled(
         slots.keep(key_of(list.site(number).bytes()), number);
     }
     Ok(slots)
-}
-
-/// The text of the site whose `@` stands at a position of a text, if a line ends with it.
-fn site_at(text: &[u8], at: usize) -> &[u8] {
-    let Some([_, rest @ ..]) = text.get(at..) else {
-        return &[];
-    };
-    match memchr(b'\n', rest) {
-        Some(end) => &rest[..end],
-        None => rest,
-    }
 }

@@ -95,14 +95,18 @@ impl SiteSlots {
         }
     }
 
-    /// The number that a site of this key most likely has: that of the first slot, or else that of the next. Both are read, so
+    /// The number that a site of this key most likely has: that of the first of four slots that has half of the key. All are read, so
     /// that no read waits for what another one found.
     #[inline]
     pub(crate) fn likely_number(&self, key: u64) -> u32 {
-        let first = self.get(key, 0);
-        let next = self.get(key, 1);
-        let slot = if first.is_like(key) { first } else { next };
-        slot.number()
+        let mut likely = self.get(key, 3);
+        for before in 1..4 {
+            let slot = self.get(key, 3 - before);
+            if slot.is_like(key) {
+                likely = slot;
+            }
+        }
+        likely.number()
     }
 
     /// Keeps the number of a site, whose text has this key: in the first free slot, or else in the first of all.
