@@ -1,7 +1,6 @@
 pub mod EntryLemmas
 pub mod KnownLemmas
 pub mod ElsewhereLemmas
-pub mod DoneLemmas
 pub mod WholeLemmas
 pub mod ReadingLemmas
 pub mod LineLemmas

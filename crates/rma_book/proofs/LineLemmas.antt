@@ -22,9 +22,9 @@ use Rattle.rma_book.specs.Calls.{events_of}
 use Rattle.rma_book.specs.Logs.{Checked, entries, judged}
 use Rattle.rma_book.specs.declared.reader.Reader.{Reader}
 use Rattle.rma_judge.specs.inside.BookState.{BookState, Represents}
-use Rattle.rma_book.specs.inside.Elsewhere.{StatesWhat}
+use Rattle.rma_book.specs.inside.Known.{IsKnownCall, StatesWhat}
 use Rattle.rma_judge.specs.inside.CallEvent.{IsCallOf}
-use Rattle.rma_book.specs.inside.Known.{IsKnownCall, IsStatedBy}
+use Rattle.rma_elsewhere.specs.Elsewhere.{IsStatedBy}
 use Rattle.rma_book.specs.inside.Reading.{Adds, HasTaken, HasRead, ReadsNext, Reads}
 use Rattle.rma_judge.proofs.CallLemmas.{call_same}
 use Rattle.rma_book.proofs.ReadingLemmas.{HasRead_more, HasRead_refused, HasRead_taken, HasTaken_grown, HasTaken_nothing, HasTaken_read}

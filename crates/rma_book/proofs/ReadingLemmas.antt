@@ -35,7 +35,8 @@ use Rattle.rma_book.specs.declared.reader.Reader.{Reader}
 use Rattle.rma_judge.specs.declared.book.access.JudgedAccess.TheVariants as access
 use Rattle.rma_judge.specs.inside.BookState.{BookState, Represents, IsGoodAccess, IsJudged}
 use Rattle.rma_judge.specs.inside.CallEvent.{IsCall, IsCallOf, request_of}
-use Rattle.rma_book.specs.inside.Known.{AreKnown, IsStatedBy}
+use Rattle.rma_elsewhere.specs.Elsewhere.{IsStatedBy}
+use Rattle.rma_book.specs.inside.Known.{AreKnown}
 use Rattle.rma_book.specs.inside.Reading.{Adds, Appends, HasTaken, HasStopped, HasGood, HasRead, IsBehind, IsReading, Takes, Refuses, GoesOn, Reads}
 use Rattle.rma_judge.proofs.JudgingLemmas.{call_is}
 use Rattle.rma_judge.proofs.CallLemmas.{typed_none}

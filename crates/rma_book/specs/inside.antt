@@ -1,4 +1,3 @@
 pub mod Known
-pub mod Elsewhere
 pub mod Reading
 pub mod RankState

@@ -2,15 +2,14 @@
 //!
 //! A [`RankBook`] is fed the log of its rank in pieces of any size, and its outcome is a [`BookEnd`]: the calls of the rank,
 //! or the first bad line, a [`FormFault`]. Inside it a cutter gives the lines, a reader what they state and keeps the calls, and
-//! the book of `rma_judge` judges each event with those before it. A call that is known elsewhere is made from its particulars.
+//! the book of `rma_judge` judges each event with those before it. A call that is known elsewhere is made by `rma_elsewhere` from its
+//! particulars.
 #![tactic(auto)]
 
-mod elsewhere;
 mod fault;
 pub mod laws;
 mod rank_book;
 mod reader;
-mod sync_elsewhere;
 
 pub use fault::{BookEnd, FormFault};
 pub use rank_book::RankBook;

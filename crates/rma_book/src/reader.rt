@@ -14,16 +14,17 @@ ghost use Rattle.rma_book.specs.Ends.{IsEnd};
 ghost use Rattle.rma_book.specs.declared.reader.Reader.{Reader};
 ghost use Rattle.rma_book.specs.Logs.{Checked};
 ghost use Rattle.rma_book.specs.Calls.{call_with};
-ghost use Rattle.rma_book.specs.inside.Elsewhere.{StatesAccess, StatesWhat};
+ghost use Rattle.rma_book.specs.inside.Known.{StatesAccess, StatesWhat};
 ghost use Rattle.rma_judge.specs.inside.CallEvent.{IsCallOf};
-ghost use Rattle.rma_book.specs.inside.Known.{IsStatedBy};
+ghost use Rattle.rma_elsewhere.specs.Elsewhere.{IsStatedBy};
 ghost use Rattle.rma_book.specs.inside.Reading.{Adds, Appends, HasAdded, HasRead, IsReading, Reads, ReadsNext};
 
-use crate::elsewhere::{access_elsewhere, form_of, form_of_local, made_elsewhere, place_elsewhere};
 use crate::fault::{BookEnd, FormFault};
-use crate::sync_elsewhere::form_of_sync;
 use rma_base::{FormReason, LineNo, Memory, Name, Rank, Version};
 use rma_call::{Placement, RankCalls, SyncCall, What, WhatRef};
+use rma_elsewhere::{
+    access_elsewhere, form_of_access, form_of_local, form_of_sync, place_elsewhere, sync_elsewhere,
+};
 use rma_field::{ParseError, Texts};
 use rma_form::{Event, LocalLine, RmaLine, TypeLine};
 use rma_judge::{Book, Judged, JudgedAccess};
@@ -191,7 +192,7 @@ impl Reader {
         ensures added { IfOk result (λ added. IfSome added (λ number. HasAdded self.old self.new line.now.words number to.now.request)) }
         ensures none { result ≡ Ok None → self.new ≡ self.old }
     {
-        match made_elsewhere(requests, self.lines.what(what), to)? {
+        match sync_elsewhere(requests, self.lines.what(what), to)? {
             Some(call) => self.add_made(line, What::Sync(call), to.request()),
             None => Ok(None),
         }
@@ -366,7 +367,7 @@ impl Reader {
                 what,
                 request: made,
             } => {
-                let form = form_of(&line.access);
+                let form = form_of_access(&line.access);
                 self.take(no, words, site, form, what, request, made)
             }
         }

@@ -14,9 +14,9 @@ use Rattle.rma_judge.specs.Naming.{is_end, named_version}
 use Rattle.rma_judge.specs.inside.BookState as state
 use Rattle.rma_book.specs.Calls.{call_of, calls_of, end_line, events_of, version_of}
 use Rattle.rma_judge.specs.Types.{types_after}
-use Rattle.rma_book.specs.inside.Elsewhere.{StatesWhat}
+use Rattle.rma_book.specs.inside.Known.{AreKnown, StatesWhat}
 use Rattle.rma_judge.specs.inside.CallEvent.{IsCallOf}
-use Rattle.rma_book.specs.inside.Known.{AreKnown, IsStatedBy}
+use Rattle.rma_elsewhere.specs.Elsewhere.{IsStatedBy}
 use Rattle.rma_type.specs.Table.{Table}
 use Rattle.rma_book.specs.Logs.{Checked, AreGood, AreGoodUntil, IsFirstBad, entries}
 use Rattle.rma_book.specs.declared.fault.FormFault.{FormFault}

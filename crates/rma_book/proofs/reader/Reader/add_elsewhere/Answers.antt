@@ -1,5 +1,5 @@
 use Rattle.rma_call.specs.Rma.{access_of}
-use Rattle.rma_book.proofs.DoneLemmas.{access_states, local_states}
+use Rattle.rma_book.proofs.ElsewhereLemmas.{access_states, local_states}
 use Rattle.rma_book.proofs.reader.Reader.add_elsewhere.Goals as goal
 
 pub add_access-requires : goal.add_access-requires

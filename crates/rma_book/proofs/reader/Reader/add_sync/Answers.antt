@@ -1,4 +1,4 @@
-use Rattle.rma_book.proofs.DoneLemmas.{states_done}
+use Rattle.rma_book.proofs.ElsewhereLemmas.{states_done}
 use Rattle.rma_book.proofs.reader.Reader.add_sync.Goals as goal
 
 pub add_made-requires : goal.add_made-requires

@@ -1,6 +1,6 @@
 use Rattle.std.proofs.Common.{◌∙◌, None, refl}
 use Rattle.rma_form.specs.declared.event.Event.TheVariants.{Local}
-use Rattle.rma_book.specs.inside.Known.{IsStatedBy}
+use Rattle.rma_elsewhere.specs.Elsewhere.{IsStatedBy}
 use Rattle.rma_judge.proofs.CallLemmas.{OnOk_then}
 use Rattle.rma_book.proofs.ReadingLemmas.{Reads_taken, Takes_access, said_words}
 use Rattle.rma_book.proofs.reader.Reader.read_local.Goals as goal

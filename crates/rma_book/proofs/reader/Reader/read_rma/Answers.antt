@@ -1,7 +1,7 @@
 use Rattle.std.proofs.Common.{◌∙◌, refl}
 use Rattle.std.specs.Option.{option_copied}
 use Rattle.rma_form.specs.declared.event.Event.TheVariants.{Rma}
-use Rattle.rma_book.specs.inside.Known.{IsStatedBy}
+use Rattle.rma_elsewhere.specs.Elsewhere.{IsStatedBy}
 use Rattle.rma_judge.proofs.CallLemmas.{OnOk_then}
 use Rattle.rma_book.proofs.ReadingLemmas.{Reads_taken, Takes_access, said_words}
 use Rattle.rma_book.proofs.reader.Reader.read_rma.Goals as goal

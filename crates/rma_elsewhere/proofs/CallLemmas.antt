@@ -1,9 +1,7 @@
--- What accesses do elsewhere, and the lines that state them.
+-- What calls do elsewhere.
 use Rattle.std.proofs.Common.{◌≡◌, ℕ, ◌<◌, Bool, false, is_some, length, List, Option, Some, None, option_map, slice_get, refl, sym, ap, subst, ◌∙◌}
 use Rattle.std.specs.Option.{option_and_then}
 use Rattle.rma_call.specs.declared.local.LocalCall.{LocalCall}
-use Rattle.rma_call.specs.Rma.{placed}
-use Rattle.rma_call.specs.declared.rma.Placement.{Placement}
 use Rattle.rma_call.specs.declared.rma.RmaCall.{RmaCall}
 use Rattle.rma_call.specs.declared.what.What.{What}
 use Rattle.rma_call.specs.declared.what.What.TheVariants as what
@@ -18,24 +16,21 @@ use Rattle.rma_buffer.specs.Operands.{kind_of, operand_of, operands_of}
 use Rattle.rma_buffer.specs.Rules.{buffers_reason, memory_reason}
 use Rattle.rma_buffer.specs.declared.operand.Operand.{Operand}
 use Rattle.rma_buffer.specs.declared.operand.Operands.{Operands}
-use Rattle.rma_known.specs.Elsewhere.{Details, IsKnownElsewhere}
-use Rattle.rma_reader.specs.Reading.{Reading}
+use Rattle.rma_known.specs.Elsewhere.{Details}
 use Rattle.rma_type.specs.Table.{Table}
-use Rattle.rma_book.specs.inside.Elsewhere.{DoesElsewhere, StatesAccess, StatesWhat, event_at, request_at, sync_at}
+use Rattle.rma_elsewhere.specs.Elsewhere.{DoesElsewhere, event_at, request_at, sync_at}
 use Rattle.rma_judge.specs.inside.CallEvent.{IsCallOf}
-use Rattle.rma_book.specs.inside.Known.{IsStatedBy}
-use Rattle.rma_book.proofs.ElsewhereLemmas.{stated_elsewhere}
 
 none_is : {A : Type 0} (x : Option A) → is_some x ≡ false → x ≡ None
 none_is None none = refl
 none_is (Some x) none = cc none
 
-some_is : {A : Type 0} → (x y : A) → Some x ≡ Some y → x ≡ y
+pub some_is : {A : Type 0} → (x y : A) → Some x ≡ Some y → x ≡ y
 some_is x y is = cc
 
 -- ---- calls that access the part of a target
 
-rma_in : (what : What) → RmaCall → RmaCall
+pub rma_in : (what : What) → RmaCall → RmaCall
 rma_in (what.Rma call) other = call
 rma_in _ other = other
 
@@ -156,38 +151,3 @@ sync_done call moved requests from to there requested types (Local line) name ow
 sync_done call moved requests from to there requested types (Header version rank size) name own here has is = let bad : None ≡ Some (what.Sync call) = is.does in cc bad
 sync_done call moved requests from to there requested types End name own here has is = let bad : None ≡ Some (what.Sync call) = is.does in cc bad
 sync_done call moved requests from to there requested types (Datatype line) name own here has is = let bad : None ≡ Some (what.Sync call) = is.does in cc bad
-
--- ---- lines that state a call elsewhere
-
--- the words state what the known call does there
-pub states_done : (reading : Reading) (words : List ℕ) (number : ℕ) (requests : Bool) (from : List ℕ) (to : Details) (does moved : What) (request : Option (List ℕ))
-    → IsKnownElsewhere reading.known reading.version words number requests from to → slice_get reading.calls.whats number ≡ Some does → DoesElsewhere does requests from to moved request
-    → StatesWhat reading words moved request
-states_done reading words number requests from to does moved request found is done types are =
-    let own = are found.known found.among in
-    let here : Details = record { numbers = from; name = found.name; request = found.known.request } in
-    let stated = stated_elsewhere reading.version found.form found.known.words words here to own.event (subst (λ v. IsStatedBy v found.known.words own.event) found.version own.said) found.here found.there in
-    let same = some_is own.what does (sym own.is ∙ ap (slice_get reading.calls.whats) found.does ∙ is) in
-    let call = subst (λ w. IsCallOf types w found.known.request own.event) same own.call in
-    (event_at own.event to, stated.0, done types own.event found.name found.known.request stated.1 found.request call)
-
--- so they do where that is an access at a place
-pub access_states : (reading : Reading) (words : List ℕ) (number : ℕ) (requests : Bool) (from : List ℕ) (to : Details) (call : RmaCall) (place : Placement) → requests ≡ false
-    → IsKnownElsewhere reading.known reading.version words number requests from to → number < length reading.calls.whats → slice_get reading.calls.whats number ≡ Some (what.Rma call)
-    → IsRmaCallElsewhere call from to.numbers (placed call place) → StatesAccess reading words number place
-unfolding rma_in
-access_states reading words number requests from to call place none found within is there = (
-  within,
-  λ own at.
-      let done = subst (λ has. DoesElsewhere (what.Rma call) has from to (what.Rma (placed call place)) None) (sym none) (rma_done call (placed call place) from to there) in
-      subst (λ mine. StatesWhat reading words (what.Rma (placed mine place)) None) (ap (λ w. rma_in w call) (some_is (what.Rma call) (what.Rma own) (sym is ∙ at)))
-      (states_done reading words number requests from to (what.Rma call) (what.Rma (placed call place)) None found is done),
-)
-
--- and where it is a local access
-pub local_states : (reading : Reading) (words : List ℕ) (number : ℕ) (requests : Bool) (from : List ℕ) (to : Details) (call moved : LocalCall) → requests ≡ false
-    → IsKnownElsewhere reading.known reading.version words number requests from to → slice_get reading.calls.whats number ≡ Some (what.Local call) → IsLocalCallElsewhere call from to.numbers moved
-    → StatesWhat reading words (what.Local moved) None
-local_states reading words number requests from to call moved none found is there =
-    states_done reading words number requests from to (what.Local call) (what.Local moved) None found is
-    (subst (λ has. DoesElsewhere (what.Local call) has from to (what.Local moved) None) (sym none) (local_done call moved from to there))

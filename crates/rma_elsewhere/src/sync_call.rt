@@ -1,22 +1,54 @@
 //! Calls that access no memory and are made again elsewhere: with another rank, another tag, other bytes, another address, or
 //! another communicator, window or request.
-ghost use Rattle.std.specs.Prelude.{◌≡◌, ◌∷◌, [], IfOk, IfSome, None, Some};
+ghost use Rattle.std.specs.Prelude.{◌≡◌, ℕ, List, ◌∷◌, [], IfOk, IfSome, None, Some, is_some, true};
+ghost use Rattle.std.specs.Option.{option_copied};
 ghost use Rattle.rma_call.specs.Call.{what_of};
 ghost use Rattle.rma_call.specs.declared.what.SyncCall.TheVariants as sync;
-ghost use Rattle.rma_book.specs.inside.Elsewhere.{IsSyncAt, epoch_at, frame_at, message_at, moving_at, window_at};
+ghost use Rattle.rma_call.specs.declared.what.What.TheVariants.{Sync};
+ghost use Rattle.rma_elsewhere.specs.Elsewhere.{DoesElsewhere, IsSyncAt, epoch_at, frame_at, message_at, moving_at, window_at};
 
 use rma_base::{Memory, Name, Rank};
 use rma_call::{
     EpochCall, FrameCall, MessageCall, MovingCall, Received, SyncCall, WhatRef, WindowCall,
 };
-use rma_reader::CallForm;
+use rma_known::Particulars;
+
+/// The same call that accesses no memory with other particulars, where it has a request or none. None, where it is of no such
+/// kind, or has other particulars.
+pub fn sync_elsewhere(
+    requests: bool,
+    what: WhatRef<'_>,
+    to: &Particulars,
+) -> Result<Option<SyncCall>, Memory>
+    ensures { IfOk result (λ made. IfSome made (λ call. (from : List ℕ) → DoesElsewhere (what_of what.entry) requests from to.now (Sync call) to.now.request)) }
+{
+    if !agrees(requests, to) {
+        return Ok(None);
+    }
+    call_at(what, to.numbers(), copied(to.name())?)
+}
+
+/// The same name.
+#[inline]
+fn copied(name: Option<&Name>) -> Result<Option<Name>, Memory>
+    ensures { IfOk result (λ same. same ≡ option_copied name.entry) }
+{
+    match name {
+        Some(name) => Ok(Some(name.copy()?)),
+        None => Ok(None),
+    }
+}
+
+/// Whether there is a request where a call has one.
+#[inline]
+fn agrees(requests: bool, to: &Particulars) -> bool
+    ensures { result ≡ true → requests ≡ is_some to.now.request }
+{
+    requests == to.requests()
+}
 
 /// The same call with other numbers and another name. None, where it has other ones or accesses memory.
-pub(crate) fn sync_elsewhere(
-    what: WhatRef<'_>,
-    to: &[u64],
-    name: Option<Name>,
-) -> Result<Option<SyncCall>, Memory>
+fn call_at(what: WhatRef<'_>, to: &[u64], name: Option<Name>) -> Result<Option<SyncCall>, Memory>
     ensures { IfOk result (λ found. IfSome found (IsSyncAt (what_of what.entry) to.now name)) }
 {
     match what {
@@ -280,77 +312,4 @@ fn rootless_elsewhere(call: &MovingCall, bytes: u64, comm: Name) -> Option<SyncC
         _ => return None,
     };
     Some(SyncCall::Moving(call))
-}
-
-/// The form of a call that accesses no memory, if programs make it again elsewhere.
-pub(crate) fn form_of_sync(call: &SyncCall) -> Option<CallForm> {
-    match call {
-        SyncCall::Frame(call) => Some(form_of_frame(call)),
-        SyncCall::Message(call) => Some(form_of_message(call)),
-        SyncCall::Window(call) => form_of_window(call),
-        SyncCall::Epoch(call) => Some(form_of_epoch(call)),
-        SyncCall::Moving(call) => Some(form_of_moving(call)),
-    }
-}
-
-/// The form of a communicator that is made, or of a barrier.
-fn form_of_frame(call: &FrameCall) -> CallForm {
-    match call {
-        FrameCall::Comm { .. } => CallForm::Comm,
-        FrameCall::Barrier { .. } => CallForm::Barrier,
-    }
-}
-
-/// The form of a message.
-fn form_of_message(call: &MessageCall) -> CallForm {
-    match call {
-        MessageCall::Send { .. } => CallForm::Send,
-        MessageCall::Recv { .. } => CallForm::Recv,
-        MessageCall::Isend { .. } => CallForm::Isend,
-        MessageCall::Irecv { .. } => CallForm::Irecv,
-        MessageCall::Wait { received: None } => CallForm::Wait,
-        MessageCall::Wait { received: Some(_) } => CallForm::Received,
-    }
-}
-
-/// The form of a call that attaches memory to a window, or detaches it.
-fn form_of_window(call: &WindowCall) -> Option<CallForm> {
-    match call {
-        WindowCall::Attach { .. } => Some(CallForm::Attach),
-        WindowCall::Detach { .. } => Some(CallForm::Detach),
-        _ => None,
-    }
-}
-
-/// The form of a call that opens, completes or closes an epoch.
-fn form_of_epoch(call: &EpochCall) -> CallForm {
-    match call {
-        EpochCall::Fence { .. } => CallForm::Fence,
-        EpochCall::Post { .. } => CallForm::Post,
-        EpochCall::Start { .. } => CallForm::Start,
-        EpochCall::Complete { .. } => CallForm::Complete,
-        EpochCall::Expwait { .. } => CallForm::Expwait,
-        EpochCall::Lock { .. } => CallForm::Lock,
-        EpochCall::Unlock { .. } => CallForm::Unlock,
-        EpochCall::LockAll { .. } => CallForm::LockAll,
-        EpochCall::UnlockAll { .. } => CallForm::UnlockAll,
-        EpochCall::Flush { .. } => CallForm::Flush,
-        EpochCall::FlushAll { .. } => CallForm::FlushAll,
-        EpochCall::FlushLocal { .. } => CallForm::FlushLocal,
-        EpochCall::FlushLocalAll { .. } => CallForm::FlushLocalAll,
-        EpochCall::Sync { .. } => CallForm::Sync,
-    }
-}
-
-/// The form of a collective that moves data.
-fn form_of_moving(call: &MovingCall) -> CallForm {
-    match call {
-        MovingCall::Bcast { .. } => CallForm::Bcast,
-        MovingCall::Scatter { .. } => CallForm::Scatter,
-        MovingCall::Gather { .. } => CallForm::Gather,
-        MovingCall::Reduce { .. } => CallForm::Reduce,
-        MovingCall::Allreduce { .. } => CallForm::Allreduce,
-        MovingCall::Allgather { .. } => CallForm::Allgather,
-        MovingCall::Alltoall { .. } => CallForm::Alltoall,
-    }
 }

@@ -1,5 +1,5 @@
--- The events of calls that a log repeats elsewhere.
-use Rattle.std.specs.Prelude.{◌≡◌, ℕ, ◌<◌, Bool, false, List, [], ◌∷◌, length, slice_get, Option, None, Some, is_some}
+-- The same call elsewhere: with other numbers and other names (MPI 4.0, "One-Sided Communications", "Point-to-Point Communication", "Collective Communication").
+use Rattle.std.specs.Prelude.{◌≡◌, ℕ, Bool, false, List, [], ◌∷◌, Option, None, Some, is_some}
 use Rattle.std.specs.Option.{option_or}
 use Rattle.rma_call.specs.declared.epoch.EpochCall.{EpochCall}
 use Rattle.rma_call.specs.declared.epoch.EpochCall.TheVariants.{Fence, Post, Start, Complete, Expwait, Lock, Unlock, LockAll, UnlockAll, Flush, FlushAll, FlushLocal, FlushLocalAll}
@@ -12,9 +12,6 @@ use Rattle.rma_call.specs.declared.moving.MovingCall.{MovingCall}
 use Rattle.rma_call.specs.declared.moving.MovingCall.TheVariants.{Bcast, Scatter, Gather, Reduce, Allreduce, Allgather, Alltoall}
 use Rattle.rma_call.specs.declared.window.WindowCall.{WindowCall}
 use Rattle.rma_call.specs.declared.window.WindowCall.TheVariants.{Attach, Detach}
-use Rattle.rma_call.specs.Rma.{placed}
-use Rattle.rma_call.specs.declared.rma.Placement.{Placement}
-use Rattle.rma_call.specs.declared.rma.RmaCall.{RmaCall}
 use Rattle.rma_call.specs.declared.what.SyncCall.{SyncCall}
 use Rattle.rma_call.specs.declared.what.SyncCall.TheVariants as sync
 use Rattle.rma_call.specs.declared.what.What.{What}
@@ -23,10 +20,10 @@ use Rattle.rma_form.specs.declared.event.Event.{Event}
 use Rattle.rma_form.specs.declared.event.Event.TheVariants.{Call, Rma, Local}
 use Rattle.rma_buffer.specs.Elsewhere.{line_at, local_at}
 use Rattle.rma_known.specs.Elsewhere.{Details}
-use Rattle.rma_reader.specs.Reading.{Reading}
 use Rattle.rma_type.specs.Table.{Table}
+use Rattle.rma_base.specs.declared.version.Version.{Version}
+use Rattle.rma_form.specs.Lines.{states}
 use Rattle.rma_judge.specs.inside.CallEvent.{IsCallOf}
-use Rattle.rma_book.specs.inside.Known.{AreKnown, IsStatedBy}
 
 -- ---- calls with other numbers and another name; the same, where they are none of theirs
 
@@ -100,7 +97,11 @@ event_at (Local line) to = Local (local_at line to.numbers)
 event_at (Call call request) to = Call (sync_at call to.numbers to.name) (request_at request to.request)
 event_at event to = event
 
--- ---- what is done elsewhere
+-- ---- what is stated, and what is done elsewhere
+
+-- the words state the event in this version, without a site
+abbrev pub IsStatedBy : Version → List ℕ → Event → Type 0
+IsStatedBy version words event = states version words (record { event = event; site = None })
 
 -- Whatever call this does that is where some numbers say, and has a request or none: where other particulars say it is one that does
 -- that, with this request.
@@ -112,15 +113,6 @@ DoesElsewhere what requests from to moved request =
 -- neither a call nor its particulars have a request
 abbrev pub MakesNone : Bool → Details → Type 0
 MakesNone requests to = (requests ≡ false) × (to.request ≡ None)
-
--- the words state a call that does this, with this request, where known words state what is known of them
-abbrev pub StatesWhat : Reading → List ℕ → What → Option (List ℕ) → Type 0
-StatesWhat reading words what request = (types : Table) → AreKnown types reading → (event : Event) × IsStatedBy reading.version words event × IsCallOf types what request event
-
--- the same of the access of a number, made at a place
-abbrev pub StatesAccess : Reading → List ℕ → ℕ → Placement → Type 0
-StatesAccess reading words number place =
-    (number < length reading.calls.whats) × ((call : RmaCall) → slice_get reading.calls.whats number ≡ Some (what.Rma call) → StatesWhat reading words (what.Rma (placed call place)) None)
 
 -- a call that accesses no memory is this elsewhere
 abbrev pub IsSyncAt : What → List ℕ → Option (List ℕ) → SyncCall → Type 0
