@@ -3,15 +3,9 @@
 #![tactic(auto)]
 
 #[cfg(test)]
-mod access_fields;
-#[cfg(test)]
 mod accesses;
 #[cfg(test)]
-mod call_fields;
-#[cfg(test)]
 mod calls;
-#[cfg(test)]
-mod datatype_fields;
 #[cfg(test)]
 mod datatypes;
 #[cfg(test)]

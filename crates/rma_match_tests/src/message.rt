@@ -1,5 +1,6 @@
 //! How the messages of a run match: small runs, with the faults and the edges that they have.
 ghost use Rattle.std.specs.Prelude.{◌+◌, ◌<◌, ◌^◌};
+ghost use Rattle.rma_message.specs.Messages.{AreNumbered};
 
 use rma_base::{LineNo, Name, Point, Rank};
 use rma_call::{
@@ -249,49 +250,13 @@ fn two_calls(
     Ok(RankCalls::new(Rank(rank), calls, LineNo(4)))
 }
 
-#[test]
-fn an_edge_leads_from_the_send_to_the_wait(rt: HostRuntime) -> Result<(), Fail> {
-    let alloc = rt.alloc();
-    let send = MessageCall::Send {
+/// A further message of the tag to rank 1, which none receives.
+fn further_send(alloc: Global) -> Result<MessageCall, Fail> {
+    Ok(MessageCall::Isend {
         to: Rank(1),
         tag: 7,
         comm: Name::new(alloc, b"a")?,
-    };
-    let more = MessageCall::Isend {
-        to: Rank(1),
-        tag: 7,
-        comm: Name::new(alloc, b"a")?,
-    };
-    let post = MessageCall::Irecv {
-        comm: Name::new(alloc, b"a")?,
-    };
-    let wait = MessageCall::Wait {
-        received: Some(Received {
-            from: Rank(0),
-            tag: 7,
-        }),
-    };
-    let sender = two_calls(alloc, 0, send, more, 1)?;
-    let receiver = two_calls(alloc, 1, post, wait, 1)?;
-    let messages = Messages::of_calls(alloc, &[sender, receiver])?;
-    let mut links = Links::new(alloc);
-    messages.push_edges(alloc, &mut links)?;
-    let edge = Edge {
-        from: Point {
-            rank: Rank(0),
-            pos: 0,
-        },
-        to: Point {
-            rank: Rank(1),
-            pos: 3,
-        },
-    };
-    let faults = messages.faults(alloc)?;
-    let one = are(faults.as_slice(), &[("send_unreceived", 0, 3)]);
-    assert!(&rt; links.edges.as_slice() == [edge].as_slice());
-    assert!(&rt; links.meets.is_empty());
-    assert!(&rt; one);
-    Ok(())
+    })
 }
 
 /// A rank that sends a message of a tag to rank 1, and then makes this call.
@@ -318,20 +283,8 @@ fn receiver(alloc: Global) -> Result<RankCalls, Fail> {
     two_calls(alloc, 1, post, wait, 1)
 }
 
-#[test]
-fn a_message_has_its_edge_where_all_match_and_where_not(rt: HostRuntime) -> Result<(), Fail> {
-    let alloc = rt.alloc();
-    let nothing = MessageCall::Wait { received: None };
-    let more = MessageCall::Isend {
-        to: Rank(1),
-        tag: 7,
-        comm: Name::new(alloc, b"a")?,
-    };
-    let all = RunMessages::of_calls(alloc, &[sender(alloc, nothing)?, receiver(alloc)?])?;
-    let some = RunMessages::of_calls(alloc, &[sender(alloc, more)?, receiver(alloc)?])?;
-    let mut links = Links::new(alloc);
-    all.push_edges(alloc, &mut links)?;
-    some.push_edges(alloc, &mut links)?;
+/// Whether there is one edge, from before the send to behind the wait, and nothing else.
+fn is_one_edge(links: &Links) -> bool {
     let edge = Edge {
         from: Point {
             rank: Rank(0),
@@ -342,11 +295,53 @@ fn a_message_has_its_edge_where_all_match_and_where_not(rt: HostRuntime) -> Resu
             pos: 3,
         },
     };
-    let none = all.faults(alloc)?.is_empty();
-    let faults = some.faults(alloc)?;
-    let one = are(faults.as_slice(), &[("send_unreceived", 0, 3)]);
-    assert!(&rt; links.edges.as_slice() == [edge, edge].as_slice());
-    assert!(&rt; none);
-    assert!(&rt; one);
+    links.meets.is_empty() && links.edges.as_slice() == [edge].as_slice()
+}
+
+/// Whether messages have that edge alone.
+fn have_one_edge(alloc: Global, messages: &Messages) -> Result<bool, Fail>
+    requires { AreNumbered messages.now }
+{
+    let mut links = Links::new(alloc);
+    messages.push_edges(alloc, &mut links)?;
+    Ok(is_one_edge(&links))
+}
+
+/// The same of the messages of a run.
+fn run_has_one_edge(alloc: Global, messages: &RunMessages) -> Result<bool, Fail> {
+    let mut links = Links::new(alloc);
+    messages.push_edges(alloc, &mut links)?;
+    Ok(is_one_edge(&links))
+}
+
+#[test]
+fn an_edge_leads_from_the_send_to_the_wait(rt: HostRuntime) -> Result<(), Fail> {
+    let alloc = rt.alloc();
+    let ranks = [sender(alloc, further_send(alloc)?)?, receiver(alloc)?];
+    let messages = Messages::of_calls(alloc, &ranks)?;
+    let edge = have_one_edge(alloc, &messages)?;
+    let faults = messages.faults(alloc)?;
+    assert!(&rt; edge);
+    assert!(&rt; are(faults.as_slice(), &[("send_unreceived", 0, 3)]));
+    Ok(())
+}
+
+/// Whether a run in which rank 0 makes this call behind its send has that edge alone, and these faults.
+fn is_run(alloc: Global, then: MessageCall, want: &[(&str, u32, u32)]) -> Result<bool, Fail> {
+    let ranks = [sender(alloc, then)?, receiver(alloc)?];
+    let messages = RunMessages::of_calls(alloc, &ranks)?;
+    let faults = messages.faults(alloc)?;
+    Ok(run_has_one_edge(alloc, &messages)? && are(faults.as_slice(), want))
+}
+
+#[test]
+fn a_message_has_its_edge_where_all_match_and_where_not(rt: HostRuntime) -> Result<(), Fail> {
+    let alloc = rt.alloc();
+    let nothing = MessageCall::Wait { received: None };
+    let all = is_run(alloc, nothing, &[])?;
+    let more = further_send(alloc)?;
+    let some = is_run(alloc, more, &[("send_unreceived", 0, 3)])?;
+    assert!(&rt; all);
+    assert!(&rt; some);
     Ok(())
 }

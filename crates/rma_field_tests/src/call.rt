@@ -1,5 +1,5 @@
 //! What lines of calls state, field by field.
-use crate::lines::stated;
+use crate::line::stated;
 use rma_base::{AccOps, Rank, Version, WinModel};
 use rma_call::{FrameCall, MessageCall, SyncCall, WindowCall};
 use rma_form::Event;

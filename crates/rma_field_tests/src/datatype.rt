@@ -1,5 +1,5 @@
 //! What lines of datatypes state, field by field.
-use crate::lines::stated;
+use crate::line::stated;
 use rma_base::Version;
 use rma_datatype::{Block, Dimension, Make, Order};
 use rma_form::{Event, TypeLine};

@@ -1,5 +1,5 @@
 //! What lines of one-sided communication and of local accesses state, field by field.
-use crate::lines::stated;
+use crate::line::stated;
 use rma_base::{Rank, Version};
 use rma_call::LocalAccess;
 use rma_datatype::Op;
