@@ -51,13 +51,14 @@ impl ForeseenSites {
     }
 
     /// Foresees the sites of the lines that end in this piece of a log, whose sites have these slots and so many numbers in this
-    /// list. The slots, and then the texts, are read by turns: memory answers many reads at once, where each would wait for the one
-    /// before it.
+    /// list. The slots are read ahead, and then the texts: memory answers many reads at once, where each would wait for the one before
+    /// it, and the less is done between them the more are under way.
     pub(crate) fn foresee(&mut self, piece: &[u8], slots: &SiteSlots, list: &CallList, sites: u32)
         requires { sites ≡ length list.now.sites }
     {
         self.clear();
         let keys = self.keys(piece);
+        self.seen ^= slots.read_ahead(keys.as_slice());
         for key in keys.as_slice() {
             if !self.numbers.is_full() {
                 self.numbers.push(slots.likely_number(*key));

@@ -9,6 +9,9 @@ const FEWEST: usize = 64;
 /// How many slots a number may stand in, one after another.
 pub(crate) const PROBES: usize = 64;
 
+/// In how many of these it most likely stands.
+const LIKELY: usize = 4;
+
 /// The half of a key of which a slot has a copy.
 const UPPER: u64 = 0xffff_ffff_0000_0000;
 
@@ -99,14 +102,23 @@ impl SiteSlots {
     /// that no read waits for what another one found.
     #[inline]
     pub(crate) fn likely_number(&self, key: u64) -> u32 {
-        let mut likely = self.get(key, 3);
-        for before in 1..4 {
-            let slot = self.get(key, 3 - before);
+        let mut likely = self.get(key, LIKELY - 1);
+        for before in 1..LIKELY {
+            let slot = self.get(key, LIKELY - 1 - before);
             if slot.is_like(key) {
                 likely = slot;
             }
         }
         likely.number()
+    }
+
+    /// Reads the slots that say the likely numbers of sites of these keys. What comes of it says nothing.
+    pub(crate) fn read_ahead(&self, keys: &[u64]) -> u64 {
+        let mut seen = 0;
+        for key in keys {
+            seen ^= self.get(*key, 0).0 ^ self.get(*key, LIKELY - 1).0;
+        }
+        seen
     }
 
     /// Keeps the number of a site, whose text has this key: in the first free slot, or else in the first of all.
