@@ -1,7 +1,7 @@
 //! The outcomes of whole logs.
-use rma_base::limits::FED;
-use rma_base::{FormReason, Rank};
-use rma_book::{BookEnd, RankBook};
+use rma_base::FormReason;
+use rma_book::BookEnd;
+use rma_test_runs::end_of;
 use std::alloc::Global;
 use std::process::Abort;
 use std::test::Fail;
@@ -385,25 +385,8 @@ static CASES: [Case; 92] = [
     },
 ];
 
-/// The outcome of the log of a rank, read in pieces of so many bytes.
-pub(crate) fn ended(
-    rt: &impl Abort,
-    alloc: Global,
-    rank: Rank,
-    logs: u32,
-    log: &[u8],
-    most: usize,
-) -> Result<BookEnd, Fail> {
-    let mut book = RankBook::new(alloc, rank, logs)?;
-    for piece in log.chunks(most.max(1)) {
-        assert!(rt; book.fed() + (piece.len() as u64) < FED);
-        book.feed(piece)?;
-    }
-    Ok(book.end()?)
-}
-
 /// How many calls there are, or the first bad line.
-pub(crate) fn outcome(end: &BookEnd) -> Result<usize, (u32, FormReason)> {
+fn outcome(end: &BookEnd) -> Result<usize, (u32, FormReason)> {
     match end {
         BookEnd::Calls(calls) => Ok(calls.calls().len()),
         BookEnd::Fault(fault) => Err((fault.line.0, fault.reason)),
@@ -413,7 +396,7 @@ pub(crate) fn outcome(end: &BookEnd) -> Result<usize, (u32, FormReason)> {
 fn check(rt: &impl Abort, alloc: Global, cases: &[Case]) -> Result<(), Fail> {
     for case in cases {
         for most in [1, 1000] {
-            let end = ended(rt, alloc, Rank(1), 3, case.log.as_bytes(), most)?;
+            let end = end_of(alloc, 1, 3, case.log.as_bytes(), most)?;
             assert_eq!(rt; outcome(&end), case.end);
         }
     }

@@ -3,8 +3,6 @@
 #![tactic(auto)]
 
 #[cfg(test)]
-mod clock;
-#[cfg(test)]
 mod impossible;
 #[cfg(test)]
 mod source;

@@ -1,5 +1,5 @@
 use Rattle.std.proofs.Common.{◌≡◌, false}
-use Rattle.rma_book_tests.proofs.book.ended.Given as goal
+use Rattle.rma_test_runs.proofs.logs.end_of.Given as goal
 
 abbrev pub invariant-loop-piece : goal.invariant-loop-piece
 invariant-loop-piece g l =

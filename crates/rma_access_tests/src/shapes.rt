@@ -195,7 +195,7 @@ fn second<'a>(rt: &impl Abort, calls: &'a CallList) -> WhatRef<'a> {
 #[test]
 fn calls_have_the_bytes_of_their_buffers(rt: HostRuntime) -> Result<(), Fail> {
     for case in &CALLS {
-        let end = ended_with(&rt, rt.alloc(), case.0, "end\n", 1)?;
+        let end = ended_with(rt.alloc(), case.0, "end\n", 1)?;
         match &end {
             BookEnd::Calls(calls) => match second(&rt, calls.calls()) {
                 WhatRef::Rma(call) => check_call(&rt, call, case),
@@ -210,7 +210,7 @@ fn calls_have_the_bytes_of_their_buffers(rt: HostRuntime) -> Result<(), Fail> {
 #[test]
 fn local_accesses_have_the_bytes_of_their_memory(rt: HostRuntime) -> Result<(), Fail> {
     for (lines, access, shape) in &LOCALS {
-        let end = ended_with(&rt, rt.alloc(), lines, "end\n", 1)?;
+        let end = ended_with(rt.alloc(), lines, "end\n", 1)?;
         match &end {
             BookEnd::Calls(calls) => match second(&rt, calls.calls()) {
                 WhatRef::Local(call) => {

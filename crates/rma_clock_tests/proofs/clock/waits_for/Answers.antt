@@ -1,7 +1,7 @@
 use Rattle.std.proofs.Common.{◌≡◌, [], length, get_or, ap, arith}
 use Rattle.std.proofs.lemmas.List.{get_or_read}
 use Rattle.rma_walk.proofs.PendingLemmas.{in_ranks}
-use Rattle.rma_order_tests.proofs.clock.waits_for.Goals as goal
+use Rattle.rma_clock_tests.proofs.clock.waits_for.Goals as goal
 
 pub index-requires : goal.index-requires
 index-requires c =

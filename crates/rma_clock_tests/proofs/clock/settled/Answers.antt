@@ -5,7 +5,7 @@ use Rattle.rma_link.specs.declared.links.Links.{Links}
 use Rattle.rma_clock.specs.declared.live.LiveClocks.{LiveClocks}
 use Rattle.rma_clock.specs.Reached.{IsReached, CanSettle, with_point, with_edges, edges_to, no_links}
 use Rattle.rma_clock.specs.inside.Live.{AreLive}
-use Rattle.rma_order_tests.proofs.clock.settled.Goals as goal
+use Rattle.rma_clock_tests.proofs.clock.settled.Goals as goal
 
 abbrev at : ℕ → ℕ → Point
 at rank pos = record { rank = record { 0 = rank }; pos = pos }

@@ -1,10 +1,10 @@
 //! Calls whose lines the log repeats, or makes again elsewhere.
-use crate::book::ended;
 use crate::buffers::{Case, check, ended_with};
 use rma_base::{FormReason, Name, Rank};
 use rma_book::BookEnd;
 use rma_bytes::MovedLayout;
 use rma_call::{CallList, EpochCall, FrameCall, MessageCall, MovingCall, WhatRef, WindowCall};
+use rma_test_runs::end_of;
 use std::process::Abort;
 use std::test::Fail;
 
@@ -151,7 +151,7 @@ fn check_again(rt: &impl Abort, calls: &CallList) {
 fn a_put_that_comes_again_has_the_bytes_of_the_datatype_of_its_time(
     rt: HostRuntime,
 ) -> Result<(), Fail> {
-    let end = ended_with(&rt, rt.alloc(), AGAIN, "end\n", 1)?;
+    let end = ended_with(rt.alloc(), AGAIN, "end\n", 1)?;
     match &end {
         BookEnd::Calls(calls) => check_again(&rt, calls.calls()),
         BookEnd::Fault(_) => assert!(&rt; false),
@@ -206,7 +206,7 @@ fn check_elsewhere(rt: &impl Abort, calls: &CallList) {
 
 #[test]
 fn an_access_that_comes_again_elsewhere_is_made_there(rt: HostRuntime) -> Result<(), Fail> {
-    let end = ended_with(&rt, rt.alloc(), ELSEWHERE, "end\n", 1)?;
+    let end = ended_with(rt.alloc(), ELSEWHERE, "end\n", 1)?;
     match &end {
         BookEnd::Calls(calls) => check_elsewhere(&rt, calls.calls()),
         BookEnd::Fault(_) => assert!(&rt; false),
@@ -321,7 +321,7 @@ fn check_moved(rt: &impl Abort, calls: &CallList) {
 
 #[test]
 fn a_call_that_comes_again_elsewhere_has_its_own_numbers(rt: HostRuntime) -> Result<(), Fail> {
-    let end = ended(&rt, rt.alloc(), Rank(0), 2, MOVED.as_bytes(), 7)?;
+    let end = end_of(rt.alloc(), 0, 2, MOVED.as_bytes(), 7)?;
     match &end {
         BookEnd::Calls(calls) => check_moved(&rt, calls.calls()),
         BookEnd::Fault(_) => assert!(&rt; false),
@@ -445,7 +445,7 @@ fn check_named(rt: &impl Abort, calls: &CallList) {
 
 #[test]
 fn a_call_that_comes_again_by_another_name_has_that_name(rt: HostRuntime) -> Result<(), Fail> {
-    let end = ended(&rt, rt.alloc(), Rank(0), 2, NAMED.as_bytes(), 7)?;
+    let end = end_of(rt.alloc(), 0, 2, NAMED.as_bytes(), 7)?;
     match &end {
         BookEnd::Calls(calls) => check_named(&rt, calls.calls()),
         BookEnd::Fault(_) => assert!(&rt; false),

@@ -1,7 +1,7 @@
 //! What lines of datatypes, accesses of targets and local accesses come to, by the rules for their buffers.
-use crate::book::{ended, outcome};
-use rma_base::{FormReason, Rank};
+use rma_base::FormReason;
 use rma_book::BookEnd;
+use rma_test_runs::end_of;
 use std::alloc::Global;
 use std::process::Abort;
 use std::test::Fail;
@@ -561,7 +561,6 @@ static CASES: [Case; 158] = [
 /// The outcome of the log of rank 0 of two that has these lines between its first two and its last, in pieces of at most so many
 /// bytes.
 pub(crate) fn ended_with(
-    rt: &impl Abort,
     alloc: Global,
     lines: &str,
     after: &str,
@@ -570,21 +569,21 @@ pub(crate) fn ended_with(
     let mut log = Vec::from_slice(alloc, BEFORE.as_bytes())?;
     log.extend_from_slice(lines.as_bytes())?;
     log.extend_from_slice(after.as_bytes())?;
-    ended(rt, alloc, Rank(0), 2, log.as_slice(), most)
+    end_of(alloc, 0, 2, log.as_slice(), most)
 }
 
 /// How many calls there are, without those of the frame, or the first bad line.
 fn inner_outcome(end: &BookEnd) -> Result<usize, (u32, FormReason)> {
-    match outcome(end) {
-        Ok(calls) => Ok(calls.saturating_sub(2)),
-        Err(bad) => Err(bad),
+    match end {
+        BookEnd::Calls(calls) => Ok(calls.calls().len().saturating_sub(2)),
+        BookEnd::Fault(fault) => Err((fault.line.0, fault.reason)),
     }
 }
 
 pub(crate) fn check(rt: &impl Abort, alloc: Global, cases: &[Case]) -> Result<(), Fail> {
     for (lines, expected) in cases {
         for most in [1, 1000] {
-            let end = ended_with(rt, alloc, lines, AFTER, most)?;
+            let end = ended_with(alloc, lines, AFTER, most)?;
             assert!(rt; inner_outcome(&end) == *expected, "{lines}");
         }
     }
