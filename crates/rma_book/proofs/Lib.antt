@@ -1,7 +1,1 @@
-pub mod EntryLemmas
-pub mod KnownLemmas
-pub mod ElsewhereLemmas
 pub mod WholeLemmas
-pub mod ReadingLemmas
-pub mod LineLemmas
-pub mod OutcomeLemmas

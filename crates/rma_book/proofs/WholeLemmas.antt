@@ -8,8 +8,8 @@ use Rattle.rma_lex.specs.Cutting.{Cutting, Represents}
 use Rattle.rma_lex.specs.Line.{has_open_end, line_feeds}
 use Rattle.rma_lex.proofs.CheckLemmas.{checked_lines_at, length_checked_lines}
 use Rattle.rma_lex.proofs.LineLemmas.{feeds_append, length_lines, Plain_from_Contains}
-use Rattle.rma_book.specs.Logs.{whole_lines}
-use Rattle.rma_book.specs.inside.Reading.{HasRead}
+use Rattle.rma_log.specs.Logs.{whole_lines}
+use Rattle.rma_log.specs.inside.Reading.{HasRead}
 use Rattle.rma_book.specs.inside.RankState.{RankState}
 use Rattle.rma_book.specs.inside.RankState as own
 

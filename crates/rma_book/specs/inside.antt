@@ -1,3 +1,1 @@
-pub mod Known
-pub mod Reading
 pub mod RankState

@@ -2,17 +2,16 @@
 ghost use Rattle.std.specs.Prelude.{◌≡◌, ℕ, ◌+◌, ◌<◌, ◌≤◌, List, [], ◌++◌, length, take, is_some, is_err, IfOk, IsErr, OnOk, OnErr, false};
 ghost use Rattle.rma_lex.specs.Checked.{checked_lines};
 ghost use Rattle.rma_lex.specs.Line.{lines};
-ghost use Rattle.rma_book.specs.Calls.{calls_of, end_line};
-ghost use Rattle.rma_book.specs.Ends.{IsEnd};
-ghost use Rattle.rma_book.specs.Logs.{AreGoodUntil, IsFirstFault, entries, whole_lines};
+ghost use Rattle.rma_log.specs.Calls.{calls_of, end_line};
+ghost use Rattle.rma_log.specs.Ends.{IsEnd};
+ghost use Rattle.rma_log.specs.Logs.{AreGoodUntil, IsFirstFault, entries, whole_lines};
 ghost use Rattle.rma_book.specs.inside.RankState.{RanOut, ReadsPart, Represents};
 
-use crate::fault::{BookEnd, FormFault};
-use crate::reader::{Reader, read_lines};
 use rma_base::limits::{FED, LINE};
 use rma_base::{LineNo, Memory, Rank};
 use rma_call::CallList;
 use rma_lex::LineCutter;
+use rma_log::{BookEnd, FormFault, Reader, read_lines};
 use rma_reader::SharedSites;
 use std::alloc::Global;
 use std::marker::Model;

@@ -4,11 +4,11 @@ use Rattle.std.proofs.lemmas.Bool.{eqb-true, eqb-false}
 use Rattle.std.proofs.lemmas.List.{drop_more}
 use Rattle.rma_lex.specs.Checked.{checked_lines}
 use Rattle.rma_call.specs.Call.{RankCalls}
-use Rattle.rma_book.specs.declared.fault.BookEnd.{BookEnd}
-use Rattle.rma_book.specs.declared.fault.BookEnd.TheVariants.{Calls, Fault}
-use Rattle.rma_book.specs.declared.fault.FormFault.{FormFault}
-use Rattle.rma_book.specs.Ends.{IsEnd}
-use Rattle.rma_book.proofs.OutcomeLemmas.{one_end, outcome}
+use Rattle.rma_log.specs.declared.fault.BookEnd.{BookEnd}
+use Rattle.rma_log.specs.declared.fault.BookEnd.TheVariants.{Calls, Fault}
+use Rattle.rma_log.specs.declared.fault.FormFault.{FormFault}
+use Rattle.rma_log.specs.Ends.{IsEnd}
+use Rattle.rma_log.proofs.OutcomeLemmas.{one_end, outcome}
 use Rattle.rma_report.specs.declared.finding.Finding.{Finding}
 use Rattle.rma_report.specs.declared.finding.Finding.TheVariants.{Malformed}
 use Rattle.rma_run.specs.Run.{AreInOrder}

@@ -4,9 +4,9 @@ use Rattle.std.specs.List.{filter_map}
 use Rattle.rma_lex.specs.Checked.{checked_lines}
 use Rattle.rma_lex.specs.Line.{lines}
 use Rattle.rma_call.specs.Call.{RankCalls}
-use Rattle.rma_book.specs.declared.fault.BookEnd.{BookEnd}
-use Rattle.rma_book.specs.declared.fault.BookEnd.TheVariants.{Calls, Fault}
-use Rattle.rma_book.specs.Ends.{IsEnd}
+use Rattle.rma_log.specs.declared.fault.BookEnd.{BookEnd}
+use Rattle.rma_log.specs.declared.fault.BookEnd.TheVariants.{Calls, Fault}
+use Rattle.rma_log.specs.Ends.{IsEnd}
 use Rattle.rma_sync.specs.Matching.{match_faults}
 use Rattle.rma_order.specs.declared.impossible.ImpossibleCall.{ImpossibleCall}
 use Rattle.rma_order.specs.Impossible.{AreImpossibleCalls}

@@ -1,6 +1,6 @@
 //! The outcomes of all logs.
 ghost use Rattle.std.specs.Prelude.{◌≡◌, ◌≤◌, ℕ, List, [], length, IfOk, OnOk, ◌++◌, ◌∷◌};
-ghost use Rattle.rma_book.specs.declared.fault.BookEnd.{BookEnd};
+ghost use Rattle.rma_log.specs.declared.fault.BookEnd.{BookEnd};
 ghost use Rattle.rma_stream.specs.inside.Feeding.{HaveBooks};
 ghost use Rattle.rma_stream.specs.inside.Outcome.{AreOutcomes};
 ghost use Rattle.rma_stream.specs.Findings.{AreEnds};

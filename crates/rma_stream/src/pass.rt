@@ -1,6 +1,6 @@
 //! The passes of an audit.
 ghost use Rattle.std.specs.Prelude.{◌≡◌, List, IfOk};
-ghost use Rattle.rma_book.specs.declared.fault.BookEnd.{BookEnd};
+ghost use Rattle.rma_log.specs.declared.fault.BookEnd.{BookEnd};
 ghost use Rattle.rma_stream.specs.Findings.{passes, Finds, IsFirstFailing};
 ghost use Rattle.rma_stream.specs.inside.Outcome.{AreOutcomes};
 ghost use Rattle.rma_stream.specs.inside.Run.{IsMatched};

@@ -1,6 +1,6 @@
 //! A run that is audited, and what each pass finds in it.
 ghost use Rattle.std.specs.Prelude.{◌≡◌, List, IfOk, IfSome};
-ghost use Rattle.rma_book.specs.declared.fault.BookEnd.{BookEnd};
+ghost use Rattle.rma_log.specs.declared.fault.BookEnd.{BookEnd};
 ghost use Rattle.rma_run.specs.Run.{IsRun};
 ghost use Rattle.rma_match.specs.Matches.{AreMatches};
 ghost use Rattle.rma_stream.specs.inside.Outcome.{AreOutcomes};

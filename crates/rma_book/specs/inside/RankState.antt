@@ -4,9 +4,9 @@ use Rattle.rma_lex.specs.Checked.{checked_lines}
 use Rattle.rma_lex.specs.Cutting.{Cutting}
 use Rattle.rma_lex.specs.Cutting as cutting
 use Rattle.rma_lex.specs.Line.{line_feeds}
-use Rattle.rma_book.specs.inside.Reading.{HasRead, IsReading}
-use Rattle.rma_book.specs.declared.fault.FormFault.{FormFault}
-use Rattle.rma_book.specs.declared.reader.Reader.{Reader}
+use Rattle.rma_log.specs.inside.Reading.{HasRead, IsReading}
+use Rattle.rma_log.specs.declared.fault.FormFault.{FormFault}
+use Rattle.rma_log.specs.declared.reader.Reader.{Reader}
 
 -- the text that was fed, as a cutter sees it; what was read of it; the first bad line that was found; and whether memory ran out
 pub record RankState : Type 0 where

@@ -1,6 +1,6 @@
 -- What is kept of the outcomes of some logs.
 use Rattle.std.specs.Prelude.{◌≡◌, List}
-use Rattle.rma_book.specs.declared.fault.BookEnd.{BookEnd}
+use Rattle.rma_log.specs.declared.fault.BookEnd.{BookEnd}
 use Rattle.rma_stream.specs.declared.outcome.Outcomes.{Outcomes}
 use Rattle.rma_stream.specs.Findings.{bad_lines, calls_in}
 

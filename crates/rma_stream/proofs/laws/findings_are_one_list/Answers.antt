@@ -1,5 +1,5 @@
 use Rattle.std.proofs.Common.{List, length, subst, sym}
-use Rattle.rma_book.specs.declared.fault.BookEnd.{BookEnd}
+use Rattle.rma_log.specs.declared.fault.BookEnd.{BookEnd}
 use Rattle.rma_stream.specs.Findings.{Finds, IsFirstFailing, passes}
 use Rattle.rma_stream.proofs.OutcomeLemmas.{finds_one, one_first, one_list}
 use Rattle.rma_stream.proofs.laws.findings_are_one_list.Goals as goal

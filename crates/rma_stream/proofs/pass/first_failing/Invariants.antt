@@ -1,5 +1,5 @@
 use Rattle.std.proofs.Common.{List, drop}
-use Rattle.rma_book.specs.declared.fault.BookEnd.{BookEnd}
+use Rattle.rma_log.specs.declared.fault.BookEnd.{BookEnd}
 use Rattle.rma_report.specs.declared.finding.Finding.{Finding}
 use Rattle.rma_stream.specs.Findings.{Finds, IsFirstFailing}
 use Rattle.rma_stream.specs.inside.Outcome.{AreOutcomes}

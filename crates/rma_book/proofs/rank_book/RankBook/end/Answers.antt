@@ -3,7 +3,7 @@ use Rattle.rma_lex.specs.Checked.{checked_lines}
 use Rattle.rma_lex.specs.Cutting.{Cutting}
 use Rattle.rma_book.specs.inside.RankState.{Represents}
 use Rattle.rma_lex.proofs.CheckLemmas.{length_checked_lines}
-use Rattle.rma_book.proofs.ReadingLemmas.{IsReading_closed, IsReading_all}
+use Rattle.rma_log.proofs.ReadingLemmas.{IsReading_closed, IsReading_all}
 use Rattle.rma_book.proofs.rank_book.RankBook.end.Goals as goal
 
 pub returns-clause-end : goal.returns-clause-end

@@ -1,7 +1,7 @@
 use Rattle.std.proofs.Common.{is_some, ap, ◌∙◌}
-use Rattle.rma_book.specs.Logs.{whole_lines}
+use Rattle.rma_log.specs.Logs.{whole_lines}
 use Rattle.rma_book.specs.inside.RankState.{RankState}
-use Rattle.rma_book.proofs.ReadingLemmas.{HasGood_read}
+use Rattle.rma_log.proofs.ReadingLemmas.{HasGood_read}
 use Rattle.rma_book.proofs.WholeLemmas.{whole_read}
 use Rattle.rma_book.proofs.rank_book.RankBook.ended.Goals as goal
 

@@ -2,9 +2,9 @@ use Rattle.std.proofs.Common.{◌≡◌, ◌++◌, ℕ, List, [], length, eqb-tr
 use Rattle.rma_lex.specs.Line.{line_feeds}
 use Rattle.std.proofs.lemmas.List.{append-nil, nil_from_length}
 use Rattle.rma_lex.specs.Cutting.{Cutting}
-use Rattle.rma_book.specs.declared.reader.Reader.{Reader}
+use Rattle.rma_log.specs.declared.reader.Reader.{Reader}
 use Rattle.rma_book.specs.inside.RankState.{RankState, ReadsPart}
-use Rattle.rma_book.specs.inside.Reading.{IsReading}
+use Rattle.rma_log.specs.inside.Reading.{IsReading}
 use Rattle.rma_book.proofs.rank_book.RankBook.feed.Goals as goal
 
 -- one part was read, and then another

@@ -1,8 +1,8 @@
 use Rattle.std.proofs.Common.{ap, ◌∙◌}
 use Rattle.rma_call.specs.Call.{CallTable}
-use Rattle.rma_book.specs.Logs.{whole_lines}
+use Rattle.rma_log.specs.Logs.{whole_lines}
 use Rattle.rma_book.specs.inside.RankState.{RankState}
-use Rattle.rma_book.proofs.ReadingLemmas.{HasGood_read}
+use Rattle.rma_log.proofs.ReadingLemmas.{HasGood_read}
 use Rattle.rma_book.proofs.WholeLemmas.{whole_read}
 use Rattle.rma_book.proofs.rank_book.RankBook.read_calls.Goals as goal
 

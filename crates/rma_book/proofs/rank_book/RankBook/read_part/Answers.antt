@@ -2,8 +2,8 @@ use Rattle.std.proofs.Common.{◌≡◌, ◌+◌, ◌++◌, false, length, take,
 use Rattle.rma_lex.specs.Checked.{checked_lines}
 use Rattle.rma_lex.specs.Cutting.{Cutting}
 use Rattle.rma_book.specs.inside.RankState.{RankState}
-use Rattle.rma_book.specs.inside.Reading.{HasRead, IsReading}
-use Rattle.rma_book.proofs.ReadingLemmas.{IsReading_fed}
+use Rattle.rma_log.specs.inside.Reading.{HasRead, IsReading}
+use Rattle.rma_log.proofs.ReadingLemmas.{IsReading_fed}
 use Rattle.rma_book.proofs.WholeLemmas.{whole_handed}
 use Rattle.rma_book.proofs.rank_book.RankBook.read_part.Goals as goal
 

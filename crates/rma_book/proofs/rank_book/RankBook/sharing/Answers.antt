@@ -1,6 +1,6 @@
 use Rattle.std.proofs.Common.{[], refl, ap, subst, sym, take}
 use Rattle.rma_lex.specs.Cutting.{Cutting}
-use Rattle.rma_book.specs.inside.Reading.{HasRead}
+use Rattle.rma_log.specs.inside.Reading.{HasRead}
 use Rattle.rma_book.proofs.rank_book.RankBook.sharing.Goals as goal
 
 pub returns : goal.returns

@@ -1,8 +1,8 @@
 use Rattle.std.proofs.Common.{Option, ap, subst, sym, ◌∙◌}
-use Rattle.rma_book.specs.Logs.{IsFirstFault, whole_lines}
-use Rattle.rma_book.specs.declared.fault.FormFault.{FormFault}
+use Rattle.rma_log.specs.Logs.{IsFirstFault, whole_lines}
+use Rattle.rma_log.specs.declared.fault.FormFault.{FormFault}
 use Rattle.rma_book.specs.inside.RankState.{RankState}
-use Rattle.rma_book.proofs.ReadingLemmas.{first_fault}
+use Rattle.rma_log.proofs.ReadingLemmas.{first_fault}
 use Rattle.rma_book.proofs.WholeLemmas.{whole_read}
 use Rattle.rma_book.proofs.rank_book.RankBook.state.Goals as goal
 

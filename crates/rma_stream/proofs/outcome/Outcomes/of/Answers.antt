@@ -3,7 +3,7 @@ use Rattle.std.proofs.lemmas.List.{take_more, length-take}
 use Rattle.std.specs.Vec.Iter.{into_iter_items}
 use Rattle.rma_lex.specs.Checked.{checked_lines}
 use Rattle.rma_book.specs.inside.RankState.{RankState, Represents}
-use Rattle.rma_book.specs.Ends.{IsEnd}
+use Rattle.rma_log.specs.Ends.{IsEnd}
 use Rattle.rma_stream.specs.Findings.{AreEnds}
 use Rattle.rma_stream.proofs.BookLemmas.{book_at}
 use Rattle.rma_stream.proofs.OutcomeLemmas.{AreEnds_push, length_AreEnds}

@@ -1,7 +1,7 @@
 use Rattle.std.proofs.Common.{◌≡◌, ◌≤◌, ◌++◌, ℕ, List, length, take}
 use Rattle.std.specs.Vec.Iter.{into_iter_items}
 use Rattle.rma_base.specs.Limits.{rank_limit}
-use Rattle.rma_book.specs.declared.fault.BookEnd.{BookEnd}
+use Rattle.rma_log.specs.declared.fault.BookEnd.{BookEnd}
 use Rattle.rma_stream.specs.inside.Feeding.{HaveBooks}
 use Rattle.rma_stream.specs.Findings.{AreEnds}
 use Rattle.rma_stream.specs.inside.Outcome.{AreOutcomes}

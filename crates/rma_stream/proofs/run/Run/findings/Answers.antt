@@ -2,7 +2,7 @@ use Rattle.std.proofs.Common.{◌≡◌, List, map, IfOk, Result, Ok, Err, sym, 
 use Rattle.std.specs.List.{filter_map}
 use Rattle.rma_base.specs.declared.memory.Memory.{Memory}
 use Rattle.rma_call.specs.Call.{RankCalls}
-use Rattle.rma_book.specs.declared.fault.BookEnd.{BookEnd}
+use Rattle.rma_log.specs.declared.fault.BookEnd.{BookEnd}
 use Rattle.rma_report.specs.declared.finding.Finding.{Finding}
 use Rattle.rma_report.specs.declared.finding.Finding.TheVariants.{Mismatch}
 use Rattle.rma_sync.specs.Matching.{match_faults}

@@ -1,5 +1,0 @@
-use Rattle.rma_book.proofs.OutcomeLemmas.{outcome}
-use Rattle.rma_book.proofs.laws.every_log_has_an_outcome.Goals as goal
-
-pub returns : goal.returns
-returns c = outcome

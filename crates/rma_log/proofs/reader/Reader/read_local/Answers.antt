@@ -1,0 +1,19 @@
+use Rattle.std.proofs.Common.{◌∙◌, None, refl}
+use Rattle.rma_form.specs.declared.event.Event.TheVariants.{Local}
+use Rattle.rma_elsewhere.specs.Elsewhere.{IsStatedBy}
+use Rattle.rma_judge.proofs.CallLemmas.{OnOk_then}
+use Rattle.rma_log.proofs.ReadingLemmas.{Reads_taken, Takes_access, said_words}
+use Rattle.rma_log.proofs.reader.Reader.read_local.Goals as goal
+
+pub returns-in-Good : goal.returns-in-Good
+returns-in-Good c =
+    OnOk_then c.take.result c.take.ensures
+    (λ appends text site.
+    let old = c.args.self.now in
+    let event = Local c.args.line.now in
+    let appended = appends text site in
+    Reads_taken old c.take.new.self c.args.no (record { event = event; site = text })
+    (Takes_access old c.take.new.self c.local.new.self c.args.no event text _ (None) c.in-Good.what c.in-Good.request appended (rw c.in-Good.is at c.in_ok-reason.ensures.judged)
+    (λ events h. rw c.in-Good.is at (c.in_ok-reason.ensures.good events h)) refl refl refl refl
+    (said_words _ (λ own. IsStatedBy old.lines.version own event) c.args.words c.requires.words))
+    (appended.fault ∙ c.requires.fault))
