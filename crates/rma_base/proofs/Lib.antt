@@ -1,3 +1,4 @@
 pub mod NameLemmas
 pub mod SiteLemmas
 pub mod RankSetLemmas
+pub mod SameLemmas

@@ -11,6 +11,7 @@ ghost use Rattle.rma_base.specs.inside.Key.{key_of, key_writes};
 
 use crate::limits::NAME;
 use crate::memory::Memory;
+use crate::same::is_same;
 use arrayvec::ArrayString;
 use std::alloc::Global;
 use std::hash::{FoldHasher, Hash, Hasher};
@@ -111,7 +112,7 @@ impl PartialEq for Name {
     ghost laws = { Cmp.partial_equiv_from_equiv nat_list_eq_equiv };
 
     fn eq(&self, other: &Self) -> bool {
-        self.text() == other.text()
+        is_same(self.bytes(), other.bytes())
     }
 }
 

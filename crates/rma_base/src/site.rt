@@ -13,7 +13,7 @@ use std::rc::Rc;
 use std::str;
 
 /// How many bytes of a site stand in one place with what counts its copies. A longer text has a place of its own.
-const SHORT: usize = 64;
+const SHORT: usize = 32;
 
 /// A site of the log, without its `@`. Copies share one place of memory, which has the text.
 #[derive(Debug, Drop)]

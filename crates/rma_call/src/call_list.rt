@@ -2,7 +2,7 @@
 ghost use Rattle.std.specs.Prelude.{◌≡◌, ◌+◌, ◌<◌, ◌^◌, ◌++◌, [], ◌∷◌, ℕ, length, slice_get, option_map, Some, None, Ok, false, IfSome, IfOk, OnOk, OnErr};
 ghost use Rattle.std.specs.Option.{option_and_then};
 ghost use Rattle.rma_call.specs.declared.what.What.{What};
-ghost use Rattle.rma_call.specs.declared.what.What.TheVariants.{Rma};
+ghost use Rattle.rma_call.specs.declared.what.What.TheVariants.{Rma, Sync};
 ghost use Rattle.rma_call.specs.declared.rma.RmaCall.{RmaCall};
 ghost use Rattle.rma_call.specs.Rma.{placed};
 ghost use Rattle.rma_call.specs.Call.{Call, no_calls, call_of, what_of};
@@ -13,7 +13,7 @@ use crate::entries::{Entries, Entry};
 use crate::group::Group;
 use crate::groups::{Groups, Place, next_number};
 use crate::rma::Placement;
-use crate::what::{What, WhatRef};
+use crate::what::{SyncCall, What, WhatRef};
 use rma_base::{LineNo, Memory, Site};
 use std::alloc::Global;
 use std::marker::Model;
@@ -152,6 +152,23 @@ impl CallList {
     {
         let number = next_number(self.places.len())?;
         let place = self.groups.put(what)?;
+        self.places.push(place)?;
+        Ok(number)
+    }
+
+    /// The same of a call that accesses no memory.
+    ///
+    /// # Errors
+    ///
+    /// `Memory` also where the table is full.
+    #[inline]
+    pub fn add_sync(&mut self, call: SyncCall) -> Result<u32, Memory>
+        ensures number { IfOk result (λ number. number ≡ length self.old.whats) }
+        ensures ok { OnOk result (self.new ≡ record self.old { whats = self.old.whats ++ Sync call ∷ [] }) }
+        ensures err { OnErr result (self.new ≡ self.old) }
+    {
+        let number = next_number(self.places.len())?;
+        let place = self.groups.put_sync(call)?;
         self.places.push(place)?;
         Ok(number)
     }

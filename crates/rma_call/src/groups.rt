@@ -126,6 +126,25 @@ impl Groups {
         Ok(Place::PlacedRma(push(&mut self.placed, PlacedRma { call, place })?))
     }
 
+    /// Puts what a call does that accesses no memory at the end of the table of its group.
+    ///
+    /// # Errors
+    ///
+    /// `Memory` also where the table is full.
+    pub(crate) fn put_sync(&mut self, call: SyncCall) -> Result<Place, Memory>
+        ensures there { IfOk result (λ place. IsThere self.new place) }
+        ensures is { IfOk result (λ place. what_at self.new place ≡ what.Sync call) }
+        ensures grows { Grows self.old self.new }
+    {
+        match call {
+            SyncCall::Frame(call) => Ok(Place::Frame(push(&mut self.frames, call)?)),
+            SyncCall::Message(call) => Ok(Place::Message(push(&mut self.messages, call)?)),
+            SyncCall::Window(call) => Ok(Place::Window(push(&mut self.windows, call)?)),
+            SyncCall::Epoch(call) => Ok(Place::Epoch(push(&mut self.epochs, call)?)),
+            SyncCall::Moving(call) => Ok(Place::Moving(push(&mut self.movings, call)?)),
+        }
+    }
+
     /// Puts what a call does at the end of the table of its group.
     ///
     /// # Errors
@@ -137,13 +156,7 @@ impl Groups {
         ensures grows { Grows self.old self.new }
     {
         match what {
-            What::Sync(SyncCall::Frame(call)) => Ok(Place::Frame(push(&mut self.frames, call)?)),
-            What::Sync(SyncCall::Message(call)) => {
-                Ok(Place::Message(push(&mut self.messages, call)?))
-            }
-            What::Sync(SyncCall::Window(call)) => Ok(Place::Window(push(&mut self.windows, call)?)),
-            What::Sync(SyncCall::Epoch(call)) => Ok(Place::Epoch(push(&mut self.epochs, call)?)),
-            What::Sync(SyncCall::Moving(call)) => Ok(Place::Moving(push(&mut self.movings, call)?)),
+            What::Sync(call) => self.put_sync(call),
             What::Rma(call) => Ok(Place::Rma(push(&mut self.rmas, call)?)),
             What::Local(call) => Ok(Place::Local(push(&mut self.locals, call)?)),
         }

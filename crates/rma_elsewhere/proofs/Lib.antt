@@ -1,2 +1,3 @@
+pub mod AloneLemmas
 pub mod LineLemmas
 pub mod CallLemmas

@@ -29,12 +29,13 @@ use Rattle.rma_form.proofs.KindLemmas.{bind_ok, made_from}
 use Rattle.rma_form.specs.Tails.{Tail, TailValue, tail_counted, tail_of}
 use Rattle.rma_known.specs.Elsewhere.{AreElsewhere, Details, IsElsewhere, Says, SaysAt, form_of_call, joined, name_alone, no_details, number_alone, part_of, places_of, request_alone}
 use Rattle.rma_known.specs.declared.call_form.CallForm.{CallForm}
-use Rattle.rma_known.specs.declared.call_form.CallForm.TheVariants.{Put, Get, Accumulate, GetAccumulate, FetchAndOp, CompareAndSwap, Load, Store, Poll, Comm, Barrier, Send, Recv, Isend, Irecv, Wait, Received, Fence, Post, Start, Complete, Expwait, Lock, Unlock, LockAll, UnlockAll, Flush, FlushAll, FlushLocal, FlushLocalAll, Sync, Attach, Detach, Bcast, Scatter, Gather, Reduce, Allreduce, Allgather, Alltoall}
+use Rattle.rma_known.specs.declared.call_form.CallForm.TheVariants.{Put, Get, Accumulate, GetAccumulate, FetchAndOp, CompareAndSwap, Load, Store, Poll, Comm, Barrier, Send, Recv, Isend, Irecv, Wait, Received, Fence, Post, PostOne, Start, StartOne, Complete, Expwait, Lock, Unlock, LockAll, UnlockAll, Flush, FlushAll, FlushLocal, FlushLocalAll, Sync, Attach, Detach, Bcast, Scatter, Gather, Reduce, Allreduce, Allgather, Alltoall}
 use Rattle.rma_known.specs.declared.call_form.Part.{Part}
 use Rattle.rma_known.specs.declared.call_form.Part.TheVariants as part
 use Rattle.rma_known.specs.declared.call_form.Place.{Place}
 use Rattle.rma_known.specs.declared.call_form.Place.TheVariants.{Same, Rank, Address, Tag, Name, Request}
 use Rattle.rma_elsewhere.specs.Elsewhere.{IsStatedBy, event_at}
+use Rattle.rma_elsewhere.proofs.AloneLemmas.{number_ranks}
 
 -- what went well has one value
 ok_one : {A : Type 0} (x y : A) → ◌≡◌ {A = Result A FormReason} (Ok x) (Ok y) → x ≡ y
@@ -118,6 +119,9 @@ target_at = record { kind = target; place = Rank; value = λ n. Some (record { 0
 
 abbrev rank_at : Numbered
 rank_at = record { kind = rank; place = Rank; value = λ n. record { 0 = n }; reads = λ v word other said is. (is.0, number_rank v is.0 other is.1, is.2) }
+
+abbrev alone_at : Numbered
+alone_at = record { kind = ranks; place = Rank; value = λ n. n ∷ []; reads = λ v word other said is. (is.0, number_ranks v is.0 other is.1, is.2) }
 
 abbrev address_at : Numbered
 address_at = record { kind = address; place = Address; value = λ n. n; reads = λ v word other said is. (is.0, is.1, is.2) }
@@ -312,7 +316,9 @@ fields_of Wait = requested ∷ []
 fields_of Received = requested ∷ []
 fields_of Fence = named ∷ []
 fields_of Post = named ∷ kept ranks ∷ []
+fields_of PostOne = named ∷ numbered alone_at ∷ []
 fields_of Start = named ∷ kept ranks ∷ []
+fields_of StartOne = named ∷ numbered alone_at ∷ []
 fields_of Complete = named ∷ []
 fields_of Expwait = named ∷ []
 fields_of Lock = named ∷ numbered rank_at ∷ kept lock ∷ []

@@ -48,11 +48,13 @@ window_at (Attach window address size) (other ∷ []) (Some name) = Attach name 
 window_at (Detach window address) (other ∷ []) (Some name) = Detach name other
 window_at call _ _ = call
 
--- an epoch of another window, for another target
+-- an epoch of another window, for another target, or for a group that has another rank alone
 abbrev pub epoch_at : EpochCall → List ℕ → Option (List ℕ) → EpochCall
 epoch_at (Fence window assertions) [] (Some name) = Fence name assertions
 epoch_at (Post window origins assertions) [] (Some name) = Post name origins assertions
 epoch_at (Start window targets assertions) [] (Some name) = Start name targets assertions
+epoch_at (Post window origins assertions) (rank ∷ []) (Some name) = Post name (rank ∷ []) assertions
+epoch_at (Start window targets assertions) (rank ∷ []) (Some name) = Start name (rank ∷ []) assertions
 epoch_at (Complete window) [] (Some name) = Complete name
 epoch_at (Expwait window) [] (Some name) = Expwait name
 epoch_at (Lock window target kind assertions) (rank ∷ []) (Some name) = Lock name (record { 0 = rank }) kind assertions

@@ -1,6 +1,7 @@
 //! The forms of calls, by which their lines are known again. A form decides nothing: whoever notes a line by it finds out whether
 //! the line has it.
 
+use rma_base::RankSet;
 use rma_call::{EpochCall, FrameCall, LocalAccess, MessageCall, MovingCall, SyncCall, WindowCall};
 use rma_form::Access;
 use rma_known::CallForm;
@@ -70,7 +71,9 @@ fn form_of_window(call: &WindowCall) -> Option<CallForm> {
 fn form_of_epoch(call: &EpochCall) -> CallForm {
     match call {
         EpochCall::Fence { .. } => CallForm::Fence,
+        EpochCall::Post { origins, .. } if is_one(origins) => CallForm::PostOne,
         EpochCall::Post { .. } => CallForm::Post,
+        EpochCall::Start { targets, .. } if is_one(targets) => CallForm::StartOne,
         EpochCall::Start { .. } => CallForm::Start,
         EpochCall::Complete { .. } => CallForm::Complete,
         EpochCall::Expwait { .. } => CallForm::Expwait,
@@ -84,6 +87,11 @@ fn form_of_epoch(call: &EpochCall) -> CallForm {
         EpochCall::FlushLocalAll { .. } => CallForm::FlushLocalAll,
         EpochCall::Sync { .. } => CallForm::Sync,
     }
+}
+
+/// Whether a group has one rank.
+fn is_one(group: &RankSet) -> bool {
+    group.numbers().len() == 1
 }
 
 /// The form of a collective that moves data.

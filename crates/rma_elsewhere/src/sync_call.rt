@@ -7,36 +7,29 @@ ghost use Rattle.rma_call.specs.declared.what.SyncCall.TheVariants as sync;
 ghost use Rattle.rma_call.specs.declared.what.What.TheVariants.{Sync};
 ghost use Rattle.rma_elsewhere.specs.Elsewhere.{DoesElsewhere, IsSyncAt, epoch_at, frame_at, message_at, moving_at, window_at};
 
-use rma_base::{Memory, Name, Rank};
+use rma_base::{Memory, Name, Rank, RankSet};
 use rma_call::{
     EpochCall, FrameCall, MessageCall, MovingCall, Received, SyncCall, WhatRef, WindowCall,
 };
 use rma_known::Particulars;
+use std::alloc::Global;
 
 /// The same call that accesses no memory with other particulars, where it has a request or none. None, where it is of no such
-/// kind, or has other particulars.
+/// kind, or has other particulars. The name is taken out of the particulars.
 pub fn sync_elsewhere(
+    alloc: Global,
     requests: bool,
     what: WhatRef<'_>,
-    to: &Particulars,
+    to: &mut Particulars,
 ) -> Result<Option<SyncCall>, Memory>
-    ensures { IfOk result (λ made. IfSome made (λ call. (from : List ℕ) → DoesElsewhere (what_of what.entry) requests from to.now (Sync call) to.now.request)) }
+    ensures made { IfOk result (λ made. IfSome made (λ call. (from : List ℕ) → DoesElsewhere (what_of what.entry) requests from to.old (Sync call) to.old.request)) }
+    ensures request { to.new.request ≡ to.old.request }
 {
     if !agrees(requests, to) {
         return Ok(None);
     }
-    call_at(what, to.numbers(), copied(to.name())?)
-}
-
-/// The same name.
-#[inline]
-fn copied(name: Option<&Name>) -> Result<Option<Name>, Memory>
-    ensures { IfOk result (λ same. same ≡ option_copied name.entry) }
-{
-    match name {
-        Some(name) => Ok(Some(name.copy()?)),
-        None => Ok(None),
-    }
+    let name = to.take_out_name();
+    call_at(alloc, what, to.numbers(), name)
 }
 
 /// Whether there is a request where a call has one.
@@ -48,14 +41,19 @@ fn agrees(requests: bool, to: &Particulars) -> bool
 }
 
 /// The same call with other numbers and another name. None, where it has other ones or accesses memory.
-fn call_at(what: WhatRef<'_>, to: &[u64], name: Option<Name>) -> Result<Option<SyncCall>, Memory>
+fn call_at(
+    alloc: Global,
+    what: WhatRef<'_>,
+    to: &[u64],
+    name: Option<Name>,
+) -> Result<Option<SyncCall>, Memory>
     ensures { IfOk result (λ found. IfSome found (IsSyncAt (what_of what.entry) to.now name)) }
 {
     match what {
         WhatRef::Frame(call) => frame_elsewhere(call, to, name),
         WhatRef::Message(call) => Ok(message_elsewhere(call, to, name)),
         WhatRef::Window(call) => Ok(window_elsewhere(call, to, name)),
-        WhatRef::Epoch(call) => epoch_elsewhere(call, to, name),
+        WhatRef::Epoch(call) => epoch_elsewhere(alloc, call, to, name),
         WhatRef::Moving(call) => Ok(moving_elsewhere(call, to, name)),
         WhatRef::Rma(_) => Ok(None),
         WhatRef::Local(_) => Ok(None),
@@ -183,8 +181,9 @@ fn window_elsewhere(call: &WindowCall, to: &[u64], name: Option<Name>) -> Option
     }
 }
 
-/// The same call on another window, for another target if it is for one.
+/// The same call on another window, for another rank if it is for one.
 fn epoch_elsewhere(
+    alloc: Global,
     call: &EpochCall,
     to: &[u64],
     name: Option<Name>,
@@ -197,14 +196,14 @@ fn epoch_elsewhere(
     match to {
         [] => epoch_on(call, window),
         [target] => match u32::try_from(*target) {
-            Ok(target) => Ok(epoch_for(call, Rank(target), window)),
+            Ok(target) => epoch_for(alloc, call, Rank(target), window),
             Err(_) => Ok(None),
         },
         _ => Ok(None),
     }
 }
 
-/// The same call on another window. None, where it is for a target.
+/// The same call on another window, for the same group if it is for one. None, where it is for a target.
 fn epoch_on(call: &EpochCall, window: Name) -> Result<Option<SyncCall>, Memory>
     ensures { IfOk result (λ found. IfSome found (λ moved. moved ≡ sync.Epoch (epoch_at call.now [] (Some window)))) }
 {
@@ -246,11 +245,26 @@ fn epoch_on(call: &EpochCall, window: Name) -> Result<Option<SyncCall>, Memory>
     Ok(Some(SyncCall::Epoch(call)))
 }
 
-/// The same call on another window for another target. None, where it is for none.
-fn epoch_for(call: &EpochCall, target: Rank, window: Name) -> Option<SyncCall>
-    ensures { IfSome result (λ moved. moved ≡ sync.Epoch (epoch_at call.now (target.0 ∷ []) (Some window))) }
+/// The same call on another window for another target, or for a group that has this rank alone. None, where it is for neither.
+fn epoch_for(
+    alloc: Global,
+    call: &EpochCall,
+    target: Rank,
+    window: Name,
+) -> Result<Option<SyncCall>, Memory>
+    ensures { IfOk result (λ found. IfSome found (λ moved. moved ≡ sync.Epoch (epoch_at call.now (target.0 ∷ []) (Some window)))) }
 {
     let call = match call {
+        EpochCall::Post { assertions, .. } => EpochCall::Post {
+            window,
+            origins: alone(alloc, target)?,
+            assertions: *assertions,
+        },
+        EpochCall::Start { assertions, .. } => EpochCall::Start {
+            window,
+            targets: alone(alloc, target)?,
+            assertions: *assertions,
+        },
         EpochCall::Lock {
             kind,
             assertions,
@@ -264,9 +278,19 @@ fn epoch_for(call: &EpochCall, target: Rank, window: Name) -> Option<SyncCall>
         EpochCall::Unlock { .. } => EpochCall::Unlock { window, target },
         EpochCall::Flush { .. } => EpochCall::Flush { window, target },
         EpochCall::FlushLocal { .. } => EpochCall::FlushLocal { window, target },
-        _ => return None,
+        _ => return Ok(None),
     };
-    Some(SyncCall::Epoch(call))
+    Ok(Some(SyncCall::Epoch(call)))
+}
+
+/// The group that has this rank alone.
+fn alone(alloc: Global, rank: Rank) -> Result<RankSet, Memory>
+    ensures { IfOk result (λ ranks. ranks ≡ rank.0 ∷ []) }
+{
+    match RankSet::new(alloc, &[rank]) {
+        Ok(ranks) => Ok(ranks),
+        Err(_) => Err(Memory),
+    }
 }
 
 /// The same collective on another communicator, with other bytes, and another root if it has one.

@@ -7,7 +7,7 @@ ghost use Rattle.rma_field.specs.Steps.{Gives};
 use crate::number::refused;
 use crate::parse_error::ParseError;
 use indexmap::IndexMap;
-use rma_base::{FormReason, Memory, Name, NameError, Site};
+use rma_base::{FormReason, Memory, Name, NameError, Site, is_same};
 use std::alloc::Global;
 use std::hash::{FoldHasher, Hasher};
 use std::marker::Model;
@@ -103,7 +103,7 @@ impl Texts {
     {
         let key = key_of(text);
         match self.at_hand.get(slot_of(key)) {
-            Some(Some(known)) if known.bytes() == text => copied(known),
+            Some(Some(known)) if is_same(known.bytes(), text) => copied(known),
             _ => self.kept_name(key, text),
         }
     }
@@ -115,7 +115,7 @@ impl Texts {
     {
         let key = key_of(text);
         match self.at_hand.get(slot_of(key)) {
-            Some(Some(known)) if known.bytes() == text => copied(known),
+            Some(Some(known)) if is_same(known.bytes(), text) => copied(known),
             _ => self.new_request(key, text),
         }
     }
@@ -126,7 +126,7 @@ impl Texts {
         ensures { Gives result (name_of text.now) }
     {
         match self.names.get(&key) {
-            Some(known) if known.bytes() == text => {
+            Some(known) if is_same(known.bytes(), text) => {
                 let name = copied(known)?;
                 self.put_at_hand(key, name)
             }
@@ -181,7 +181,7 @@ impl Texts {
     {
         let key = key_of(text);
         match self.sites.get(&key) {
-            Some(known) if known.bytes() == text => match known.copy() {
+            Some(known) if is_same(known.bytes(), text) => match known.copy() {
                 Ok(site) => Ok(site),
                 Err(_) => Err(ParseError::Memory),
             },
@@ -233,7 +233,7 @@ fn begins_with(text: &[u8], front: &[u8]) -> bool
     ensures { result ≡ true → take (length front.now) text.now ≡ front.now }
 {
     match text.get(..front.len()) {
-        Some(own) => own == front,
+        Some(own) => is_same(own, front),
         None => false,
     }
 }

@@ -1,5 +1,5 @@
 -- Calls, and what they do among datatypes.
-use Rattle.std.proofs.Common.{◌≡◌, ℕ, List, Option, Some, None, Result, Ok, Err, OnOk, option_map, refl, sym, ap, ◌∙◌}
+use Rattle.std.proofs.Common.{◌≡◌, ℕ, List, Option, Some, None, Result, Ok, Err, OnOk, option_map, ap, ◌∙◌}
 use Rattle.std.specs.Option.{option_or}
 use Rattle.rma_base.specs.declared.form_reason.FormReason.{FormReason}
 use Rattle.rma_call.specs.declared.rma.RmaCall.{RmaCall}

@@ -14,7 +14,7 @@ ghost use Rattle.rma_judge.specs.Names.{is_same, of_name, world, has_comm, had_w
 ghost use Rattle.rma_judge.specs.Judging.{first_that_holds, name_reason, use_reason, lacks_comm, lacks_window, is_far, leaves_out, leaves_space, attaches_wrongly};
 ghost use Rattle.rma_judge.specs.inside.BookState.{Represents, IsJudged, IsTaken, reason_in, number_in};
 ghost use Rattle.rma_judge.specs.inside.CallEvent.{IsCall, IsCallOf};
-ghost use Rattle.rma_judge.specs.inside.Naming.{value_of};
+ghost use Rattle.rma_judge.specs.inside.Naming.{more_value, value_of};
 
 mod access;
 mod datatype;
@@ -22,7 +22,7 @@ mod lookup;
 mod request;
 
 use crate::names::WindowState;
-use crate::naming::{Naming, Said};
+use crate::naming::{More, Naming, Said};
 use crate::requests::Requests;
 pub use access::JudgedAccess;
 use indexmap::IndexMap;
@@ -181,7 +181,7 @@ impl Book {
             Said::WithRoot(comm, root) => Ok(self.judged_for(self.root_reason(comm, root))),
             Said::Making(new) => self.judge_making(&new),
             Said::Waiting(request, from) => self.judge_waiting(request, from),
-            Said::More(naming) => self.judge(&naming),
+            Said::More(more) => self.judge_more(more),
         }
     }
 
@@ -242,6 +242,17 @@ impl Book {
             Some(ranks) if !ranks.has(root) => Some(FormReason::RootNotMember),
             _ => None,
         }
+    }
+
+    // Judges a call that says more than most, and takes it where it is good. It stands apart, since few do.
+    #[inline(never)]
+    fn judge_more(&mut self, more: More<'_>) -> Result<Judged, Memory>
+        ensures judged { IfOk result (λ judged. (event : Event) → more_value more.entry ≡ attributes_of event → IsCall self.old.types event → IsJudged self.old self.new event (reason_in judged)) }
+        ensures number { IfOk result (λ judged. reason_in judged ≡ None → (events : List Event) → Represents self.old events
+            → number_in judged ≡ request_number events (more_value more.entry)) }
+        ensures fits { IfOk result (λ judged. IfSome (number_in judged) (λ number. number + 1 < 2 ^ 32)) }
+    {
+        self.judge(&more.naming())
     }
 
     // Judges a call, and takes it where it is good.

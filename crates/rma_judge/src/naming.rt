@@ -9,7 +9,7 @@ ghost use Rattle.rma_type.specs.Table.{Table};
 ghost use Rattle.rma_judge.specs.Calls.{what_in};
 ghost use Rattle.rma_judge.specs.inside.CallEvent.{request_of};
 ghost use Rattle.rma_judge.specs.Naming.{attributes_of, created_state, no_attributes, on_comm, request_that, with_access, with_peer};
-ghost use Rattle.rma_judge.specs.inside.Naming.{said_value, value_of, named, nothing};
+ghost use Rattle.rma_judge.specs.inside.Naming.{more_value, said_value, value_of, named, nothing};
 
 use crate::names::WindowState;
 use rma_base::{Name, Rank, RankSet};
@@ -54,7 +54,23 @@ pub(crate) struct NewRequest<'a> {
     pub(crate) receives: bool,
 }
 
-/// What a call says of names and ranks. Most say one thing or two, and local accesses none.
+/// What a call says of names and ranks that says more than most.
+#[derive(Clone, Copy)]
+pub(crate) enum More<'a> {
+    /// A communicator is declared, with its members.
+    Declaring(&'a Name, &'a RankSet),
+    /// What this call on a window says.
+    OfWindow(&'a WindowCall),
+    /// The window has to be there, and a log has to be that of each rank.
+    WithGroup(&'a Name, &'a RankSet),
+    /// The window has to be there, a log has to be that of the target, if there is one, and the request is made.
+    WithRequest(&'a Name, Option<Rank>, &'a Name),
+    /// A log has to be that of the rank, if there is one.
+    From(Option<Rank>),
+}
+
+/// What a call says of names and ranks. Most say one thing or two, and local accesses none. It is small, since each call of a log
+/// is judged by it.
 pub(crate) enum Said<'a> {
     /// Nothing.
     Nothing,
@@ -72,8 +88,8 @@ pub(crate) enum Said<'a> {
     Making(NewRequest<'a>),
     /// The request has to be pending, and a receive where a message came from a rank, of which there has to be a log.
     Waiting(&'a Name, Option<Rank>),
-    /// All this.
-    More(Naming<'a>),
+    /// More than that.
+    More(More<'a>),
 }
 
 impl<'a> Said<'a> {
@@ -85,7 +101,7 @@ impl<'a> Said<'a> {
         match call {
             WhatRef::Frame(call) => of_frame(call),
             WhatRef::Message(call) => of_message(call, request),
-            WhatRef::Window(call) => of_window(call),
+            WhatRef::Window(call) => Said::More(More::OfWindow(call)),
             WhatRef::Epoch(call) => of_epoch(call),
             WhatRef::Moving(call) => of_moving(call),
             WhatRef::Rma(call) => of_access(call.window(), call.target(), request),
@@ -98,11 +114,7 @@ fn of_frame(call: &FrameCall) -> Said<'_>
     ensures { (request : Option (List ℕ)) → said_value result ≡ attributes_of (Call (sync.Frame call.now) request) }
 {
     match call {
-        FrameCall::Comm { comm, ranks } => Said::More(Naming {
-            declared: Some((comm, ranks)),
-            group: Some(ranks),
-            ..nothing()
-        }),
+        FrameCall::Comm { comm, ranks } => Said::More(More::Declaring(comm, ranks)),
         FrameCall::Barrier { comm } => Said::OnComm(comm),
     }
 }
@@ -159,47 +171,7 @@ fn of_wait(received: Option<Received>, request: Option<&Name>) -> Said<'_>
     };
     match request {
         Some(request) => Said::Waiting(request, from),
-        None => Said::More(Naming {
-            rank: from,
-            ..nothing()
-        }),
-    }
-}
-
-fn of_window(call: &WindowCall) -> Said<'_>
-    ensures { (request : Option (List ℕ)) → said_value result ≡ attributes_of (Call (sync.Window call.now) request) }
-{
-    match call {
-        WindowCall::Create {
-            window,
-            comm,
-            base,
-            size,
-            dynamic,
-            ..
-        } => Said::More(Naming {
-            created: Some(window),
-            window: Some((window, created_state(*dynamic))),
-            memory: Some((*base, *size)),
-            ..on_comm(comm)
-        }),
-        WindowCall::Free { window } => Said::More(Naming {
-            window: Some((window, WindowState::Freed)),
-            ..on_window(window)
-        }),
-        WindowCall::Attach {
-            window,
-            address,
-            size,
-        } => Said::More(Naming {
-            memory: Some((*address, *size)),
-            attached: Some(window),
-            ..on_window(window)
-        }),
-        WindowCall::Detach { window, .. } => Said::More(Naming {
-            attached: Some(window),
-            ..on_window(window)
-        }),
+        None => Said::More(More::From(from)),
     }
 }
 
@@ -212,12 +184,12 @@ fn of_epoch(call: &EpochCall) -> Said<'_>
             window,
             origins,
             ..
-        } => Said::More(with_group(window, origins)),
+        } => Said::More(More::WithGroup(window, origins)),
         EpochCall::Start {
             window,
             targets,
             ..
-        } => Said::More(with_group(window, targets)),
+        } => Said::More(More::WithGroup(window, targets)),
         EpochCall::Complete { window } => Said::OnWindow(window),
         EpochCall::Expwait { window } => Said::OnWindow(window),
         EpochCall::Lock { window, target, .. } => Said::WithTarget(window, *target),
@@ -243,6 +215,68 @@ fn of_moving(call: &MovingCall) -> Said<'_>
         MovingCall::Allreduce { comm, .. } => Said::OnComm(comm),
         MovingCall::Allgather { comm, .. } => Said::OnComm(comm),
         MovingCall::Alltoall { comm, .. } => Said::OnComm(comm),
+    }
+}
+
+impl<'a> More<'a> {
+    /// The same, field by field.
+    pub(crate) fn naming(self) -> Naming<'a>
+        ensures { value_of result ≡ more_value self.entry }
+    {
+        match self {
+            More::Declaring(comm, ranks) => Naming {
+                declared: Some((comm, ranks)),
+                group: Some(ranks),
+                ..nothing()
+            },
+            More::OfWindow(call) => with_window(call),
+            More::WithGroup(window, ranks) => Naming {
+                group: Some(ranks),
+                ..on_window(window)
+            },
+            More::WithRequest(window, target, request) => {
+                with_access(window, target, Some(request))
+            }
+            More::From(rank) => Naming { rank, ..nothing() },
+        }
+    }
+}
+
+/// What a call on a window says.
+fn with_window(call: &WindowCall) -> Naming<'_>
+    ensures { (request : Option (List ℕ)) → value_of result ≡ attributes_of (Call (sync.Window call.now) request) }
+{
+    match call {
+        WindowCall::Create {
+            window,
+            comm,
+            base,
+            size,
+            dynamic,
+            ..
+        } => Naming {
+            created: Some(window),
+            window: Some((window, created_state(*dynamic))),
+            memory: Some((*base, *size)),
+            ..on_comm(comm)
+        },
+        WindowCall::Free { window } => Naming {
+            window: Some((window, WindowState::Freed)),
+            ..on_window(window)
+        },
+        WindowCall::Attach {
+            window,
+            address,
+            size,
+        } => Naming {
+            memory: Some((*address, *size)),
+            attached: Some(window),
+            ..on_window(window)
+        },
+        WindowCall::Detach { window, .. } => Naming {
+            attached: Some(window),
+            ..on_window(window)
+        },
     }
 }
 
@@ -306,17 +340,7 @@ fn of_access<'a>(window: &'a Name, target: Option<Rank>, request: Option<&'a Nam
     match (target, request) {
         (None, None) => Said::OnWindow(window),
         (Some(target), None) => Said::WithTarget(window, target),
-        (_, Some(_)) => Said::More(with_access(window, target, request)),
-    }
-}
-
-/// A call on a window, for some ranks.
-fn with_group<'a>(window: &'a Name, ranks: &'a RankSet) -> Naming<'a>
-    ensures { result ≡ record nothing { needed_window = Some window.entry; group = Some ranks.entry } }
-{
-    Naming {
-        group: Some(ranks),
-        ..on_window(window)
+        (_, Some(request)) => Said::More(More::WithRequest(window, target, request)),
     }
 }
 

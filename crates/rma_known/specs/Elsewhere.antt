@@ -11,7 +11,7 @@ use Rattle.rma_form.specs.Forms.{form_of}
 use Rattle.rma_form.specs.declared.form.LineForm.{LineForm}
 use Rattle.rma_form.specs.declared.form.LineForm.TheVariants as form
 use Rattle.rma_known.specs.declared.call_form.CallForm.{CallForm}
-use Rattle.rma_known.specs.declared.call_form.CallForm.TheVariants.{Put, Get, Accumulate, GetAccumulate, FetchAndOp, CompareAndSwap, Load, Store, Poll, Comm, Barrier, Send, Recv, Isend, Irecv, Wait, Received, Fence, Post, Start, Complete, Expwait, Lock, Unlock, LockAll, UnlockAll, Flush, FlushAll, FlushLocal, FlushLocalAll, Sync, Attach, Detach, Bcast, Scatter, Gather, Reduce, Allreduce, Allgather, Alltoall}
+use Rattle.rma_known.specs.declared.call_form.CallForm.TheVariants.{Put, Get, Accumulate, GetAccumulate, FetchAndOp, CompareAndSwap, Load, Store, Poll, Comm, Barrier, Send, Recv, Isend, Irecv, Wait, Received, Fence, Post, PostOne, Start, StartOne, Complete, Expwait, Lock, Unlock, LockAll, UnlockAll, Flush, FlushAll, FlushLocal, FlushLocalAll, Sync, Attach, Detach, Bcast, Scatter, Gather, Reduce, Allreduce, Allgather, Alltoall}
 use Rattle.rma_known.specs.declared.call_form.Part.{Part}
 use Rattle.rma_known.specs.declared.call_form.Part.TheVariants as part
 use Rattle.rma_known.specs.declared.call_form.Place.{Place}
@@ -39,7 +39,9 @@ form_of_call Wait = form.Wait
 form_of_call Received = form.Wait
 form_of_call Fence = form.Fence
 form_of_call Post = form.Post
+form_of_call PostOne = form.Post
 form_of_call Start = form.Start
+form_of_call StartOne = form.Start
 form_of_call Complete = form.Complete
 form_of_call Expwait = form.Expwait
 form_of_call Lock = form.Lock
@@ -82,7 +84,9 @@ places_of Wait = Request ∷ []
 places_of Received = Request ∷ Rank ∷ Tag ∷ []
 places_of Fence = Name ∷ []
 places_of Post = Name ∷ Same ∷ []
+places_of PostOne = Name ∷ Rank ∷ []
 places_of Start = Name ∷ Same ∷ []
+places_of StartOne = Name ∷ Rank ∷ []
 places_of Complete = Name ∷ []
 places_of Expwait = Name ∷ []
 places_of Lock = Name ∷ Rank ∷ Same ∷ []

@@ -49,8 +49,12 @@ pub enum CallForm {
     Fence,
     /// `post`
     Post,
+    /// `post`, for one rank
+    PostOne,
     /// `start`
     Start,
+    /// `start`, for one rank
+    StartOne,
     /// `complete`
     Complete,
     /// `expwait`
@@ -98,7 +102,7 @@ pub enum CallForm {
 pub enum Place {
     /// What is done, and how.
     Same,
-    /// A rank: the target, the other end of a message, or the root.
+    /// A rank: the target, the other end of a message, the root, or the only rank of a group.
     Rank,
     /// An address, a displacement, or a number of bytes.
     Address,
@@ -164,8 +168,8 @@ impl CallForm {
             CallForm::Isend => LineForm::Isend,
             CallForm::Irecv => LineForm::Irecv,
             CallForm::Fence => LineForm::Fence,
-            CallForm::Post => LineForm::Post,
-            CallForm::Start => LineForm::Start,
+            CallForm::Post | CallForm::PostOne => LineForm::Post,
+            CallForm::Start | CallForm::StartOne => LineForm::Start,
             CallForm::Complete => LineForm::Complete,
             CallForm::Expwait => LineForm::Expwait,
             CallForm::Lock => LineForm::Lock,
@@ -223,7 +227,11 @@ impl CallForm {
             CallForm::Received => &[Request, Rank, Tag],
             CallForm::Comm | CallForm::Post | CallForm::Start => &[Name, Same],
             CallForm::Lock => &[Name, Rank, Same],
-            CallForm::Unlock | CallForm::Flush | CallForm::FlushLocal => &[Name, Rank],
+            CallForm::PostOne
+            | CallForm::StartOne
+            | CallForm::Unlock
+            | CallForm::Flush
+            | CallForm::FlushLocal => &[Name, Rank],
             CallForm::Attach => &[Name, Address, Same],
             CallForm::Detach => &[Name, Address],
             CallForm::Bcast | CallForm::Scatter | CallForm::Gather | CallForm::Reduce => &[

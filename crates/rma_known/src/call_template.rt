@@ -13,7 +13,7 @@ use crate::part_at::{PartAt, PartsAt, behind, is_blank, parts_at, word_len};
 use crate::particulars::Particulars;
 use crate::placed_call::PlacedCall;
 use rma_base::limits::SPACE;
-use rma_base::{Memory, Name, Version};
+use rma_base::{Memory, Name, Version, is_same};
 use rma_field::{ParseError, Texts, natural};
 use rma_form::form_of;
 use rma_lex::{TokenIter, tokens};
@@ -187,14 +187,6 @@ fn is_request(own: Option<&Name>, request: Option<&Name>) -> bool
     }
 }
 
-/// Whether the texts are the same.
-#[inline]
-fn is_same(own: &[u8], other: &[u8]) -> bool
-    ensures { result ≡ true → other.now ≡ own.now }
-{
-    other == own
-}
-
 /// Whether a line of these words has the form.
 fn is_of_form(version: Version, words: &[u8], form: CallForm) -> bool
     ensures { result ≡ true → (verb : List ℕ) × (own : List (List ℕ)) × (words_in words.now ≡ verb ∷ own) × (form_of version verb own ≡ Ok (form_of_call form)) }
@@ -261,12 +253,26 @@ fn part_end(
     ensures taken { IfOk result (λ next. IfSome next (λ next. (said : Details) × HasPart part known.now text.now said (drop next text.now) × (found.new ≡ joined found.old said))) }
 {
     let at = part.before;
-    if text.len() < at || !is_same(&known[..at], &text[..at]) {
+    if text.len() < at || !begin_alike(known, text, at) {
         return Ok(None);
     }
     match part_len(texts, part.part, behind(text, at), found)? {
         Some(len) => Ok(Some(at + len)),
         None => Ok(None),
+    }
+}
+
+/// Whether two texts begin with the same bytes, so many of them: mostly one, a blank between two particulars.
+#[inline]
+fn begin_alike(own: &[u8], other: &[u8], len: usize) -> bool
+    requires own { len ≤ length own.now }
+    requires other { len ≤ length other.now }
+    ensures { result ≡ true → take len other.now ≡ take len own.now }
+{
+    if len == 1 {
+        own[0] == other[0]
+    } else {
+        is_same(&own[..len], &other[..len])
     }
 }
 

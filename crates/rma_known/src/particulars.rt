@@ -59,6 +59,15 @@ impl Particulars {
         self.name.as_ref()
     }
 
+    /// Takes out the communicator or the window, if there is one.
+    #[inline]
+    pub fn take_out_name(&mut self) -> Option<Name>
+        ensures name { result ≡ self.old.name }
+        ensures others { self.new ≡ record self.old { name = None } }
+    {
+        self.name.take()
+    }
+
     /// The request that it makes or completes, if there is one.
     #[inline]
     pub fn request(&self) -> Option<&Name>

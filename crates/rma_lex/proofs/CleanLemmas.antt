@@ -1,47 +1,71 @@
 -- Bytes that need no second look, found a block of 64 at a time.
-use Rattle.std.proofs.Common.{◌≡◌, ◌≢◌, ◌↔◌, ℕ, ◌+◌, ◌-◌, ◌^◌, ◌%◌, ◌<◌, ◌≤◌, ◌&&◌, Bool, true, cond, eqb, leb, List, length, take, drop, map, get_or, sym, ap, ◌∙◌, arith, bit_and, bit_or, w8}
+use Rattle.std.proofs.Common.{◌≡◌, ◌≢◌, ◌↔◌, ℕ, ◌+◌, ◌-◌, ◌^◌, ◌%◌, ◌<◌, ◌≤◌, ◌&&◌, ◌||◌, Bool, true, false, cond, eqb, leb, List, [], ◌∷◌, length, take, drop, map, get_or, refl, sym, subst, ap, ap₂, ◌∙◌, arith, bit_and, bit_or}
 use Rattle.std.specs.Int.{bit_at}
 use Rattle.std.specs.List.{list_all}
 use Rattle.std.specs.Prelude.{replicate}
 use Rattle.std.specs.Simd.Lanes.{mask_l, chunk, zip2, top}
 use Rattle.std.proofs.lemmas.Bool.{ne_eqb, leb-true}
-use Rattle.std.proofs.lemmas.List.{length-drop, length-take, get_or-drop, get_or-take, take_rest}
+use Rattle.std.proofs.lemmas.List.{length-drop, length-map, length-take, get_or-drop, get_or-take, take_rest}
 use Rattle.std.proofs.lemmas.List.Elements.{All-from_get_or}
 use Rattle.std.proofs.lemmas.List.Sums.{list_all-from_AllPass}
 use Rattle.std.proofs.lemmas.List.Folds.{list_all_at}
 use Rattle.std.proofs.lemmas.Nat.Bits.{bit_at_ones, same_from_bits_below}
-use Rattle.std.proofs.lemmas.Simd.{length-zip2, length-replicate, mask_l-mod, tops_compared, zip2_splat_left}
+use Rattle.std.proofs.lemmas.Simd.{length-chunk, mask_l-mod, zip2_of_maps, zip2_splat, zip2_splat_left}
 use Rattle.rma_lex.specs.inside.Clean.{is_clean_byte, IsClean}
 use Rattle.rma_lex.specs.inside.LineFeed.{IsLineAt}
 use Rattle.rma_lex.specs.inside.Found.{Knows}
 use Rattle.rma_lex.specs.Text.{is_text_byte}
 use Rattle.rma_lex.specs.declared.line_feed.LineFeeds.{LineFeeds}
 use Rattle.rma_lex.specs.inside.Mask.{Marks}
-use Rattle.rma_lex.proofs.MarkLemmas.{Marks_lanes, Marks_either, Marks_both}
+use Rattle.rma_lex.proofs.MarkLemmas.{Marks_lanes}
 
--- `to_bitmask` of the comparison of a splat with bytes
-pub bitmask_splat_left : (t : ℕ → ℕ → Bool) (y n : ℕ) (xs : List ℕ) → length xs ≡ n → n ≤ 64
-    → mask_l (map (top 7) (zip2 (λ a b. cond (t a b) 255 0) (replicate n y) xs)) % 2 ^ 64 ≡ mask_l (map (λ x. t y x) xs)
-bitmask_splat_left t y n xs long short =
-    ap (λ ms. mask_l ms % 2 ^ 64) (tops_compared w8 t (replicate n y) xs)
-    ∙ mask_l-mod (zip2 t (replicate n y) xs) 64 (omega (arith, length-zip2 t (replicate n y) xs (length-replicate n y ∙ sym long), length-replicate n y))
-    ∙ ap mask_l (zip2_splat_left t y n xs long)
+-- what the four comparisons make of a byte: all bits, if one of a text or a line feed, and else none
+abbrev lane : ℕ → ℕ
+lane x = bit_or (bit_or (cond (eqb x 9) 255 0) (bit_and (cond (leb 32 x) 255 0) (cond (leb x 126) 255 0))) (cond (eqb x 10) 255 0)
 
--- the masks of the four tests make that of the clean bytes
-module _ (text : List ℕ) (from : ℕ) (within : from + 64 ≤ length text) where
-  abbrev byte : (ℕ → Bool) → ℕ → Bool
-  byte test place = test (get_or text place 0)
+top_lane : (tab space tilde feed : Bool) → top 7 (bit_or (bit_or (cond tab 255 0) (bit_and (cond space 255 0) (cond tilde 255 0))) (cond feed 255 0)) ≡ ((tab || (space && tilde)) || feed)
+top_lane true true true true = refl
+top_lane true true true false = refl
+top_lane true true false true = refl
+top_lane true true false false = refl
+top_lane true false true true = refl
+top_lane true false true false = refl
+top_lane true false false true = refl
+top_lane true false false false = refl
+top_lane false true true true = refl
+top_lane false true true false = refl
+top_lane false true false true = refl
+top_lane false true false false = refl
+top_lane false false true true = refl
+top_lane false false true false = refl
+top_lane false false false true = refl
+top_lane false false false false = refl
 
-  marked : (test : ℕ → Bool) (mask : ℕ) → mask ≡ mask_l (map test (chunk from 64 text)) → Marks (byte test) from mask from (from + 64)
-  marked test mask is = rw is (Marks_lanes test 0 text from 64 within)
+map_lanes : (v : List ℕ) → map (top 7) (map lane v) ≡ map is_clean_byte v
+map_lanes [] = refl
+map_lanes (x ∷ xs) = ap₂ (λ a b. a ∷ b) (top_lane (eqb x 9) (leb 32 x) (leb x 126) (eqb x 10)) (map_lanes xs)
 
-  pub Marks_clean : (tabs from_space to_tilde feeds : ℕ) → tabs ≡ mask_l (map (λ x. eqb x 9) (chunk from 64 text)) → from_space ≡ mask_l (map (λ x. leb 32 x) (chunk from 64 text))
-      → to_tilde ≡ mask_l (map (λ x. leb x 126) (chunk from 64 text)) → feeds ≡ mask_l (map (λ x. eqb x 10) (chunk from 64 text))
-      → Marks (λ at. is_clean_byte (get_or text at 0)) from (bit_or (bit_or tabs (bit_and from_space to_tilde)) feeds) from (from + 64)
-  Marks_clean tabs from_space to_tilde feeds tab space tilde feed =
-      let printable = Marks_both (byte (λ x. leb 32 x)) (byte (λ x. leb x 126)) from _ _ from (from + 64) (marked (λ x. leb 32 x) from_space space) (marked (λ x. leb x 126) to_tilde tilde) in
-      let text_byte = Marks_either (byte (λ x. eqb x 9)) (byte (λ x. leb 32 x && leb x 126)) from _ _ from (from + 64) (marked (λ x. eqb x 9) tabs tab) printable in
-      Marks_either (byte is_text_byte) (byte (λ x. eqb x 10)) from _ _ from (from + 64) text_byte (marked (λ x. eqb x 10) feeds feed)
+-- what `to_bitmask` gives of the lanes of a load that are clean
+abbrev clean_mask : List ℕ → ℕ → ℕ
+clean_mask text from =
+    let lanes = chunk from 64 text in
+    mask_l (map (top 7)
+    (zip2 bit_or
+    (zip2 bit_or (zip2 (λ a b. cond (eqb a b) 255 0) lanes (replicate 64 9))
+    (zip2 bit_and (zip2 (λ a b. cond (leb a b) 255 0) (replicate 64 32) lanes) (zip2 (λ a b. cond (leb a b) 255 0) lanes (replicate 64 126))))
+    (zip2 (λ a b. cond (eqb a b) 255 0) lanes (replicate 64 10)))) % 2 ^ 64
+
+pub Marks_clean : (text : List ℕ) (from : ℕ) → from + 64 ≤ length text → Marks (λ at. is_clean_byte (get_or text at 0)) from (clean_mask text from) from (from + 64)
+Marks_clean text from within =
+    let v = chunk from 64 text in
+    let long = length-chunk from 64 text within in
+    let equal : (y : ℕ) → zip2 {C = ℕ} (λ a b. cond (eqb a b) 255 0) v (replicate 64 y) ≡ map (λ x. cond (eqb x y) 255 0) v = λ y. zip2_splat (λ a b. cond (eqb a b) 255 0) v 64 y long in
+    let printable = zip2_of_maps bit_and (λ x. cond (leb 32 x) 255 0) (λ x. cond (leb x 126) 255 0) v (zip2_splat_left (λ a b. cond (leb a b) 255 0) 32 64 v long) (zip2_splat (λ a b. cond (leb a b) 255 0) v 64 126 long) in
+    let text_bytes = zip2_of_maps bit_or (λ x. cond (eqb x 9) 255 0) (λ x. bit_and (cond (leb 32 x) 255 0) (cond (leb x 126) 255 0)) v (equal 9) printable in
+    let lanes = zip2_of_maps bit_or (λ x. bit_or (cond (eqb x 9) 255 0) (bit_and (cond (leb 32 x) 255 0) (cond (leb x 126) 255 0))) (λ x. cond (eqb x 10) 255 0) v text_bytes (equal 10) in
+    let mask : clean_mask text from ≡ mask_l (map is_clean_byte v) =
+    ap (λ l. mask_l (map (top 7) l) % 2 ^ 64) lanes ∙ ap (λ l. mask_l l % 2 ^ 64) (map_lanes v) ∙ mask_l-mod (map is_clean_byte v) 64 (omega (arith, length-map v is_clean_byte, long)) in
+    subst (λ m. Marks (λ at. is_clean_byte (get_or text at 0)) from m from (from + 64)) (sym mask) (Marks_lanes is_clean_byte 0 text from 64 within)
 
 -- all bits are set exactly where all bytes are clean
 pub IsClean_full : (text : List ℕ) (from mask : ℕ) → Marks (λ at. is_clean_byte (get_or text at 0)) from mask from (from + 64) → mask < 2 ^ 64 → (mask ≡ 2 ^ 64 - 1) ↔ IsClean text from (from + 64)

@@ -1,11 +1,11 @@
 -- Places that pass a test, as the bits of a mask.
-use Rattle.std.proofs.Common.{◌≡◌, ◌↔◌, ℕ, ◌+◌, ◌-◌, ◌*◌, ◌/◌, ◌%◌, ◌^◌, ◌<◌, ◌≤◌, ◌||◌, ◌&&◌, Bool, true, false, List, length, map, get_or, sym, ap, ◌∙◌, arith, ⊎_elim, bit_and, bit_or, pow_pos, w64}
+use Rattle.std.proofs.Common.{◌≡◌, ◌↔◌, ℕ, ◌+◌, ◌-◌, ◌*◌, ◌/◌, ◌%◌, ◌^◌, ◌<◌, ◌≤◌, Bool, true, false, List, length, map, get_or, sym, ap, ◌∙◌, arith, ⊎_elim, bit_or, pow_pos, w64}
 use Rattle.std.specs.Int.{bit_at}
 use Rattle.std.specs.Simd.Lanes.{mask_l, chunk}
 use Rattle.std.proofs.Math.Nat.{div-add-mod, mod-lt}
 use Rattle.std.proofs.lemmas.Bool.{cases_lt, cases_eq}
 use Rattle.std.proofs.lemmas.List.{length-map, get_or_past, get_or-map}
-use Rattle.std.proofs.lemmas.Nat.Bits.{bit_at_or, bit_at_and, bit_at-lt, bit_at-zero, bit_at_above, bit_at_cat_low, bit_at_cat_high, bit_at_set_same, bit_at_set_other, ones_shl, bit_at_mask_inside, bit_at_mask_below, bit_at_mask_above}
+use Rattle.std.proofs.lemmas.Nat.Bits.{bit_at_or, bit_at-lt, bit_at-zero, bit_at_above, bit_at_cat_low, bit_at_cat_high, bit_at_set_same, bit_at_set_other, ones_shl, bit_at_mask_inside, bit_at_mask_below, bit_at_mask_above}
 use Rattle.std.proofs.lemmas.Simd.{length-chunk, get_or-chunk, bit_mask_l}
 use Rattle.rma_lex.specs.inside.Mask.{Marks}
 
@@ -45,14 +45,6 @@ Marks_shl test mask from to marks short k = ⊎_elim
 -- marks of two spans, where the second begins in the first or after it
 pub Marks_or : (test : ℕ → Bool) (base one other a b c d : ℕ) → Marks test base one a b → Marks test base other c d → a ≤ c → c ≤ b → b ≤ d → Marks test base (bit_or one other) a d
 Marks_or test base one other a b c d ones others ac cb bd k = grind (arith, bit_at_or one other k, ones k, others k, bit_at-lt one k, bit_at-lt other k)
-
--- marks of two tests at the same places
-module _ (first second : ℕ → Bool) (base one other from to : ℕ) (ones : Marks first base one from to) (others : Marks second base other from to) where
-  pub Marks_either : Marks (λ at. first at || second at) base (bit_or one other) from to
-  Marks_either k = grind (arith, bit_at_or one other k, ones k, others k, bit_at-lt one k, bit_at-lt other k)
-
-  pub Marks_both : Marks (λ at. first at && second at) base (bit_and one other) from to
-  Marks_both k = grind (arith, bit_at_and one other k, ones k, others k, bit_at-lt one k, bit_at-lt other k)
 
 -- one place more, which passes or fails
 module _ (test : ℕ → Bool) (base mask k at to : ℕ) (marks : Marks test base mask base at) (is : at ≡ base + k) (next : to ≡ at + 1) where

@@ -217,11 +217,11 @@ fn clean_of_block(text: &[u8], from: usize) -> u64
     ensures { Marks (λ place. is_clean_byte (slice_index text.now place)) from result from (from + 64) }
 {
     let bytes = u8x64::from_slice(&text[from..]);
-    let tabs = bytes.simd_eq(u8x64::splat(b'\t')).to_bitmask();
-    let feeds = bytes.simd_eq(u8x64::splat(b'\n')).to_bitmask();
-    let from_space = bytes.simd_ge(u8x64::splat(b' ')).to_bitmask();
-    let to_tilde = bytes.simd_le(u8x64::splat(b'~')).to_bitmask();
-    tabs | from_space & to_tilde | feeds
+    let tabs = bytes.simd_eq(u8x64::splat(b'\t'));
+    let feeds = bytes.simd_eq(u8x64::splat(b'\n'));
+    let from_space = bytes.simd_ge(u8x64::splat(b' '));
+    let to_tilde = bytes.simd_le(u8x64::splat(b'~'));
+    (tabs | from_space & to_tilde | feeds).to_bitmask()
 }
 
 /// Whether the bytes from an index on are all bytes of texts or line feeds.

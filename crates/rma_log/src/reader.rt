@@ -6,6 +6,7 @@ ghost use Rattle.rma_lex.specs.Content.{content, number};
 ghost use Rattle.rma_lex.specs.Line.{lines};
 ghost use Rattle.rma_lex.specs.Cutting.{Represents};
 ghost use Rattle.rma_call.specs.declared.what.What.{What};
+ghost use Rattle.rma_call.specs.declared.what.What.TheVariants.{Sync};
 ghost use Rattle.rma_form.specs.declared.event.Event.{Event};
 ghost use Rattle.rma_form.specs.declared.event.Event.TheVariants.{Header, End, Call, Datatype, Rma, Local};
 ghost use Rattle.rma_known.specs.Elsewhere.{IsKnownElsewhere, no_details};
@@ -107,7 +108,7 @@ impl Reader {
     }
 
     // Reads the next line, whose words are not known.
-    #[inline(never)]
+    #[inline]
     fn read_other(&mut self, no: LineNo, line: &SplitLine<'_>) -> Result<(), Memory>
         requires { self.old.fault ≡ None }
         ensures { OnOk result (ReadsNext self.old self.new no.0 (Ok line.now.line)) }
@@ -178,23 +179,41 @@ impl Reader {
     }
 
     // The same of a call that accesses no memory.
-    #[inline(never)]
+    #[inline]
     fn add_sync(
         &mut self,
         line: &SplitLine<'_>,
         what: u32,
         requests: bool,
-        to: &Particulars,
+        to: &mut Particulars,
     ) -> Result<Option<u32>, Memory>
-        requires known { (from : List ℕ) × IsKnownElsewhere self.old.lines.known self.old.lines.version line.now.words what requests from to.now }
+        requires known { (from : List ℕ) × IsKnownElsewhere self.old.lines.known self.old.lines.version line.now.words what requests from to.old }
         requires within { what < length self.old.lines.calls.whats }
-        ensures added { IfOk result (λ added. IfSome added (λ number. HasAdded self.old self.new line.now.words number to.now.request)) }
+        ensures added { IfOk result (λ added. IfSome added (λ number. HasAdded self.old self.new line.now.words number to.new.request)) }
         ensures none { result ≡ Ok None → self.new ≡ self.old }
     {
-        match sync_elsewhere(requests, self.lines.what(what), to)? {
-            Some(call) => self.add_made(line, What::Sync(call), to.request()),
+        let alloc = self.book.allocator();
+        match sync_elsewhere(alloc, requests, self.lines.what(what), to)? {
+            Some(call) => self.add_call(line, call, to.request()),
             None => Ok(None),
         }
+    }
+
+    // Gives a number to the call that the words of a line state, which accesses no memory, with this request. They are noted.
+    #[inline]
+    fn add_call(
+        &mut self,
+        line: &SplitLine<'_>,
+        call: SyncCall,
+        request: Option<&Name>,
+    ) -> Result<Option<u32>, Memory>
+        requires { StatesWhat self.old.lines line.now.words (Sync call) (option_copied request) }
+        ensures added { IfOk result (λ added. IfSome added (λ number. HasAdded self.old self.new line.now.words number (option_copied request.entry))) }
+        ensures none { result ≡ Ok None → self.new ≡ self.old }
+    {
+        let number = self.lines.add_sync(call)?;
+        self.lines.note(line, number, request, false)?;
+        Ok(Some(number))
     }
 
     // Gives a number to what the words of a line state, with this request. They are noted.
@@ -233,6 +252,7 @@ impl Reader {
     }
 
     // Reads the next line, which may be any.
+    #[inline(never)]
     fn read_new(&mut self, no: LineNo, line: &SplitLine<'_>) -> Result<(), Memory>
         requires { self.old.fault ≡ None }
         ensures { OnOk result (ReadsNext self.old self.new no.0 (Ok line.now.line)) }

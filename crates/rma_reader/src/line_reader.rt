@@ -3,6 +3,7 @@ ghost use Rattle.std.specs.Prelude.{◌≡◌, ◌+◌, ◌<◌, ◌^◌, ◌++�
 ghost use Rattle.std.specs.Option.{option_and_then, option_copied};
 ghost use Rattle.rma_base.specs.declared.version.Version.TheVariants.{One};
 ghost use Rattle.rma_call.specs.declared.what.What.{What};
+ghost use Rattle.rma_call.specs.declared.what.What.TheVariants.{Sync};
 ghost use Rattle.rma_call.specs.Call.{no_calls, what_of};
 ghost use Rattle.rma_form.specs.declared.event.Stated.{Stated};
 ghost use Rattle.rma_form.specs.declared.event.Event.{Event};
@@ -19,7 +20,7 @@ use crate::numbered_calls::NumberedCalls;
 use crate::read_line::{KnownCall, ReadLine};
 use crate::shared_sites::SharedSites;
 use rma_base::{LineNo, Memory, Name, Version};
-use rma_call::{CallList, Placement, What, WhatRef};
+use rma_call::{CallList, Placement, SyncCall, What, WhatRef};
 use rma_form::{Event, Stated};
 use rma_known::{
     CallForm, CallTemplates, KnownLines, Particulars, PlacedCall, Repetition, SplitLine, is_comment,
@@ -318,6 +319,19 @@ impl LineReader {
         ensures grows { Grows self.old self.new }
     {
         self.calls.add_what(what)
+    }
+
+    /// The same of a call that accesses no memory.
+    ///
+    /// # Errors
+    ///
+    /// `Memory` also where the table is full.
+    #[inline]
+    pub fn add_sync(&mut self, call: SyncCall) -> Result<u32, Memory>
+        ensures number { IfOk result (λ number. slice_get self.new.calls.whats number ≡ Some (Sync call)) }
+        ensures grows { Grows self.old self.new }
+    {
+        self.calls.add_sync(call)
     }
 
     /// Gives a number to an access that the access of a number makes elsewhere, where that is known by itself.

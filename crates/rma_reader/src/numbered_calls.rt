@@ -2,6 +2,7 @@
 ghost use Rattle.std.specs.Prelude.{◌≡◌, ◌+◌, ◌<◌, ◌^◌, ◌++◌, ◌∷◌, [], length, slice_get, IfOk, IfErr, IfSome, OnOk, None, Ok, Some, option_map, true};
 ghost use Rattle.std.specs.Option.{option_and_then};
 ghost use Rattle.rma_call.specs.declared.what.What.{What};
+ghost use Rattle.rma_call.specs.declared.what.What.TheVariants.{Sync};
 ghost use Rattle.rma_call.specs.Call.{no_calls};
 ghost use Rattle.rma_field.specs.Sites.{site};
 ghost use Rattle.rma_field.specs.Steps.{Fails, Gives};
@@ -13,8 +14,8 @@ ghost use Rattle.rma_reader.specs.inside.Tables.{AddsSites, AddsWhats};
 use crate::foreseen_sites::ForeseenSites;
 use crate::shared_sites::SharedSites;
 use crate::site_slots::{PROBES, SiteSlots};
-use rma_base::{FormReason, LineNo, Memory, NameError, Site};
-use rma_call::{CallList, Placement, What};
+use rma_base::{FormReason, LineNo, Memory, NameError, Site, is_same};
+use rma_call::{CallList, Placement, SyncCall, What};
 use rma_known::key_of;
 use rma_parse::{ParseError, ParseFault};
 use std::alloc::Global;
@@ -117,6 +118,15 @@ impl NumberedCalls {
         ensures adds { AddsWhats self.old self.new }
     {
         self.list.add_what(what)
+    }
+
+    /// The same of a call that accesses no memory.
+    #[inline]
+    pub(crate) fn add_sync(&mut self, call: SyncCall) -> Result<u32, Memory>
+        ensures number { IfOk result (λ number. slice_get self.new.whats number ≡ Some (Sync call)) }
+        ensures adds { AddsWhats self.old self.new }
+    {
+        self.list.add_sync(call)
     }
 
     /// Gives a number to an access that the access of a number makes elsewhere, where that is known by itself.
@@ -227,7 +237,7 @@ impl NumberedCalls {
     fn has(&self, number: u32, text: &[u8]) -> bool
         ensures { result ≡ true → IsNumbered self.now text.now number }
     {
-        number < self.sites && self.list.site(number).bytes() == text
+        number < self.sites && is_same(self.list.site(number).bytes(), text)
     }
 
     /// The number of a site that is not known.

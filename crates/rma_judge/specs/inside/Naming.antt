@@ -4,10 +4,14 @@ use Rattle.std.specs.Option.{option_copied}
 use Rattle.std.specs.Borrow.{Bor}
 use Rattle.rma_base.specs.declared.rank.Rank.{Rank}
 use Rattle.rma_judge.specs.declared.naming.Naming.{Naming}
+use Rattle.rma_call.specs.declared.what.SyncCall.TheVariants.{Window}
+use Rattle.rma_form.specs.declared.event.Event.TheVariants.{Call}
+use Rattle.rma_judge.specs.declared.naming.More.{More as Further}
+use Rattle.rma_judge.specs.declared.naming.More.TheVariants.{Declaring, OfWindow, WithGroup, WithRequest, From}
 use Rattle.rma_judge.specs.declared.naming.NewRequest.{NewRequest}
 use Rattle.rma_judge.specs.declared.naming.Said.{Said}
 use Rattle.rma_judge.specs.declared.naming.Said.TheVariants.{Nothing, OnComm, OnWindow, WithPeer, WithTarget, WithRoot, Making, Waiting, More}
-use Rattle.rma_judge.specs.Naming.{Attributes, no_attributes, on_comm, on_window, with_peer, with_root, with_target}
+use Rattle.rma_judge.specs.Naming.{Attributes, attributes_of, no_attributes, on_comm, on_window, with_access, with_group, with_peer, with_root, with_target}
 
 -- something of a name that is referred to
 abbrev pub named : {A : Type 0} → Option (Bor (List ℕ) × A) → Option (List ℕ × A)
@@ -53,6 +57,14 @@ making it = record (on_comm it.comm.now) { rank = option_map (λ (rank : Rank). 
 abbrev pub waiting : List ℕ → Option Rank → Attributes
 waiting request from = record no_attributes { awaited = Some (request, is_some from); rank = option_map (λ (rank : Rank). rank.0) from }
 
+-- what a call says that says more than most
+abbrev pub more_value : Further → Attributes
+more_value (Declaring comm ranks) = record no_attributes { declared = Some (comm.now, ranks.now); group = Some ranks.now }
+more_value (OfWindow call) = attributes_of (Call (Window call.now) None)
+more_value (WithGroup window ranks) = with_group window.now ranks.now
+more_value (WithRequest window target request) = with_access window.now target (Some request.now)
+more_value (From rank) = record no_attributes { rank = option_map (λ (rank : Rank). rank.0) rank }
+
 -- what a call says
 abbrev pub said_value : Said → Attributes
 said_value Nothing = no_attributes
@@ -63,4 +75,4 @@ said_value (WithTarget window rank) = with_target window.now rank.0
 said_value (WithRoot comm root) = with_root comm.now root.0
 said_value (Making it) = making it
 said_value (Waiting request from) = waiting request.now from
-said_value (More naming) = value_of naming
+said_value (More more) = more_value more

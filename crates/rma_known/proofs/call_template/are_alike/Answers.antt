@@ -1,4 +1,5 @@
-use Rattle.std.proofs.Common.{◌<◌, ◌+◌, ◌∷◌, List, ℕ, drop, length, slice_index_or, subst, arith}
+use Rattle.std.proofs.Common.{◌<◌, ◌+◌, ◌∷◌, List, ℕ, drop, length, slice_index_or, sym, subst, ◌∙◌, arith}
+use Rattle.std.proofs.lemmas.Slice.Eq.{bytes_eq-Decides}
 use Rattle.rma_known.specs.declared.call_form.Part.TheVariants.{Number}
 use Rattle.rma_known.specs.declared.part_at.PartAt.{PartAt}
 use Rattle.rma_known.specs.inside.Templates.{Fit}
@@ -38,5 +39,6 @@ loop-i-preserved c =
 
 pub returns : goal.returns
 returns c same =
-    alike_all c.args.parts.now c.loop-i.i c.args.own.now c.args.words.now c.loop-i.known.now c.loop-i.rest.now c.loop-i.found c.loop-i-test.false (c.is_same.ensures same)
+    alike_all c.args.parts.now c.loop-i.i c.args.own.now c.args.words.now c.loop-i.known.now c.loop-i.rest.now c.loop-i.found c.loop-i-test.false
+    (sym ((bytes_eq-Decides c.loop-i.known.now c.loop-i.rest.now).0 (sym c.is_same.ensures ∙ same)))
     c.loop-i.invariant.alike

@@ -54,5 +54,5 @@ returns-in-Waiting-clause-judged c =
 
 pub returns-in-More-clause-judged : goal.returns-in-More-clause-judged
 returns-in-More-clause-judged c =
-    IfOk_then c.judge.result c.judge.ensures.judged
+    IfOk_then c.judge_more.result c.judge_more.ensures.judged
     (λ judged told event is. let types = c.args.self.now.types in told event (c.in-More.ensures types event is.does is.request) (call_is types _ _ event is))
