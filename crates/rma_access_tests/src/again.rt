@@ -1,6 +1,6 @@
 //! Calls whose lines the log repeats, or makes again elsewhere.
 use crate::buffers::{Case, check, ended_with};
-use rma_base::{FormReason, Name, Rank};
+use rma_base::{FormReason, Name, Rank, RankSet};
 use rma_book::BookEnd;
 use rma_bytes::MovedLayout;
 use rma_call::{CallList, EpochCall, FrameCall, MessageCall, MovingCall, WhatRef, WindowCall};
@@ -331,7 +331,7 @@ fn a_call_that_comes_again_elsewhere_has_its_own_numbers(rt: HostRuntime) -> Res
 
 /// The forms of calls that come again by other names, four times each.
 static NAMED: &str =
-    "rma 2 0 2\ncomm grid1 0,1\nwin create halo1 world 4096 64 1 unified same_op\nwin dynamic heap1 world same_op\ncomm grid2 0,1\nwin create halo2 world 4096 64 1 unified same_op\nwin dynamic heap2 world same_op\ncomm grid3 0,1\nwin create halo3 world 4096 64 1 unified same_op\nwin dynamic heap3 world same_op\ncomm grid4 0,1\nwin create halo4 world 4096 64 1 unified same_op\nwin dynamic heap4 world same_op\nbarrier grid1\nisend s1 1 1 grid1\nirecv r1 grid1\nwait s1\nwait r1 0 1\nfence halo1\npost halo1 1\nstart halo1 1\ncomplete halo1\nexpwait halo1\nlock halo1 1 excl\nunlock halo1 1\nlockall halo1\nunlockall halo1\nflushall halo1\nflushlocalall halo1\nsync halo1\nattach heap1 4096 64\ndetach heap1 4096\nbarrier grid2\nisend s2 1 2 grid2\nirecv r2 grid2\nwait s2\nwait r2 0 2\nfence halo2\npost halo2 1\nstart halo2 1\ncomplete halo2\nexpwait halo2\nlock halo2 1 excl\nunlock halo2 1\nlockall halo2\nunlockall halo2\nflushall halo2\nflushlocalall halo2\nsync halo2\nattach heap2 4096 64\ndetach heap2 4096\nbarrier grid3\nisend s3 1 3 grid3\nirecv r3 grid3\nwait s3\nwait r3 0 3\nfence halo3\npost halo3 1\nstart halo3 1\ncomplete halo3\nexpwait halo3\nlock halo3 1 excl\nunlock halo3 1\nlockall halo3\nunlockall halo3\nflushall halo3\nflushlocalall halo3\nsync halo3\nattach heap3 4096 64\ndetach heap3 4096\nbarrier grid4\nisend s4 1 4 grid4\nirecv r4 grid4\nwait s4\nwait r4 0 4\nfence halo4\npost halo4 1\nstart halo4 1\ncomplete halo4\nexpwait halo4\nlock halo4 1 excl\nunlock halo4 1\nlockall halo4\nunlockall halo4\nflushall halo4\nflushlocalall halo4\nsync halo4\nattach heap4 4096 64\ndetach heap4 4096\nend\n";
+    "rma 2 0 2\ncomm grid1 0,1\nwin create halo1 world 4096 64 1 unified same_op\nwin dynamic heap1 world same_op\ncomm grid2 0,1\nwin create halo2 world 4096 64 1 unified same_op\nwin dynamic heap2 world same_op\ncomm grid3 0,1\nwin create halo3 world 4096 64 1 unified same_op\nwin dynamic heap3 world same_op\ncomm grid4 0,1\nwin create halo4 world 4096 64 1 unified same_op\nwin dynamic heap4 world same_op\nbarrier grid1\nisend s1 1 1 grid1\nirecv r1 grid1\nwait s1\nwait r1 0 1\nfence halo1\npost halo1 1\nstart halo1 1\ncomplete halo1\nexpwait halo1\nlock halo1 1 excl\nunlock halo1 1\nlockall halo1\nunlockall halo1\nflushall halo1\nflushlocalall halo1\nsync halo1\nattach heap1 4096 64\ndetach heap1 4096\nbarrier grid2\nisend s2 1 2 grid2\nirecv r2 grid2\nwait s2\nwait r2 0 2\nfence halo2\npost halo2 0\nstart halo2 0\ncomplete halo2\nexpwait halo2\nlock halo2 1 excl\nunlock halo2 1\nlockall halo2\nunlockall halo2\nflushall halo2\nflushlocalall halo2\nsync halo2\nattach heap2 4096 64\ndetach heap2 4096\nbarrier grid3\nisend s3 1 3 grid3\nirecv r3 grid3\nwait s3\nwait r3 0 3\nfence halo3\npost halo3 1\nstart halo3 1\ncomplete halo3\nexpwait halo3\nlock halo3 1 excl\nunlock halo3 1\nlockall halo3\nunlockall halo3\nflushall halo3\nflushlocalall halo3\nsync halo3\nattach heap3 4096 64\ndetach heap3 4096\nbarrier grid4\nisend s4 1 4 grid4\nirecv r4 grid4\nwait s4\nwait r4 0 4\nfence halo4\npost halo4 0\nstart halo4 0\ncomplete halo4\nexpwait halo4\nlock halo4 1 excl\nunlock halo4 1\nlockall halo4\nunlockall halo4\nflushall halo4\nflushlocalall halo4\nsync halo4\nattach heap4 4096 64\ndetach heap4 4096\nend\n";
 
 /// How many calls stand before them, and how many are of each time.
 const DECLARED: usize = 12;
@@ -346,18 +346,37 @@ static NAMES: [(&str, &str, &str); 4] = [
     ("grid4", "halo4", "heap4"),
 ];
 
-/// Whether the call of this form is by these names, a communicator, a window and a dynamic one, and has this number.
+/// Whether the call of this form is by these names, a communicator, a window and a dynamic one, and has this number, of which a post and
+/// a start have the last bit as their rank.
 fn is_named(what: WhatRef<'_>, form: usize, names: (&str, &str, &str), number: u64) -> bool {
     match what {
         WhatRef::Frame(FrameCall::Barrier { comm }) => form == 0 && comm.text() == names.0,
         WhatRef::Message(call) => is_requested(call, form, names.0, number),
-        WhatRef::Epoch(call) => form == form_of(call) && window_of(call).text() == names.1,
+        WhatRef::Epoch(call) => {
+            form == form_of(call) && window_of(call).text() == names.1 && is_for(call, number % 2)
+        }
         WhatRef::Window(WindowCall::Attach { window, .. }) => {
             form == 17 && window.text() == names.2
         }
         WhatRef::Window(WindowCall::Detach { window, .. }) => {
             form == 18 && window.text() == names.2
         }
+        _ => false,
+    }
+}
+
+/// Whether the call, if it is a post or a start, is for this rank alone.
+fn is_for(call: &EpochCall, rank: u64) -> bool {
+    match call {
+        EpochCall::Post { origins, .. } => is_alone(origins, rank),
+        EpochCall::Start { targets, .. } => is_alone(targets, rank),
+        _ => true,
+    }
+}
+
+fn is_alone(group: &RankSet, rank: u64) -> bool {
+    match group.numbers() {
+        [own] => u64::from(*own) == rank,
         _ => false,
     }
 }
