@@ -1,7 +1,6 @@
 //! Calls that access no memory and are made again elsewhere: with another rank, another tag, other bytes, another address, or
 //! another communicator, window or request.
 ghost use Rattle.std.specs.Prelude.{◌≡◌, ℕ, List, ◌∷◌, [], IfOk, IfSome, None, Some, is_some, true};
-ghost use Rattle.std.specs.Option.{option_copied};
 ghost use Rattle.rma_call.specs.Call.{what_of};
 ghost use Rattle.rma_call.specs.declared.what.SyncCall.TheVariants as sync;
 ghost use Rattle.rma_call.specs.declared.what.What.TheVariants.{Sync};

@@ -51,14 +51,6 @@ impl Particulars {
         self.numbers.as_slice()
     }
 
-    /// The communicator or the window, if there is one.
-    #[inline]
-    pub fn name(&self) -> Option<&Name>
-        ensures { option_copied result ≡ self.now.name }
-    {
-        self.name.as_ref()
-    }
-
     /// Takes out the communicator or the window, if there is one.
     #[inline]
     pub fn take_out_name(&mut self) -> Option<Name>
