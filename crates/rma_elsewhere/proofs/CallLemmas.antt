@@ -1,5 +1,5 @@
 -- What calls do elsewhere.
-use Rattle.std.proofs.Common.{◌≡◌, ℕ, ◌<◌, Bool, false, is_some, length, List, Option, Some, None, option_map, slice_get, refl, sym, ap, subst, ◌∙◌}
+use Rattle.std.proofs.Common.{◌≡◌, ℕ, Bool, false, is_some, List, Option, Some, None, option_map, refl, sym, ap, ◌∙◌}
 use Rattle.std.specs.Option.{option_and_then}
 use Rattle.rma_call.specs.declared.local.LocalCall.{LocalCall}
 use Rattle.rma_call.specs.declared.rma.RmaCall.{RmaCall}

@@ -536,7 +536,7 @@ impl Reader {
 ///
 /// # Errors
 ///
-/// `Memory` where memory ran out: the reader then represents no lines.
+/// `Memory` where memory ran out: nothing is said then of the lines that were read, and the reader is of no more use.
 pub fn read_lines(cutter: &mut LineCutter, reader: &mut Reader) -> Result<(), Memory>
     ensures read { OnOk result ((rank logs : ℕ) (text : List ℕ) → IsReading rank logs cutter.old text reader.old → IsReading rank logs cutter.new text reader.new) }
     ensures all { OnOk result ((text : List ℕ) → Represents cutter.new text → cutter.new.closed ≡ true → cutter.new.handed ≡ length (lines text)) }
