@@ -1,5 +1,6 @@
 mod LinkLemmas
-mod SameLinks
+pub mod SameLinks
 mod ToldLemmas
 mod StepLemmas
+mod StuckLemmas
 pub mod ImpossibleLemmas

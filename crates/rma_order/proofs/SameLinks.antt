@@ -1,5 +1,6 @@
 -- Links that lead from and to the same points give the same order.
 use Rattle.std.proofs.Common.{◌≡◌, ℕ, zero, suc, inl, inr, List, length, replicate, slice_get, Option, Some, None}
+use Rattle.std.specs.Prelude.{◌↔◌}
 use Rattle.std.proofs.lemmas.List.{length-replicate}
 use Rattle.rma_base.specs.declared.rank.Rank.{Rank}
 use Rattle.rma_base.specs.declared.point.Point.{Point}
@@ -8,26 +9,45 @@ use Rattle.rma_link.specs.Point.{entry, return_of}
 use Rattle.rma_link.specs.Link.{IsLinked}
 use Rattle.rma_link.specs.Order.{IsDirectlyBefore, IsAtOrBefore, IsOnCycle, IsAfterCycle, IsPossible}
 use Rattle.rma_link.specs.Order.IsAtOrBefore.{at, before}
-use Rattle.rma_walk.specs.Outcome.{IsImpossible, IsFirstImpossible, AreFirstImpossible}
+use Rattle.rma_walk.specs.Outcome.{IsImpossible, IsFirstImpossible, AreFirstImpossible, IsOrder}
 use Rattle.rma_order.specs.RunLinks.{LinkTheSame}
 
 -- links that lead from and to the points of others, and maybe more
 abbrev LinkAll : Links → Links → Type 0
 LinkAll links others = (from to : Point) → IsLinked links from to → IsLinked others from to
 
-directly_before_all : (links others : Links) → LinkAll links others → (p q : Point) → IsDirectlyBefore links p q → IsDirectlyBefore others p q
+pub directly_before_all : (links others : Links) → LinkAll links others → (p q : Point) → IsDirectlyBefore links p q → IsDirectlyBefore others p q
 directly_before_all links others all p q (inl within) = inl within
 directly_before_all links others all p q (inr (inl next)) = inr (inl next)
 directly_before_all links others all p q (inr (inr linked)) = inr (inr (all p q linked))
 
-before_all : (links others : Links) → LinkAll links others → {p q : Point} → IsAtOrBefore links p q → IsAtOrBefore others p q
+pub before_all : (links others : Links) → LinkAll links others → {p q : Point} → IsAtOrBefore links p q → IsAtOrBefore others p q
 before_all links others all at = at
 before_all links others all (before {q = q} {r = r} first step) = before (before_all links others all first) (directly_before_all links others all q r step)
 
+pub on_cycle_all : (links others : Links) → LinkAll links others → (p : Point) → IsOnCycle links p → IsOnCycle others p
+on_cycle_all links others all p on = (on.0, on.1, before_all links others all on.2, before_all links others all on.3)
+
 after_cycle_all : (links others : Links) → LinkAll links others → (p : Point) → IsAfterCycle links p → IsAfterCycle others p
-after_cycle_all links others all p after =
-    let on : IsOnCycle others after.0 = (after.1.0, after.1.1, before_all links others all after.1.2, before_all links others all after.1.3) in
-    (after.0, on, before_all links others all after.2)
+after_cycle_all links others all p after = (after.0, on_cycle_all links others all after.0 after.1, before_all links others all after.2)
+
+-- what gives the order of one gives that of the other
+pub one_order : (links others : Links) → LinkTheSame links others → (p q : Point) → IsAtOrBefore links p q ↔ IsAtOrBefore others p q
+one_order links others same p q = (λ le. before_all links others same.only le, λ le. before_all others links same.all le)
+
+pub possible_same : (links others : Links) → LinkTheSame links others → IsPossible links → IsPossible others
+possible_same links others same possible p on = possible p (on_cycle_all others links same.all p on)
+
+pub order_same : (links others : Links) → LinkTheSame links others → (lens : List ℕ) (list : List Point) → IsOrder lens links list → IsOrder lens others list
+order_same links others same lens list order = record {
+  listed = order.listed;
+  only = order.only;
+  once = order.once;
+  ordered = λ j k p q j_at k_at le. order.ordered j k p q j_at k_at (before_all others links same.all le);
+}
+
+pub link_back : (links others : Links) → LinkTheSame links others → LinkTheSame others links
+link_back links others same = record { only = same.all; all = same.only }
 
 impossible_all : (links others : Links) → LinkAll links others → (rank : Rank) (call : ℕ) → IsImpossible links rank call → IsImpossible others rank call
 impossible_all links others all rank call (inl enters) = inl (after_cycle_all links others all (entry rank call) enters)

@@ -12,7 +12,7 @@ use Rattle.rma_order.specs.Impossible.{first_at, told, told_all}
 abbrev told_of : RankCalls → Option ℕ → Option ImpossibleCall
 told_of own first = option_and_then (told own) first
 
-at_next : (firsts : List (Option ℕ)) (i : ℕ) → first_at (drop 1 firsts) i ≡ first_at firsts (suc i)
+pub at_next : (firsts : List (Option ℕ)) (i : ℕ) → first_at (drop 1 firsts) i ≡ first_at firsts (suc i)
 at_next [] zero = refl
 at_next [] (suc i) = refl
 at_next (first ∷ firsts) i = refl

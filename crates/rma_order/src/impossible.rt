@@ -1,13 +1,15 @@
 //! The calls that are never left.
-ghost use Rattle.std.specs.Prelude.{◌≡◌, ◌≤◌, ◌++◌, [], length, IfOk, OnOk};
+ghost use Rattle.std.specs.Prelude.{◌≡◌, ◌≢◌, ◌≤◌, ◌++◌, [], length, IfOk, OnOk};
 ghost use Rattle.std.specs.List.{cons_option};
 ghost use Rattle.std.specs.Option.{option_and_then};
-ghost use Rattle.rma_run.specs.Run.{IsRun};
+ghost use Rattle.rma_link.specs.declared.links.Links.{Links};
+ghost use Rattle.rma_run.specs.Run.{IsRun, lens_of};
 ghost use Rattle.rma_match.specs.Matches.{AreMatches};
-ghost use Rattle.rma_order.specs.RunLinks.{links_of};
+ghost use Rattle.rma_walk.specs.Outcome.{IsStuck};
+ghost use Rattle.rma_order.specs.RunLinks.{LinkTheSame, links_of};
 ghost use Rattle.rma_order.specs.Impossible.{AreImpossibleCalls, first_at, told, told_all};
 
-use crate::call_counts::call_counts;
+use crate::counts::call_counts;
 use crate::links::{run_edges, with_meets};
 use crate::step::are_in_step;
 use rma_base::limits::RANKS;
@@ -71,8 +73,26 @@ fn walked(
     let links = with_meets(ranks, matches, edges)?;
     match first_impossible_calls(alloc, &counts, &links)? {
         None => Ok(Sequence::new(alloc)),
-        Some(firsts) => told_all(alloc, ranks, firsts.as_slice()),
+        Some(firsts) => stuck_calls(alloc, ranks, firsts.as_slice()),
     }
+}
+
+/// The first call of each rank that is never left, by rank, where a walk over the links of a run found these numbers. There is at
+/// least one.
+///
+/// # Errors
+///
+/// `Memory` where there is none left.
+pub fn stuck_calls(
+    alloc: Global,
+    ranks: &[RankCalls],
+    firsts: &[Option<u32>],
+) -> Result<Sequence<ImpossibleCall>, Memory>
+    requires { IsRun ranks.now }
+    ensures calls { IfOk result (λ found. (links : Links) → LinkTheSame links (links_of ranks.now) → IsStuck (lens_of ranks.now) links firsts.now → AreImpossibleCalls ranks.now found) }
+    ensures some { IfOk result (λ found. (links : Links) → LinkTheSame links (links_of ranks.now) → IsStuck (lens_of ranks.now) links firsts.now → found ≢ []) }
+{
+    told_all(alloc, ranks, firsts)
 }
 
 /// The calls of these numbers, by rank.

@@ -3,7 +3,7 @@ use Rattle.std.proofs.lemmas.List.Elements.{All-push}
 use Rattle.std.proofs.lemmas.Option.{slice_get_read}
 use Rattle.rma_run.specs.Run.{lens_of}
 use Rattle.rma_order.proofs.ToldLemmas.{lens_more}
-use Rattle.rma_order.proofs.call_counts.call_counts.Goals as goal
+use Rattle.rma_order.proofs.counts.call_counts.Goals as goal
 
 pub loop-own-preserved : goal.loop-own-preserved
 loop-own-preserved c =

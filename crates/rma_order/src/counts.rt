@@ -7,7 +7,11 @@ use rma_call::RankCalls;
 use std::alloc::Global;
 
 /// How many calls each rank makes.
-pub(crate) fn call_counts(alloc: Global, ranks: &[RankCalls]) -> Result<Vec<u32>, Memory>
+///
+/// # Errors
+///
+/// `Memory` where there is none left.
+pub fn call_counts(alloc: Global, ranks: &[RankCalls]) -> Result<Vec<u32>, Memory>
     requires { IsRun ranks.now }
     ensures counts { IfOk result (λ counts. counts.items ≡ lens_of ranks.now) }
     ensures below { IfOk result (λ counts. All (λ calls. calls < 2 ^ 31) counts.items) }
