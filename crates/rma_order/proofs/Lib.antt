@@ -1,6 +1,6 @@
-mod LinkLemmas
+pub mod LinkLemmas
 pub mod SameLinks
 mod ToldLemmas
 mod StepLemmas
-mod StuckLemmas
+pub mod StuckLemmas
 pub mod ImpossibleLemmas
