@@ -41,16 +41,16 @@ new_at P rows more numbers row is last new =
     let Q : List (List ℕ) → Type 0 = λ all. IsAtIndex P all row in
     subst Q (sym is) (omega arith, subst (IsRow P) (sym (row_new rows numbers row last)) new)
 
-pub table_with_row : (n : ℕ) (links : Links) (old new : Table) (numbers : List ℕ) → IsTable n links old → new.steps ≡ old.steps → new.rows.items ≡ old.rows.items ++ numbers ∷ [] → length numbers ≡ n → IsTable n links new
+pub table_with_row : (n : ℕ) (links : Links) (old new : Table) (numbers : List ℕ) → IsTable n links old → new.steps ≡ old.steps → new.rows ≡ old.rows ++ numbers ∷ [] → length numbers ≡ n → IsTable n links new
 table_with_row n links old new numbers is steps rows width =
     let same : new.steps.items ≡ old.steps.items = ap (λ v. v.items) steps in
     record {
       size = ap length same ∙ is.size;
-      widths = subst (All (λ row. length row ≡ n)) (sym rows) (All-push (λ row. length row ≡ n) old.rows.items numbers is.widths width);
+      widths = subst (All (λ row. length row ≡ n)) (sym rows) (All-push (λ row. length row ≡ n) old.rows numbers is.widths width);
       sorted = λ r. subst (λ all. IsNonDecreasingBy (λ (s : Step). s.pos) (steps_of all r)) (sym same) (is.sorted r);
       right = λ r s has.
           let Q : List (List ℕ) → Type 0 = λ all. IsAtIndex (IsBefore links (point_at r s.pos)) all s.row in
-          subst Q (sym rows) (still_at (IsBefore links (point_at r s.pos)) old.rows.items numbers s.row (is.right r s (subst (λ all. Contains (steps_of all r) s) same has)));
+          subst Q (sym rows) (still_at (IsBefore links (point_at r s.pos)) old.rows numbers s.row (is.right r s (subst (λ all. Contains (steps_of all r) s) same has)));
     }
 
 pub shared_with_row : (links : Links) (rows more : List (List ℕ)) (numbers : List ℕ) (meets : List (Option ℕ)) → more ≡ rows ++ numbers ∷ [] → AreShared links rows meets → AreShared links more meets
@@ -150,8 +150,8 @@ module _ (n : ℕ) (links : Links) (old new : List (List Step)) (rank : ℕ) (s 
         (step_cases_at r t has);
   }
 
-  pub table_with_step : (table later : Table) → IsTable n links table → table.steps.items ≡ old → later.steps.items ≡ new → later.rows.items ≡ table.rows.items → All (λ (t : Step). t.pos ≤ s.pos) (steps_of old rank)
-      → IsAtIndex (IsBefore links (point_at rank s.pos)) table.rows.items s.row → IsTable n links later
+  pub table_with_step : (table later : Table) → IsTable n links table → table.steps.items ≡ old → later.steps.items ≡ new → later.rows ≡ table.rows → All (λ (t : Step). t.pos ≤ s.pos) (steps_of old rank)
+      → IsAtIndex (IsBefore links (point_at rank s.pos)) table.rows s.row → IsTable n links later
   table_with_step table later ok were are rows last right = record {
     size = ap length (are ∙ is) ∙ length-set old rank _ ∙ ap length (sym were) ∙ ok.size;
     widths = subst (All (λ row. length row ≡ n)) (sym rows) ok.widths;
@@ -169,12 +169,12 @@ module _ (n : ℕ) (links : Links) (old new : List (List Step)) (rank : ℕ) (s 
         subst (R r t) (sym rows)
         (⊎_elim
         (λ (before : Contains (steps_of old r) t). ok.right r t (subst (λ all. Contains (steps_of all r) t) (sym were) before))
-        (λ (new_one : (r ≡ rank) × (s ≡ t)). subst (λ k. R k t table.rows.items) (sym new_one.0) (subst (λ o. R rank o table.rows.items) new_one.1 right))
+        (λ (new_one : (r ≡ rank) × (s ≡ t)). subst (λ k. R k t table.rows) (sym new_one.0) (subst (λ o. R rank o table.rows) new_one.1 right))
         (step_cases_at r t (subst (λ all. Contains (steps_of all r) t) are has)));
   }
 
 -- a table without steps
-pub empty_table : (n : ℕ) (links : Links) (table : Table) → table.steps.items ≡ replicate n [] → table.rows.items ≡ [] → IsTable n links table
+pub empty_table : (n : ℕ) (links : Links) (table : Table) → table.steps.items ≡ replicate n [] → table.rows ≡ [] → IsTable n links table
 empty_table n links table steps rows =
     let none : (r : ℕ) → steps_of table.steps.items r ≡ [] = λ r. ap (λ all. steps_of all r) steps ∙ replicate_at n r [] in
     record {
@@ -185,7 +185,7 @@ empty_table n links table steps rows =
     }
 
 -- clocks without steps
-pub empty_builder : (n : ℕ) (links : Links) (builder : Builder) → builder.links.now ≡ links → builder.table.steps.items ≡ replicate n [] → builder.table.rows.items ≡ [] → builder.meets.items ≡ replicate (length links.meets) None
+pub empty_builder : (n : ℕ) (links : Links) (builder : Builder) → builder.links.now ≡ links → builder.table.steps.items ≡ replicate n [] → builder.table.rows ≡ [] → builder.meets.items ≡ replicate (length links.meets) None
     → IsBuilder n links builder
 empty_builder n links builder same steps rows meets = record {
   links_are = same;

@@ -1,5 +1,7 @@
 pub mod StepLemmas
 pub mod RowLemmas
+mod BlockLemmas
+mod StoredLemmas
 pub mod BeforeLemmas
 pub mod MeetLemmas
 pub mod BuilderLemmas

@@ -49,7 +49,7 @@ module _ (points : List ℕ) (links : Links) (starts : (d t : Point) → IsLinke
       same_point x y two.0 (omega arith)
 
 -- nothing is settled
-pub live_none : (n : ℕ) (table : Table) → table.steps.items ≡ replicate n [] → table.rows.items ≡ [] → IsLive (replicate n 0) no_links table
+pub live_none : (n : ℕ) (table : Table) → table.steps.items ≡ replicate n [] → table.rows ≡ [] → IsLive (replicate n 0) no_links table
 live_none n table steps rows =
     let zeros : (r : ℕ) → slice_index (replicate n 0) r ≡ 0 = λ r. replicate_at n r 0 in
     let never : (p : Point) → IsReached (replicate n 0) p → ⊥ = λ p is. let zero = zeros p.rank.0 in absurd (omega arith) in
@@ -71,7 +71,7 @@ live_none n table steps rows =
     }
 
 -- a table with the same steps and other rows
-pub table_as : (n : ℕ) (links : Links) (old new : Table) → IsTable n links old → new.steps.items ≡ old.steps.items → new.rows.items ≡ old.rows.items → IsTable n links new
+pub table_as : (n : ℕ) (links : Links) (old new : Table) → IsTable n links old → new.steps.items ≡ old.steps.items → new.rows ≡ old.rows → IsTable n links new
 table_as n links old new is steps rows = record {
   size = ap length steps ∙ is.size;
   widths = subst (All (λ row. length row ≡ n)) (sym rows) is.widths;

@@ -22,7 +22,7 @@ pub(crate) struct Builder<'a> {
     /// What is before the returns so far.
     pub(crate) table: Table,
     /// By meet, the index of its row, once one of its members is reached.
-    pub(crate) meets: Vec<Option<usize>>,
+    pub(crate) meets: Vec<Option<u32>>,
 }
 
 impl<'a> Builder<'a> {
@@ -67,28 +67,33 @@ impl<'a> Builder<'a> {
         Ok(row)
     }
 
-    /// The index of the row of the meet.
-    fn share(&mut self, alloc: Global, index: usize) -> Result<usize, Memory>
+    /// The index of the row of the meet. A new one shares blocks with the given one.
+    fn share(&mut self, alloc: Global, index: usize, like: Option<u32>) -> Result<u32, Memory>
         requires builder { IsBuilder (length self.old.table.steps.items) self.old.links.now self.old }
         requires usable { IsUsable (length self.old.table.steps.items) self.old.links.now self.old.table.steps.items (Meet index) }
         requires possible { IsPossible self.old.links.now }
         ensures links { self.new.links.now ≡ self.old.links.now }
         ensures steps { self.new.table.steps ≡ self.old.table.steps }
         ensures builder { OnOk result (IsBuilder (length self.old.table.steps.items) self.old.links.now self.new) }
-        ensures row { IfOk result (λ row. (row < length self.new.table.rows.items) × IsRow (IsBeforeSource self.old.links.now (Meet index)) (row_at self.new.table.rows.items row)) }
+        ensures row { IfOk result (λ row. (row < length self.new.table.rows) × IsRow (IsBeforeSource self.old.links.now (Meet index)) (row_at self.new.table.rows row)) }
     {
         if let Some(row) = self.meets[index] {
             return Ok(row);
         }
         let numbers = self.meet_row(alloc, index)?;
-        let row = self.table.rows.len();
-        self.table.rows.push(numbers)?;
+        let row = self.table.rows.add(&numbers, like)?;
         self.meets[index] = Some(row);
         Ok(row)
     }
 
     /// Raises the row to all that is at or before an entry of the source.
-    fn raise_by(&mut self, alloc: Global, row: &mut Row, source: Source) -> Result<(), Memory>
+    fn raise_by(
+        &mut self,
+        alloc: Global,
+        row: &mut Row,
+        source: Source,
+        like: Option<u32>,
+    ) -> Result<(), Memory>
         requires builder { IsBuilder (length self.old.table.steps.items) self.old.links.now self.old }
         requires usable { IsUsable (length self.old.table.steps.items) self.old.links.now self.old.table.steps.items source }
         requires possible { IsPossible self.old.links.now }
@@ -101,15 +106,15 @@ impl<'a> Builder<'a> {
         match source {
             Source::Entry(point) => self.raise_to(row, point),
             Source::Meet(index) => {
-                let shared = self.share(alloc, index)?;
-                row.join(&self.table.rows[shared]);
+                let shared = self.share(alloc, index, like)?;
+                self.table.rows.raise(row, shared);
             }
         }
         Ok(())
     }
 
     /// The index of a row of all that is at or before the entry of a call, or an entry of one of its sources.
-    fn own_row(&mut self, alloc: Global, own: Point, sources: &[Source]) -> Result<usize, Memory>
+    fn own_row(&mut self, alloc: Global, own: Point, sources: &[Source]) -> Result<u32, Memory>
         requires builder { IsBuilder (length self.old.table.steps.items) self.old.links.now self.old }
         requires caught { IsCaught self.old.links.now self.old.table.steps.items own }
         requires rank { own.rank.0 < length self.old.table.steps.items }
@@ -119,15 +124,15 @@ impl<'a> Builder<'a> {
         ensures links { self.new.links.now ≡ self.old.links.now }
         ensures steps { self.new.table.steps ≡ self.old.table.steps }
         ensures builder { OnOk result (IsBuilder (length self.old.table.steps.items) self.old.links.now self.new) }
-        ensures row { IfOk result (λ row. (row < length self.new.table.rows.items) × IsRow (λ p. IsAtOrBefore self.old.links.now p own ⊎ IsBeforeSome self.old.links.now sources.now p) (row_at self.new.table.rows.items row)) }
+        ensures row { IfOk result (λ row. (row < length self.new.table.rows) × IsRow (λ p. IsAtOrBefore self.old.links.now p own ⊎ IsBeforeSome self.old.links.now sources.now p) (row_at self.new.table.rows row)) }
     {
+        let like = self.table.last_row(own.rank);
         let mut numbers = Row::new(alloc, self.table.steps.len())?;
         self.raise_to(&mut numbers, own);
         for source in sources {
-            self.raise_by(alloc, &mut numbers, *source)?;
+            self.raise_by(alloc, &mut numbers, *source, like)?;
         }
-        let row = self.table.rows.len();
-        self.table.rows.push(numbers)?;
+        let row = self.table.rows.add(&numbers, like)?;
         Ok(row)
     }
 
@@ -137,7 +142,7 @@ impl<'a> Builder<'a> {
         alloc: Global,
         point: Point,
         sources: &[Source],
-    ) -> Result<usize, Memory>
+    ) -> Result<u32, Memory>
         requires builder { IsBuilder (length self.old.table.steps.items) self.old.links.now self.old }
         requires pos { 0 < point.pos }
         requires caught { IsCaught self.old.links.now self.old.table.steps.items (entry_before point) }
@@ -148,11 +153,12 @@ impl<'a> Builder<'a> {
         ensures links { self.new.links.now ≡ self.old.links.now }
         ensures steps { self.new.table.steps ≡ self.old.table.steps }
         ensures builder { OnOk result (IsBuilder (length self.old.table.steps.items) self.old.links.now self.new) }
-        ensures row { IfOk result (λ row. (row < length self.new.table.rows.items) × IsRow (IsBefore self.old.links.now point) (row_at self.new.table.rows.items row)) }
+        ensures row { IfOk result (λ row. (row < length self.new.table.rows) × IsRow (IsBefore self.old.links.now point) (row_at self.new.table.rows row)) }
     {
         if sources.len() == 1 {
             if let Source::Meet(index) = sources[0] {
-                return self.share(alloc, index);
+                let like = self.table.last_row(point.rank);
+                return self.share(alloc, index, like);
             }
         }
         let own = Point {

@@ -1,5 +1,5 @@
 //! How many points of each rank.
-ghost use Rattle.std.specs.Prelude.{◌≡◌, ◌<◌, ℕ, length, max, replicate, slice_index, slice_set, IfOk};
+ghost use Rattle.std.specs.Prelude.{◌≡◌, ◌+◌, ◌<◌, ◌≤◌, ◌⊎◌, ℕ, length, max, replicate, slice_index, slice_set, IfOk};
 ghost use Rattle.rma_clock.specs.inside.Before.{IsLast};
 
 use rma_base::Memory;
@@ -29,6 +29,20 @@ impl Row {
         Ok(Row {
             numbers: vec![in alloc; 0; ranks]?,
         })
+    }
+
+    /// How many ranks there are.
+    pub(crate) fn len(&self) -> usize
+        ensures { result ≡ length self.now }
+    {
+        self.numbers.len()
+    }
+
+    /// The numbers by rank.
+    pub(crate) fn as_slice(&self) -> &[u32]
+        ensures { result.now ≡ self.now }
+    {
+        self.numbers.as_slice()
     }
 
     /// The number of the rank.
@@ -65,6 +79,17 @@ impl Row {
     {
         raise_all(&mut self.numbers, &other.numbers);
     }
+
+    /// Raises the numbers from one rank on, each to the one beside it.
+    pub(crate) fn raise_part(&mut self, first: usize, others: &[u32])
+        requires { first + length others.now ≤ length self.old }
+        ensures size { length self.new ≡ length self.old }
+        ensures part { (k : ℕ) → k < length others.now → slice_index self.new (first + k) ≡ max (slice_index self.old (first + k)) (slice_index others.now k) }
+        ensures before { (rank : ℕ) → rank < first → slice_index self.new rank ≡ slice_index self.old rank }
+        ensures after { (rank : ℕ) → first + length others.now ≤ rank → slice_index self.new rank ≡ slice_index self.old rank }
+    {
+        raise_from(&mut self.numbers, first, others);
+    }
 }
 
 /// Raises each number to the one beside it.
@@ -74,5 +99,17 @@ fn raise_all(numbers: &mut [u32], others: &[u32])
 {
     for rank in 0..numbers.len() {
         numbers[rank] = numbers[rank].max(others[rank]);
+    }
+}
+
+/// Raises the numbers from one rank on, each to the one beside it.
+fn raise_from(numbers: &mut [u32], first: usize, others: &[u32])
+    requires { first + length others.now ≤ length numbers.old }
+    ensures part { (k : ℕ) → k < length others.now → slice_index numbers.new (first + k) ≡ max (slice_index numbers.old (first + k)) (slice_index others.now k) }
+    ensures before { (rank : ℕ) → rank < first → slice_index numbers.new rank ≡ slice_index numbers.old rank }
+    ensures after { (rank : ℕ) → first + length others.now ≤ rank → slice_index numbers.new rank ≡ slice_index numbers.old rank }
+{
+    for k in 0..others.len() {
+        numbers[first + k] = numbers[first + k].max(others[k]);
     }
 }

@@ -24,7 +24,9 @@ pub struct SharedClocks {
 impl SharedClocks {
     /// The clocks of a run whose ranks make so many calls, from an order of its points.
     ///
-    /// A return that receives something takes a number of each rank, and all returns of a meet take one row of them together.
+    /// A return that receives something takes time for each rank, and memory for the blocks of 16 ranks of which more is before it than
+    /// before the last such return of its rank: at 1,024 ranks, at most 240 bytes where there are two. All returns of a meet take one row
+    /// of numbers together.
     ///
     /// # Errors
     ///

@@ -10,7 +10,7 @@ pub(crate) struct Step {
     /// Its position.
     pub(crate) pos: u32,
     /// The index of the row of the points before it.
-    pub(crate) row: usize,
+    pub(crate) row: u32,
 }
 
 /// The last step at or before the position.

@@ -8,8 +8,9 @@ ghost use Rattle.rma_clock.specs.inside.Before.{IsBefore, IsRow, IsRaised};
 ghost use Rattle.rma_clock.specs.inside.Table.{IsTable, IsCaught, IsWhole};
 
 use crate::row::Row;
+use crate::rows::Rows;
 use crate::step::{Step, last_step};
-use rma_base::{Memory, Point, Sequence};
+use rma_base::{Memory, Point, Rank, Sequence};
 use std::alloc::Global;
 
 /// By rank, what is before its returns that receive something.
@@ -18,18 +19,18 @@ pub(crate) struct Table {
     /// By rank, those returns by their positions.
     pub(crate) steps: Vec<Sequence<Step>>,
     /// What steps name by index.
-    pub(crate) rows: Vec<Row>,
+    pub(crate) rows: Rows,
 }
 
 impl Table {
     /// No step yet, of so many ranks.
     pub(crate) fn new(alloc: Global, ranks: usize) -> Result<Table, Memory>
         ensures steps { IfOk result (λ table. table.steps.items ≡ replicate ranks []) }
-        ensures rows { IfOk result (λ table. table.rows.items ≡ []) }
+        ensures rows { IfOk result (λ table. table.rows ≡ []) }
     {
         Ok(Table {
             steps: empty_lists(alloc, ranks)?,
-            rows: Vec::new(alloc),
+            rows: Rows::new(alloc),
         })
     }
 
@@ -43,9 +44,18 @@ impl Table {
     {
         let steps = &self.steps[point.rank.0 as usize];
         if let Some(step) = last_step(steps.as_slice(), point.pos) {
-            row.join(&self.rows[step.row]);
+            self.rows.raise(row, step.row);
         }
         row.raise(point.rank.0, point.pos + 1);
+    }
+
+    /// The row of the last step of the rank, if it has one.
+    pub(crate) fn last_row(&self, rank: Rank) -> Option<u32> {
+        let steps = self.steps.get(rank.0 as usize)?;
+        match steps.as_slice().last() {
+            Some(step) => Some(step.row),
+            None => None,
+        }
     }
 
     /// A row of all that is before the next point of a rank in the rank's own order.
@@ -54,7 +64,7 @@ impl Table {
         ensures size { IfOk result (λ row. length row ≡ length self.now.steps.items) }
         ensures row { IfOk result (λ row. (points : List ℕ) (links : Links) → IsLive points links self.now → IsNext points point → IsRow (IsBeforeOwn links point) row) }
     {
-        let mut row = Row::new(*self.rows.allocator(), self.steps.len())?;
+        let mut row = Row::new(*self.steps.allocator(), self.steps.len())?;
         if point.pos > 0 {
             let own = Point {
                 rank: point.rank,
@@ -88,8 +98,8 @@ impl Table {
             return Ok(());
         }
         let numbers = self.next_row(point, sources)?;
-        let row = self.rows.len();
-        self.rows.push(numbers)?;
+        let like = self.last_row(point.rank);
+        let row = self.rows.add(&numbers, like)?;
         let steps = &mut self.steps[point.rank.0 as usize];
         steps.push(Step {
             pos: point.pos,
@@ -107,7 +117,7 @@ impl Table {
         }
         let steps = &self.steps[q.rank.0 as usize];
         match last_step(steps.as_slice(), q.pos) {
-            Some(step) => p.pos < self.rows[step.row].number(p.rank.0),
+            Some(step) => p.pos < self.rows.number(step.row, p.rank.0),
             None => false,
         }
     }

@@ -32,9 +32,9 @@ row_at rows index = slice_index_or rows index []
 -- each step stands at its position, with a row that covers what is before that return
 pub record IsTable (ranks : ℕ) (links : Links) (table : Table) : Type 0 where
   pub size : length table.steps.items ≡ ranks
-  pub widths : All (λ row. length row ≡ ranks) table.rows.items
+  pub widths : All (λ row. length row ≡ ranks) table.rows
   pub sorted : (rank : ℕ) → IsNonDecreasingBy (λ s. s.pos) (steps_of table.steps.items rank)
-  pub right : (rank : ℕ) (s : Step) → Contains (steps_of table.steps.items rank) s → (s.row < length table.rows.items) × IsRow (IsBefore links (point_at rank s.pos)) (row_at table.rows.items s.row)
+  pub right : (rank : ℕ) (s : Step) → Contains (steps_of table.steps.items rank) s → (s.row < length table.rows) × IsRow (IsBefore links (point_at rank s.pos)) (row_at table.rows s.row)
 
 -- a point that receives something has a step
 abbrev pub HasStep : Links → List (List Step) → Point → Type 0
@@ -74,7 +74,7 @@ pub record IsSettled (point : Point) (sources : List Source) (old new : List (Li
 pub record IsBuilder (ranks : ℕ) (links : Links) (builder : Builder) : Type 0 where
   pub links_are : builder.links.now ≡ links
   pub rows : IsTable ranks links builder.table
-  pub shared : AreShared links builder.table.rows.items builder.meets.items
+  pub shared : AreShared links builder.table.rows builder.meets.items
 
 -- a table of the first points of each rank, so many, of a possible run
 pub record IsWhole (points : List ℕ) (links : Links) (table : Table) : Type 0 where

@@ -47,12 +47,12 @@ returns-clause-builder c =
     let n = length c.args.self.now.table.steps.items in
     let links = c.args.self.now.links.now in
     let now = c.loop-source.self in
-    let more : c.push.new.self.items ≡ now.table.rows.items ++ c.loop-source.numbers ∷ [] = c.in_ok-push.ensures.items in
+    let more : c.add.new.self ≡ now.table.rows ++ c.loop-source.numbers ∷ [] = c.in_ok-row.ensures.ok in
     let width : length c.loop-source.numbers ≡ n = c.loop-source.invariant.raised.size ∙ length-replicate n 0 in
     record {
       links_are = c.loop-source.invariant.links;
       rows = table_with_row n links now.table _ c.loop-source.numbers c.loop-source.invariant.builder.rows refl more width;
-      shared = shared_with_row links now.table.rows.items c.push.new.self.items c.loop-source.numbers now.meets.items more c.loop-source.invariant.builder.shared;
+      shared = shared_with_row links now.table.rows c.add.new.self c.loop-source.numbers now.meets.items more c.loop-source.invariant.builder.shared;
     }
 
 pub returns-clause-row : goal.returns-clause-row
@@ -61,9 +61,9 @@ returns-clause-row c =
     let links = c.args.self.now.links.now in
     let now = c.loop-source.self in
     let sources = c.args.sources.now in
-    let more : c.push.new.self.items ≡ now.table.rows.items ++ c.loop-source.numbers ∷ [] = c.in_ok-push.ensures.items in
-    let last : c.len-row.result ≡ length now.table.rows.items = omega (arith, c.len-row.ensures) in
+    let more : c.add.new.self ≡ now.table.rows ++ c.loop-source.numbers ∷ [] = c.in_ok-row.ensures.ok in
+    let last : c.in_ok-row.row ≡ length now.table.rows = c.in_ok-row.ensures.index in
     let all : take c.loop-source.source-index sources ≡ sources = take_all c.loop-source.source-index sources (omega arith) in
     let P : List Source → Type 0 = λ xs. IsRaised (λ p. IsAtOrBefore links p c.args.own ⊎ IsBeforeSome links xs p) (replicate n 0) c.loop-source.numbers in
-    new_at (λ p. IsAtOrBefore links p c.args.own ⊎ IsBeforeSome links sources p) now.table.rows.items c.push.new.self.items c.loop-source.numbers c.len-row.result more last
+    new_at (λ p. IsAtOrBefore links p c.args.own ⊎ IsBeforeSome links sources p) now.table.rows c.add.new.self c.loop-source.numbers c.in_ok-row.row more last
     (row_from_none (λ p. IsAtOrBefore links p c.args.own ⊎ IsBeforeSome links sources p) n c.loop-source.numbers (subst P all c.loop-source.invariant.raised))

@@ -15,7 +15,7 @@ share-requires-clause-usable c =
 pub returns-in-Meet-clause-row : goal.returns-in-Meet-clause-row
 returns-in-Meet-clause-row c =
     let links = c.args.self.now.links.now in
-    let rows = c.share.new.self.table.rows.items in
+    let rows = c.share.new.self.table.rows in
     let sources = c.args.sources.now in
     let one : sources ≡ Meet c.in-Meet.index ∷ [] = only_one sources (Meet c.in-Meet.index) _ c.if-sources-eq1.true c.in-Meet.is in
     let R : ℕ → Type 0 = λ row. (row < length rows) × IsRow (IsBeforeSource links (Meet c.in-Meet.index)) (row_at rows row) in

@@ -24,18 +24,18 @@ returns-clause-builder c =
     let size = shared.size in
     let fits = c.requires.usable.0 in
     let there : c.args.index < length old.meets.items = omega arith in
-    let more : c.push.new.self.items ≡ old.table.rows.items ++ c.in_ok-numbers.numbers ∷ [] = c.in_ok-push.ensures.items in
-    let last : c.len-row.result ≡ length old.table.rows.items = omega (arith, c.len-row.ensures) in
+    let numbers = c.in_ok-numbers.numbers in
+    let rows = c.add.new.self in
+    let more : rows ≡ old.table.rows ++ numbers ∷ [] = c.in_ok-row.ensures.ok in
     record {
       links_are = refl;
-      rows = table_with_row n links old.table _ c.in_ok-numbers.numbers c.requires.builder.rows refl more c.in_ok-numbers.ensures.size;
-      shared = shared_with_meet links c.push.new.self.items old.meets.items c.args.index c.len-row.result
-          (shared_with_row links old.table.rows.items c.push.new.self.items c.in_ok-numbers.numbers old.meets.items more shared) there
-          (new_at (IsBeforeSource links (Meet c.args.index)) old.table.rows.items c.push.new.self.items c.in_ok-numbers.numbers c.len-row.result more last c.in_ok-numbers.ensures.row);
+      rows = table_with_row n links old.table _ numbers c.requires.builder.rows refl more c.in_ok-numbers.ensures.size;
+      shared = shared_with_meet links rows old.meets.items c.args.index c.in_ok-row.row
+          (shared_with_row links old.table.rows rows numbers old.meets.items more shared) there
+          (new_at (IsBeforeSource links (Meet c.args.index)) old.table.rows rows numbers c.in_ok-row.row more c.in_ok-row.ensures.index c.in_ok-numbers.ensures.row);
     }
 
 pub returns-clause-row : goal.returns-clause-row
 returns-clause-row c =
     let old = c.args.self.now in
-    let last : c.len-row.result ≡ length old.table.rows.items = omega (arith, c.len-row.ensures) in
-    new_at (IsBeforeSource old.links.now (Meet c.args.index)) old.table.rows.items c.push.new.self.items c.in_ok-numbers.numbers c.len-row.result c.in_ok-push.ensures.items last c.in_ok-numbers.ensures.row
+    new_at (IsBeforeSource old.links.now (Meet c.args.index)) old.table.rows c.add.new.self c.in_ok-numbers.numbers c.in_ok-row.row c.in_ok-row.ensures.ok c.in_ok-row.ensures.index c.in_ok-numbers.ensures.row

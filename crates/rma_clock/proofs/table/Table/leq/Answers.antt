@@ -29,19 +29,6 @@ last_step-requires c =
     let is : c.as_slice.result.now ≡ steps_of steps r = c.as_slice.ensures ∙ get_or_read steps r c.index-steps.result.now there c.index-steps.ensures [] in
     subst (λ xs. IsNonDecreasingBy (λ (s : Step). s.pos) xs) (sym is) (known.rows.sorted r)
 
-pub index-requires : goal.index-requires
-index-requires c =
-    let steps = c.args.self.now.steps.items in
-    let r = c.args.q.rank.0 in
-    let known = c.requires.2 in
-    let size = known.rows.size in
-    let there : r < length steps = (let in_points = in_reach c.requires.0 c.args.q c.requires.4 in omega arith) in
-    let is : c.as_slice.result.now ≡ steps_of steps r = c.as_slice.ensures ∙ get_or_read steps r c.index-steps.result.now there c.index-steps.ensures [] in
-    let P : List Step → Type 0 = λ xs. IsLastStep xs c.args.q.pos (Some c.in-Some.step) in
-    let last = subst P is c.in-Some.ensures in
-    let lt : c.in-Some.step.row < length c.args.self.now.rows.items = (known.rows.right r c.in-Some.step last.0).0 in
-    omega arith
-
 pub number-requires : goal.number-requires
 number-requires c =
     let steps = c.args.self.now.steps.items in
@@ -52,11 +39,10 @@ number-requires c =
     let is : c.as_slice.result.now ≡ steps_of steps r = c.as_slice.ensures ∙ get_or_read steps r c.index-steps.result.now there c.index-steps.ensures [] in
     let P : List Step → Type 0 = λ xs. IsLastStep xs c.args.q.pos (Some c.in-Some.step) in
     let last = subst P is c.in-Some.ensures in
-    let lt : c.in-Some.step.row < length c.args.self.now.rows.items = (known.rows.right r c.in-Some.step last.0).0 in
-    let W : List ℕ → Type 0 = λ row. length row ≡ length c.requires.0 in
-    let width : length c.index.result.now ≡ length c.requires.0 = subst W (sym c.index.ensures) (known.rows.widths c.in-Some.step.row c.index.result.now lt) in
+    let lt : c.in-Some.step.row < length c.args.self.now.rows = (known.rows.right r c.in-Some.step last.0).0 in
+    let width : length (row_at c.args.self.now.rows c.in-Some.step.row) ≡ length c.requires.0 = known.rows.widths c.in-Some.step.row [] lt in
     let in_points = in_reach c.requires.0 c.args.p c.requires.3 in
-    omega arith
+    record { row = lt; rank = omega arith }
 
 pub returns-in-Some : goal.returns-in-Some
 returns-in-Some c points links clocks p_is q_is =
@@ -68,16 +54,15 @@ returns-in-Some c points links clocks p_is q_is =
     let is : c.as_slice.result.now ≡ steps_of steps r = c.as_slice.ensures ∙ get_or_read steps r c.index-steps.result.now there c.index-steps.ensures [] in
     let P : List Step → Type 0 = λ xs. IsLastStep xs c.args.q.pos (Some c.in-Some.step) in
     let last = subst P is c.in-Some.ensures in
-    let lt : c.in-Some.step.row < length c.args.self.now.rows.items = (known.rows.right r c.in-Some.step last.0).0 in
+    let lt : c.in-Some.step.row < length c.args.self.now.rows = (known.rows.right r c.in-Some.step last.0).0 in
     let p = c.args.p in
     let q = c.args.q in
     let s = c.in-Some.step in
     let right = (clocks.rows.right r s last.0).1 in
-    let row : c.index.result.now ≡ row_at c.args.self.now.rows.items s.row = get_or_read c.args.self.now.rows.items s.row c.index.result.now lt c.index.ensures [] in
-    let number : c.number.result ≡ get_or (row_at c.args.self.now.rows.items s.row) p.rank.0 0 = c.number.ensures ∙ ap (λ (xs : List ℕ). get_or xs p.rank.0 0) row in
+    let number : c.number.result ≡ get_or (row_at c.args.self.now.rows s.row) p.rank.0 0 = c.number.ensures in
     let caught = clocks.caught q q_is in (
       λ test. (let lt_number = ltb-true p.pos c.number.result test in before_point links steps r q.pos caught s last.1 p (right.only p (omega arith))),
-      λ le. (let covered : Covers (row_at c.args.self.now.rows.items s.row) p = right.all p (before_step links steps r q.pos caught s last le refl (omega arith) last.1 c.if-p-q.false) in lt-ltb p.pos c.number.result (omega arith)),
+      λ le. (let covered : Covers (row_at c.args.self.now.rows s.row) p = right.all p (before_step links steps r q.pos caught s last le refl (omega arith) last.1 c.if-p-q.false) in lt-ltb p.pos c.number.result (omega arith)),
     )
 
 pub returns-in-None : goal.returns-in-None
