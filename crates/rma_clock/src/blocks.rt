@@ -22,7 +22,7 @@ pub(crate) fn add_list(
     let mut at = 0;
     while at < list.len() {
         let end = block_end(at, size, list.len());
-        let start = add_block(table, &list[at..end], start_at(like, starts.len()))?;
+        let start = add_block(table, &list[at..end], nth(like, starts.len()))?;
         starts.push(start)?;
         at = end;
     }
@@ -42,7 +42,7 @@ fn block_end(at: usize, size: usize, len: usize) -> usize
 }
 
 /// The start at the index, if there is one.
-fn start_at(starts: &[u32], index: usize) -> Option<u32> {
+fn nth(starts: &[u32], index: usize) -> Option<u32> {
     match starts.get(index) {
         Some(start) => Some(*start),
         None => None,

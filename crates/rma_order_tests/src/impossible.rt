@@ -1,5 +1,6 @@
-//! The links of runs, and the calls that are never left.
+//! The links of runs, the calls that are never left, and the order of the points.
 use rma_base::{LineNo, Rank};
+use rma_happens_before::{RunOrder, order_of};
 use rma_match::Matches;
 use rma_order::{ImpossibleCall, impossible_calls, run_links};
 use rma_run::is_run;
@@ -8,11 +9,12 @@ use std::alloc::Global;
 use std::process::Abort;
 use std::test::Fail;
 
-/// A run: the logs of its ranks, how many edges and meets it has, and the first call of each rank that is never left.
+/// A run: the logs of its ranks, how many edges, meets and points it has, and the first call of each rank that is never left.
 struct Run {
     logs: &'static [&'static str],
     edges: usize,
     meets: usize,
+    points: usize,
     stopped: &'static [(u32, u32)],
 }
 
@@ -21,6 +23,7 @@ static RUNS: [Run; 6] = [
         logs: &["rma 1 0 1\nend\n"],
         edges: 0,
         meets: 0,
+        points: 0,
         stopped: &[],
     },
     // A message and a barrier.
@@ -31,6 +34,7 @@ static RUNS: [Run; 6] = [
         ],
         edges: 1,
         meets: 1,
+        points: 8,
         stopped: &[],
     },
     // Each rank receives before it sends.
@@ -41,6 +45,7 @@ static RUNS: [Run; 6] = [
         ],
         edges: 2,
         meets: 0,
+        points: 8,
         stopped: &[(0, 2), (1, 2)],
     },
     // Rank 2 waits for a rank in the circle.
@@ -52,6 +57,7 @@ static RUNS: [Run; 6] = [
         ],
         edges: 3,
         meets: 0,
+        points: 16,
         stopped: &[(0, 2), (1, 2), (2, 4)],
     },
     // The creation and the fences with `noprecede` are no meets; the fence without and the free are.
@@ -62,6 +68,7 @@ static RUNS: [Run; 6] = [
         ],
         edges: 0,
         meets: 2,
+        points: 16,
         stopped: &[],
     },
     // A broadcast from rank 0 and a reduction to it: two edges each; one of no bytes has none, an allreduce is a meet.
@@ -73,6 +80,7 @@ static RUNS: [Run; 6] = [
         ],
         edges: 4,
         meets: 1,
+        points: 24,
         stopped: &[],
     },
 ];
@@ -85,6 +93,20 @@ fn are(found: &[ImpossibleCall], stopped: &[(u32, u32)]) -> bool {
         })
 }
 
+/// Whether this is the order of the run, or these are its calls that are never left.
+fn is_order_of(order: &RunOrder, run: &Run) -> bool {
+    match order {
+        RunOrder::Possible(order) => {
+            run.stopped.is_empty()
+                && order.links.edges.len() == run.edges
+                && order.links.meets.len() == run.meets
+                && order.points.len() == run.points
+        }
+        RunOrder::Impossible(calls) => !run.stopped.is_empty()
+            && are(calls.as_slice(), run.stopped),
+    }
+}
+
 fn check(rt: &impl Abort, alloc: Global, run: &Run) -> Result<(), Fail> {
     let calls = run_of(alloc, run.logs)?;
     assert!(rt; is_run(calls.as_slice()));
@@ -94,6 +116,8 @@ fn check(rt: &impl Abort, alloc: Global, run: &Run) -> Result<(), Fail> {
     assert!(rt; links.meets.len() == run.meets);
     let found = impossible_calls(alloc, calls.as_slice(), &matches)?;
     assert!(rt; are(found.as_slice(), run.stopped));
+    let order = order_of(alloc, calls.as_slice(), &matches)?;
+    assert!(rt; is_order_of(&order, run));
     Ok(())
 }
 

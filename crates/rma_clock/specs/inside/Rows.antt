@@ -3,7 +3,7 @@ use Rattle.std.specs.Prelude.{ℕ, ◌≡◌, ◌+◌, ◌<◌, ◌/◌, ◌%◌
 use Rattle.std.specs.List.{range_with_len}
 use Rattle.rma_clock.specs.declared.rows.Place.{Place}
 
--- where the block of the number at an index of a row starts, by the places at which the upper index of the row stands
+-- where a block of a row starts, by the number of the block and by where the upper index of the row starts
 abbrev pub start_at : List ℕ → List ℕ → ℕ → ℕ → ℕ
 start_at lower upper start block = slice_index lower (slice_index upper (start + block / 8) + block % 8)
 
@@ -11,7 +11,7 @@ start_at lower upper start block = slice_index lower (slice_index upper (start +
 abbrev pub number_at : List ℕ → List ℕ → List ℕ → ℕ → ℕ → ℕ
 number_at numbers lower upper start i = slice_index numbers (start_at lower upper start (i / 16) + i % 16)
 
--- each look-up of it is within its table
+-- what is looked up for it stands in each table
 pub record IsFound (numbers lower upper : List ℕ) (start i : ℕ) : Type 0 where
   pub top : start + i / 16 / 8 < length upper
   pub middle : slice_index upper (start + i / 16 / 8) + i / 16 % 8 < length lower
@@ -21,10 +21,10 @@ pub record IsFound (numbers lower upper : List ℕ) (start i : ℕ) : Type 0 whe
 unfoldable pub row_of : List ℕ → List ℕ → List ℕ → Place → List ℕ
 row_of numbers lower upper place = map (number_at numbers lower upper place.start) (range_with_len 0 place.width)
 
--- so many numbers from there on can be looked up
+-- all numbers of a row can be looked up
 abbrev pub IsPlaced : List ℕ → List ℕ → List ℕ → Place → Type 0
 IsPlaced numbers lower upper place = (i : ℕ) → i < place.width → IsFound numbers lower upper place.start i
 
--- a list is stored from there on
+-- a list is stored, with its upper index from this place on
 abbrev pub IsStored : List ℕ → List ℕ → List ℕ → ℕ → List ℕ → Type 0
 IsStored numbers lower upper start row = (i : ℕ) → i < length row → IsFound numbers lower upper start i × (number_at numbers lower upper start i ≡ slice_index row i)
