@@ -5,7 +5,7 @@ ghost use Rattle.rma_clock.specs.inside.Blocks.{IsGrown, IsBlock, AreBlocks};
 use rma_base::Memory;
 
 /// Cuts the list into blocks of so many numbers, and answers where each of them stands in the table. A block that is the one at the
-/// same place of a similar list, whose blocks start at `like`, is shared; any other one is added.
+/// same place of a similar list, whose blocks start at `like`, or with which the table starts, is shared; any other one is added.
 ///
 /// `Memory` where there is none left.
 pub(crate) fn add_list(
@@ -49,7 +49,7 @@ fn nth(starts: &[u32], index: usize) -> Option<u32> {
     }
 }
 
-/// Where the block stands in the table: from the given start on, if it does, or at the end.
+/// Where the block stands in the table: from the given start on or at the beginning, if it does, and else at the end.
 fn add_block(table: &mut Vec<u32>, block: &[u32], like: Option<u32>) -> Result<u32, Memory>
     ensures grown { IsGrown table.old.items table.new.items }
     ensures block { IfOk result (λ start. IsBlock table.new.items start block.now) }
@@ -58,6 +58,9 @@ fn add_block(table: &mut Vec<u32>, block: &[u32], like: Option<u32>) -> Result<u
         if has_block(table, start as usize, block) {
             return Ok(start);
         }
+    }
+    if has_block(table, 0, block) {
+        return Ok(0);
     }
     push_block(table, block)
 }

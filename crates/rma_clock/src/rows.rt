@@ -28,7 +28,8 @@ pub(crate) struct Place {
 /// Rows of numbers, of which each shares blocks with an earlier one that it is like.
 ///
 /// A row is cut into blocks of 16 numbers, and the starts of these, its lower index, into blocks of 8. The starts of the latter are its upper
-/// index. So a row of 1,024 numbers of which two blocks differ from the earlier row takes at most 232 bytes.
+/// index. Both tables of blocks start with one of zeros. So a row of 1,024 numbers takes at most 232 bytes where two of its blocks differ from
+/// the earlier row and are not all zeros.
 #[derive(Drop)]
 pub(crate) struct Rows {
     /// Blocks of numbers.
@@ -54,15 +55,15 @@ impl Model for Rows {
 
 impl Rows {
     /// No row.
-    pub(crate) fn new(alloc: Global) -> Rows
-        ensures { result ≡ [] }
+    pub(crate) fn new(alloc: Global) -> Result<Rows, Memory>
+        ensures { IfOk result (λ rows. rows ≡ []) }
     {
-        Rows {
-            numbers: Vec::new(alloc),
-            lower: Vec::new(alloc),
+        Ok(Rows {
+            numbers: vec![in alloc; 0; NUMBERS]?,
+            lower: vec![in alloc; 0; STARTS]?,
             upper: Vec::new(alloc),
             places: Vec::new(alloc),
-        }
+        })
     }
 
     /// The number of the rank in a row.

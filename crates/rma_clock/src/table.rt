@@ -30,7 +30,7 @@ impl Table {
     {
         Ok(Table {
             steps: empty_lists(alloc, ranks)?,
-            rows: Rows::new(alloc),
+            rows: Rows::new(alloc)?,
         })
     }
 
