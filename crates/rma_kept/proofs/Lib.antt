@@ -1,0 +1,17 @@
+pub mod ListLemmas
+pub mod GoodLemmas
+pub mod NamingLemmas
+pub mod AmongLemmas
+pub mod WindowLemmas
+pub mod RunLemmas
+pub mod LayoutLemmas
+pub mod AccessLemmas
+pub mod MemoryLemmas
+pub mod CommLemmas
+pub mod RequestNameLemmas
+pub mod RequestLemmas
+pub mod CountLemmas
+pub mod PendingLemmas
+pub mod KeptLemmas
+pub mod StateLemmas
+pub mod WholeLemmas

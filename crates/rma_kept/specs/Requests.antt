@@ -1,0 +1,31 @@
+-- The requests of the calls of a rank, by their numbers (MPI 4.0, "Point-to-Point Communication").
+use Rattle.std.specs.Prelude.{◌≡◌, ℕ, Bool, true, false, Option, Some, None}
+use Rattle.rma_call.specs.Call.{Call}
+use Rattle.rma_call.specs.declared.message.MessageCall.TheVariants.{Irecv, Wait}
+use Rattle.rma_call.specs.declared.message.Received.{Received}
+use Rattle.rma_call.specs.declared.what.What.{What}
+use Rattle.rma_call.specs.declared.what.What.TheVariants.{Sync}
+use Rattle.rma_call.specs.declared.what.SyncCall.TheVariants.{Message}
+
+-- whether it waits for a request
+abbrev pub waits : What → Bool
+waits (Sync (Message (Wait received))) = true
+waits _ = false
+
+-- whether it begins a receive
+abbrev pub receives : What → Bool
+receives (Sync (Message (Irecv comm))) = true
+receives _ = false
+
+-- the source and the tag of the message for which it waited, if one came
+abbrev pub received_by : What → Option Received
+received_by (Sync (Message (Wait received))) = received
+received_by _ = None
+
+-- the call makes the request of this number
+abbrev pub Makes : ℕ → Call → Type 0
+Makes number call = (waits call.what ≡ false) × (call.request ≡ Some number)
+
+-- the call waits for the request of this number
+abbrev pub Awaits : ℕ → Call → Type 0
+Awaits number call = (waits call.what ≡ true) × (call.request ≡ Some number)
