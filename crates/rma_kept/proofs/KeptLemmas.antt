@@ -1,7 +1,7 @@
 -- A call of a good event is as it may be after the calls of the events before.
-use Rattle.std.proofs.Common.{◌≡◌, ◌≢◌, ℕ, ◌+◌, ◌<◌, ◌≤◌, Bool, true, false, not, ◌||◌, List, [], ◌∷◌, length, Option, Some, None, is_some, cond, refl, sym, ap, ◌∙◌, ◌⊎◌, inl, inr, ⊎_elim, arith}
+use Rattle.std.proofs.Common.{◌≡◌, ◌≢◌, ℕ, ◌+◌, ◌<◌, ◌≤◌, Bool, true, false, not, ◌||◌, List, [], ◌∷◌, length, Option, Some, None, is_none, is_some, cond, refl, sym, ap, ◌∙◌, ◌⊎◌, inl, inr, ⊎_elim, arith}
 use Rattle.std.specs.List.{Contains, list_any}
-use Rattle.std.specs.Option.{option_map_or}
+use Rattle.std.specs.Option.{option_map_or, option_and_then}
 use Rattle.std.specs.Prelude.{IsTrue, nat_lt}
 use Rattle.std.proofs.lemmas.Bool.{ltb-false, ltb-true, not-false, or_cases, or_parts}
 use Rattle.std.proofs.lemmas.List.Elements.{All-cons, All-nil}
@@ -12,20 +12,20 @@ use Rattle.rma_call.specs.Call.{Call}
 use Rattle.rma_form.specs.declared.event.Event.{Event}
 use Rattle.rma_judge.specs.Judging.{differ, is_far}
 use Rattle.rma_judge.specs.Naming.{Attributes, attributes_of, is_end}
-use Rattle.rma_judge.specs.Names.{had_window, has_comm, has_pending, is_fixed, is_same, is_there, members, pending, request_number, window_state, world}
+use Rattle.rma_judge.specs.Names.{had_window, has_comm, has_pending, is_fixed, is_same, is_there, members, pending, request_number, window_state, world, made_by, number_at, number_of}
 use Rattle.rma_judge.specs.declared.names.Pending.{Pending}
 use Rattle.rma_judge.specs.declared.names.WindowState.{WindowState}
 use Rattle.rma_kept.specs.Kept.{AreKept, IsKeptAfter}
 use Rattle.rma_kept.specs.Naming.{AreRanks, Attaches, Creates, CreatesAs, Declares, DeclaresWith, GivesMemory, NamesComm, NamesGroup, NamesRank, NamesWindow, NoCall, SomeCall, names_of}
-use Rattle.rma_kept.specs.Requests.{Awaits, Makes, received_by, receives}
+use Rattle.rma_kept.specs.Requests.{Awaits, Makes, received_by, receives, has_request}
 use Rattle.rma_kept.proofs.AmongLemmas.{option_false, other_name}
 use Rattle.rma_kept.proofs.CommLemmas.{CommIs, declared_is, undeclared_is}
 use Rattle.rma_kept.proofs.GoodLemmas.{IsGood}
 use Rattle.rma_kept.proofs.MemoryLemmas.{TouchesGood}
 use Rattle.rma_kept.proofs.NamingLemmas.{attached_is, created_is, unnamed}
 use Rattle.rma_kept.proofs.PendingLemmas.{RequestsAre, awaited_once, made_before, word_is}
-use Rattle.rma_kept.proofs.RequestLemmas.{awaits_pending, makes_next}
-use Rattle.rma_kept.proofs.RequestNameLemmas.{SaysRequest}
+use Rattle.rma_kept.proofs.RequestLemmas.{awaits_pending, makes_next, number_is}
+use Rattle.rma_kept.proofs.RequestNameLemmas.{NamesRequest, SaysRequest, request_of}
 use Rattle.rma_kept.proofs.WindowLemmas.{WindowIs, dynamic_is, there_is}
 
 -- what holds after so many lines, which state these events and record these calls
@@ -44,6 +44,7 @@ pub record IsOfEvent (events : List Event) (event : Event) (call : Call) : Type 
   pub says : SaysRequest (attributes_of event) call.what
   pub number : call.request ≡ request_number events (attributes_of event)
   pub touches : TouchesGood call.what
+  pub asks : has_request call.what ≡ true → NamesRequest (attributes_of event)
 
 new_is : (state : Option WindowState) (window : List ℕ) (calls : List Call) → is_some state ≡ false → WindowIs state window calls → NoCall (Creates window) calls
 new_is None window calls none h = h.0
@@ -116,6 +117,21 @@ module _ (rank logs lines : ℕ) (events : List Event) (event : Event) (calls : 
       let same = alike found.request.receives word (option_false (λ (request : Pending). differ request.receives word) (pending events found.name) found.request right found.is) in
       same ∙ sym (word_is events event calls call is.says is.number h.request good.request number found other among makes)
 
+  some_request : has_request call.what ≡ true → (number : ℕ) × (call.request ≡ Some number)
+  some_request has = by (is.asks has)
+    where
+      found : (name : List ℕ) (word : Bool) (request : Option Pending) → it.awaited ≡ request_of name word → pending events name ≡ request → is_none request ≡ false
+          → (number : ℕ) × (call.request ≡ Some number)
+      found name word None awaited state none = cc
+      found name word (Some request) awaited state none =
+          let p = h.request.is_pending name request state in
+          (p.number, number_is events it call is.says is.number None (request_of name word) (is.says.awaited name word awaited).2 awaited ∙ ap (option_and_then number_of) state ∙ ap number_at p.ordinal)
+
+      by : NamesRequest it → (number : ℕ) × (call.request ≡ Some number)
+      by (name, word, inl made) = (made_by events, number_is events it call is.says is.number (request_of name word) it.awaited made refl)
+      by (name, word, inr awaited) =
+          found name word (pending events name) awaited refl (option_false (λ (wait : List ℕ × Bool). is_none (pending events wait.0)) it.awaited (name, word) good.request awaited)
+
   new_request : (number : ℕ) → Makes number call → NoCall (Makes number) calls
   new_request number makes other among does =
       let next = makes_next events it call is.says is.number number makes in
@@ -164,6 +180,8 @@ module _ (rank logs lines : ℕ) (events : List Event) (event : Event) (calls : 
     touches_nothing = λ access does untargeted. (is.touches.access access does).nothing untargeted;
     writes_once = λ access does writes. (is.touches.access access does).once writes;
     has_element = λ access does accumulates some. (is.touches.access access does).element accumulates some;
+    request_is_some = some_request;
+    request_may_be = λ number makes. (makes_next events it call is.says is.number number makes).may;
     request_is_new = new_request;
     request_is_there = known_request;
     message_came = came;

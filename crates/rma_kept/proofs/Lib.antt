@@ -1,14 +1,15 @@
 pub mod ListLemmas
 pub mod GoodLemmas
-pub mod NamingLemmas
 pub mod AmongLemmas
+pub mod NamingLemmas
 pub mod WindowLemmas
+pub mod CommLemmas
 pub mod RunLemmas
 pub mod LayoutLemmas
 pub mod AccessLemmas
 pub mod MemoryLemmas
-pub mod CommLemmas
 pub mod RequestNameLemmas
+pub mod FormLemmas
 pub mod RequestLemmas
 pub mod CountLemmas
 pub mod PendingLemmas

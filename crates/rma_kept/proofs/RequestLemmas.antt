@@ -9,7 +9,7 @@ use Rattle.rma_judge.specs.Naming.{Attributes, attributes_of}
 use Rattle.rma_judge.specs.Names.{awaited_by, is_same, made_by, makes, number_at, number_of, of_name, pending, request_change, request_number, request_state}
 use Rattle.rma_judge.specs.Names as names
 use Rattle.rma_judge.specs.declared.names.Pending.{Pending}
-use Rattle.rma_kept.specs.Requests.{Awaits, Makes, received_by, receives}
+use Rattle.rma_kept.specs.Requests.{Awaits, Makes, received_by, receives, may_make}
 use Rattle.rma_kept.proofs.RequestNameLemmas.{SaysRequest, request_of}
 
 -- ---- what events make of requests, with one event more
@@ -44,6 +44,7 @@ pending_more events event name =
 module _ (before : List Event) (it : Attributes) (call : Call) (says : SaysRequest it call.what) (number : call.request ≡ request_number before it) where
   -- the call makes the next request, under this name
   pub record MakesNext (n : ℕ) : Type 0 where
+    pub may : may_make call.what ≡ true
     pub name : List ℕ
     pub made : it.made ≡ request_of name (receives call.what)
     pub is : n ≡ made_by before
@@ -70,7 +71,7 @@ module _ (before : List Event) (it : Attributes) (call : Call) (says : SaysReque
       by (Some (name, word)) awaited is_made is_awaited =
           let request : Some (made_by before) ≡ Some n = sym (number_is (Some (name, word)) awaited is_made is_awaited) ∙ makes.1 in
           let same : made_by before ≡ n = cc in
-          record { name = name; made = is_made ∙ ap (request_of name) (sym (says.made name word is_made).1); is = sym same }
+          record { may = (says.made name word is_made).3; name = name; made = is_made ∙ ap (request_of name) (sym (says.made name word is_made).1); is = sym same }
       by None (Some (name, word)) is_made is_awaited =
           let wrong : true ≡ false = sym (says.awaited name word is_awaited).0 ∙ makes.0 in cc wrong
       by None None is_made is_awaited =

@@ -1,8 +1,9 @@
 -- What calls say of their requests is what their lines say.
-use Rattle.std.proofs.Common.{◌≡◌, ℕ, Bool, true, false, List, Option, Some, None, is_some, option_map, refl, subst}
+use Rattle.std.proofs.Common.{◌≡◌, ℕ, Bool, true, false, List, Option, Some, None, IsSome, is_some, option_map, refl, ap, subst, ◌∙◌, ◌⊎◌, inl, inr}
 use Rattle.std.proofs.lemmas.Option.{some_pair_parts}
-use Rattle.rma_buffer.specs.Calls.{rma_call_of}
-use Rattle.rma_buffer.specs.Operands.{operands_of}
+use Rattle.rma_buffer.specs.Calls.{local_call_of, rma_call_of}
+use Rattle.rma_buffer.specs.Operands.{operand_of, operands_of}
+use Rattle.rma_buffer.specs.declared.operand.Operand.{Operand}
 use Rattle.rma_buffer.specs.declared.operand.Operands.{Operands}
 use Rattle.rma_call.specs.declared.epoch.EpochCall.TheVariants.{Fence, Post, Start, Complete, Expwait, Lock, Unlock, LockAll, UnlockAll, Flush, FlushAll, FlushLocal, FlushLocalAll}
 use Rattle.rma_call.specs.declared.epoch.EpochCall.TheVariants as epoch
@@ -20,8 +21,10 @@ use Rattle.rma_form.specs.declared.event.rma_line.RmaLine.{RmaLine}
 use Rattle.rma_form.specs.declared.event.Event.TheVariants.{Header, End, Call, Datatype, Rma, Local}
 use Rattle.rma_judge.specs.Calls.{what_in}
 use Rattle.rma_judge.specs.Naming.{Attributes, attributes_of}
+use Rattle.rma_judge.specs.inside.CallEvent.{request_of as named_request}
+use Rattle.std.proofs.lemmas.Bool.{false≢true}
 use Rattle.rma_type.specs.Table.{Table}
-use Rattle.rma_kept.specs.Requests.{received_by, receives, waits}
+use Rattle.rma_kept.specs.Requests.{has_request, may_make, received_by, receives, waits}
 
 -- what is said of a request: its name, and a word on it
 abbrev pub request_of : List ℕ → Bool → Option (List ℕ × Bool)
@@ -29,19 +32,19 @@ request_of name word = Some (name, word)
 
 -- an event that makes a request is no wait, and one that waits makes none; the words on both are those of the call
 pub record SaysRequest (it : Attributes) (does : What) : Type 0 where
-  pub made : (name : List ℕ) (word : Bool) → it.made ≡ request_of name word → (waits does ≡ false) × (receives does ≡ word) × (it.awaited ≡ None)
+  pub made : (name : List ℕ) (word : Bool) → it.made ≡ request_of name word → (waits does ≡ false) × (receives does ≡ word) × (it.awaited ≡ None) × (may_make does ≡ true)
   pub awaited : (name : List ℕ) (word : Bool) → it.awaited ≡ request_of name word → (waits does ≡ true) × (is_some (received_by does) ≡ word) × (it.made ≡ None)
 
 sync_made : (call : SyncCall) (request : Option (List ℕ)) (name : List ℕ) (word : Bool) → (attributes_of (Call call request)).made ≡ request_of name word
-    → (waits (what.Sync call) ≡ false) × (receives (what.Sync call) ≡ word) × ((attributes_of (Call call request)).awaited ≡ None)
+    → (waits (what.Sync call) ≡ false) × (receives (what.Sync call) ≡ word) × ((attributes_of (Call call request)).awaited ≡ None) × (may_make (what.Sync call) ≡ true)
 sync_made (Frame (Comm comm ranks)) request name word h = cc
 sync_made (Frame (Barrier comm)) request name word h = cc
 sync_made (Message (Send to tag comm)) request name word h = cc
 sync_made (Message (Recv from tag comm)) request name word h = cc
 sync_made (Message (Isend to tag comm)) None name word h = cc
-sync_made (Message (Isend to tag comm)) (Some own) name word h = (refl, (some_pair_parts own name false word h).1, refl)
+sync_made (Message (Isend to tag comm)) (Some own) name word h = (refl, (some_pair_parts own name false word h).1, refl, refl)
 sync_made (Message (Irecv comm)) None name word h = cc
-sync_made (Message (Irecv comm)) (Some own) name word h = (refl, (some_pair_parts own name true word h).1, refl)
+sync_made (Message (Irecv comm)) (Some own) name word h = (refl, (some_pair_parts own name true word h).1, refl, refl)
 sync_made (Message (Wait received)) request name word h = cc
 sync_made (Window (Create own comm base bytes unit model operations is)) request name word h = cc
 sync_made (Window (Free own)) request name word h = cc
@@ -112,9 +115,9 @@ rma_says : (line : RmaLine) (request : Option (List ℕ)) (access : RmaCall) →
 rma_says line request access = record { made = made_by request; awaited = λ name word h. cc }
   where
     made_by : (request : Option (List ℕ)) (name : List ℕ) (word : Bool) → (attributes_of (Rma line request)).made ≡ request_of name word
-        → (waits (what.Rma access) ≡ false) × (receives (what.Rma access) ≡ word) × ((attributes_of (Rma line request)).awaited ≡ None)
+        → (waits (what.Rma access) ≡ false) × (receives (what.Rma access) ≡ word) × ((attributes_of (Rma line request)).awaited ≡ None) × (may_make (what.Rma access) ≡ true)
     made_by None name word h = cc
-    made_by (Some own) name word h = (refl, (some_pair_parts own name false word h).1, refl)
+    made_by (Some own) name word h = (refl, (some_pair_parts own name false word h).1, refl, refl)
 
 -- the call of an event says of its request what the event says
 pub request_says : (types : Table) (event : Event) (does : What) → what_in types event ≡ Some does → SaysRequest (attributes_of event) does
@@ -130,3 +133,77 @@ request_says types (Rma line request) does is = by (operands_of types.live line.
         let same : what.Rma (rma_call_of types.origins line operands) ≡ does = cc in
         subst (SaysRequest (attributes_of (Rma line request))) same (rma_says line request (rma_call_of types.origins line operands))
 request_says types (Local line) does is = record { made = λ name word h. cc; awaited = λ name word h. cc }
+
+-- ---- calls that have a request always
+
+-- whether the call of the event has a request always
+abbrev pub event_has_request : Event → Bool
+event_has_request (Call call request) = has_request (what.Sync call)
+event_has_request _ = false
+
+-- the event names a request under this name, which it makes or awaits
+abbrev pub NamesRequest : Attributes → Type 0
+NamesRequest it = (name : List ℕ) × (word : Bool) × ((it.made ≡ request_of name word) ⊎ (it.awaited ≡ request_of name word))
+
+sync_asked : (call : SyncCall) (name : List ℕ) → has_request (what.Sync call) ≡ true → NamesRequest (attributes_of (Call call (Some name)))
+sync_asked (Frame (Comm comm ranks)) name h = cc
+sync_asked (Frame (Barrier comm)) name h = cc
+sync_asked (Message (Send to tag comm)) name h = cc
+sync_asked (Message (Recv from tag comm)) name h = cc
+sync_asked (Message (Isend to tag comm)) name h = (name, false, inl refl)
+sync_asked (Message (Irecv comm)) name h = (name, true, inl refl)
+sync_asked (Message (Wait received)) name h = (name, is_some received, inr refl)
+sync_asked (Window (Create own comm base bytes unit model operations is)) name h = cc
+sync_asked (Window (Free own)) name h = cc
+sync_asked (Window (Attach own address bytes)) name h = cc
+sync_asked (Window (Detach own address)) name h = cc
+sync_asked (Epoch (Fence own assertions)) name h = cc
+sync_asked (Epoch (Post own origins assertions)) name h = cc
+sync_asked (Epoch (Start own targets assertions)) name h = cc
+sync_asked (Epoch (Complete own)) name h = cc
+sync_asked (Epoch (Expwait own)) name h = cc
+sync_asked (Epoch (Lock own target kind assertions)) name h = cc
+sync_asked (Epoch (Unlock own target)) name h = cc
+sync_asked (Epoch (LockAll own assertions)) name h = cc
+sync_asked (Epoch (UnlockAll own)) name h = cc
+sync_asked (Epoch (Flush own target)) name h = cc
+sync_asked (Epoch (FlushAll own)) name h = cc
+sync_asked (Epoch (FlushLocal own target)) name h = cc
+sync_asked (Epoch (FlushLocalAll own)) name h = cc
+sync_asked (Epoch (epoch.Sync own)) name h = cc
+sync_asked (Moving (Bcast root bytes comm)) name h = cc
+sync_asked (Moving (Scatter root bytes comm)) name h = cc
+sync_asked (Moving (Gather root bytes comm)) name h = cc
+sync_asked (Moving (Reduce root bytes comm)) name h = cc
+sync_asked (Moving (Allreduce bytes comm)) name h = cc
+sync_asked (Moving (Allgather bytes comm)) name h = cc
+sync_asked (Moving (Alltoall bytes comm)) name h = cc
+
+-- a call that has a request names one, where its event has a name for it
+pub request_asked : (types : Table) (event : Event) (does : What) → what_in types event ≡ Some does → (event_has_request event ≡ true → IsSome (named_request event))
+    → has_request does ≡ true → NamesRequest (attributes_of event)
+request_asked types (Header version rank size) does is named has = let none : None ≡ Some does = is in cc none
+request_asked types End does is named has = let none : None ≡ Some does = is in cc none
+request_asked types (Datatype line) does is named has = let none : None ≡ Some does = is in cc none
+request_asked types (Call call request) does is named has =
+    let same : what.Sync call ≡ does = cc in
+    let own : has_request (what.Sync call) ≡ true = ap has_request same ∙ has in
+    by request (named own)
+  where
+    by : (request : Option (List ℕ)) → IsSome request → NamesRequest (attributes_of (Call call request))
+    by None some = absurd (false≢true some)
+    by (Some name) some = sync_asked call name (let same : what.Sync call ≡ does = cc in ap has_request same ∙ has)
+request_asked types (Rma line request) does is named has = by (operands_of types.live line.access) is
+  where
+    by : (operands : Option Operands) → option_map (λ operands. what.Rma (rma_call_of types.origins line operands)) operands ≡ Some does → NamesRequest (attributes_of (Rma line request))
+    by None is = cc
+    by (Some operands) is =
+        let same : what.Rma (rma_call_of types.origins line operands) ≡ does = cc in
+        let wrong : false ≡ true = ap has_request same ∙ has in cc wrong
+request_asked types (Local line) does is named has = by (operand_of types.live line.buffer) is
+  where
+    by : (memory : Option Operand) → option_map (λ memory. what.Local (local_call_of types.origins line.access memory)) memory ≡ Some does → NamesRequest (attributes_of (Local line))
+    by None is = cc
+    by (Some memory) is =
+        let same : what.Local (local_call_of types.origins line.access memory) ≡ does = cc in
+        let wrong : false ≡ true = ap has_request same ∙ has in cc wrong

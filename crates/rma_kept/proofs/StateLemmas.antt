@@ -31,7 +31,8 @@ use Rattle.rma_kept.proofs.MemoryLemmas.{touches_good}
 use Rattle.rma_kept.proofs.NamingLemmas.{call_says, others_say}
 use Rattle.rma_kept.proofs.PendingLemmas.{RequestsAre_call, RequestsAre_none, RequestsAre_other}
 use Rattle.rma_kept.proofs.RequestLemmas.{awaited_by_more}
-use Rattle.rma_kept.proofs.RequestNameLemmas.{request_says}
+use Rattle.rma_kept.proofs.RequestNameLemmas.{request_asked, request_says}
+use Rattle.rma_kept.proofs.FormLemmas.{Named, line_named}
 use Rattle.rma_kept.proofs.WindowLemmas.{WindowIs, WindowIs_more}
 
 no_state : (state : Option WindowState) → is_some state ≡ false → state ≡ None
@@ -142,9 +143,9 @@ next_line rank logs n es h = record {
   completed = h.completed;
 }
 
-next_entry : (rank logs n : ℕ) (es : List Entry) (stated : Stated) → StateAfter rank logs n es → IsGood rank logs (events_of es) stated.event
+next_entry : (rank logs n : ℕ) (es : List Entry) (stated : Stated) → StateAfter rank logs n es → Named stated.event → IsGood rank logs (events_of es) stated.event
     → StateAfter rank logs (n + 1) (es ++ at_line (n + 1) stated ∷ [])
-next_entry rank logs n es stated h good =
+next_entry rank logs n es stated h named good =
     let entry = at_line (n + 1) stated in
     subst (λ events. StateIs rank logs (n + 1) events (calls_of (es ++ entry ∷ []))) (sym (events_of_more es entry))
     (subst (StateIs rank logs (n + 1) (events_of es ++ stated.event ∷ [])) (sym (calls_of_more es entry)) (by (what_in (types_after (events_of es)) stated.event) refl))
@@ -163,9 +164,10 @@ next_entry rank logs n es stated h good =
           says = request_says types stated.event does is;
           number = refl;
           touches = touches_good types stated.event does is good.typed;
+          asks = request_asked types stated.event does is named;
         })
         refl (call_goes_on (events_of es) stated.event does is)
 
 pub state_is : (rank logs : ℕ) (lines : List Checked) → AreGood rank logs lines → StateAfter rank logs (length lines) (entries lines)
 state_is rank logs lines good =
-    walk rank logs (StateAfter rank logs) (next_line rank logs) (λ n es version text stated h read is_good. next_entry rank logs n es stated h is_good) lines (no_lines rank logs) good
+    walk rank logs (StateAfter rank logs) (next_line rank logs) (λ n es version text stated h read is_good. next_entry rank logs n es stated h (line_named version text stated read) is_good) lines (no_lines rank logs) good

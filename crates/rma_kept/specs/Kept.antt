@@ -9,7 +9,7 @@ use Rattle.rma_call.specs.declared.what.What.TheVariants as what
 use Rattle.rma_datatype.specs.declared.basic.Basic.{Basic}
 use Rattle.rma_judge.specs.Names.{world}
 use Rattle.rma_kept.specs.Naming.{SomeCall, NoCall, NamesComm, DeclaresWith, Declares, NamesWindow, CreatesAs, Creates, Frees, Attaches, GivesMemory, NamesRank, NamesGroup, AreRanks}
-use Rattle.rma_kept.specs.Requests.{receives, received_by, Makes, Awaits}
+use Rattle.rma_kept.specs.Requests.{has_request, may_make, receives, received_by, Makes, Awaits}
 use Rattle.rma_kept.specs.Touched.{own_layouts, buffers_of, IsInSpace, IsNearStart, writes_target, is_accumulate, IsFilledBy}
 
 -- A call of a rank, among so many logs, is as it may be after these earlier calls of the rank.
@@ -38,6 +38,10 @@ pub record IsKeptAfter (rank logs : ℕ) (earlier : List Call) (call : Call) : T
   pub writes_once : (access : RmaCall) → call.what ≡ what.Rma access → writes_target access.kind ≡ true → access.at_target.overlaps ≡ false
   -- the elements at the target of an accumulate that touches some byte there have one basic datatype, and fill its runs
   pub has_element : (access : RmaCall) → call.what ≡ what.Rma access → is_accumulate access.kind ≡ true → access.at_target.runs ≢ [] → (basic : Basic) × IsFilledBy basic access.at_target
+  -- a nonblocking message and a wait have a request
+  pub request_is_some : has_request call.what ≡ true → (number : ℕ) × (call.request ≡ Some number)
+  -- none makes a request but a nonblocking message or an access
+  pub request_may_be : (number : ℕ) → Makes number call → may_make call.what ≡ true
   -- the request that it makes was made by no earlier call
   pub request_is_new : (number : ℕ) → Makes number call → NoCall (Makes number) earlier
   -- the request for which it waits was made by an earlier call, and none waited for it

@@ -1,10 +1,10 @@
 -- The requests of the calls of a rank, by their numbers (MPI 4.0, "Point-to-Point Communication").
 use Rattle.std.specs.Prelude.{◌≡◌, ℕ, Bool, true, false, Option, Some, None}
 use Rattle.rma_call.specs.Call.{Call}
-use Rattle.rma_call.specs.declared.message.MessageCall.TheVariants.{Irecv, Wait}
+use Rattle.rma_call.specs.declared.message.MessageCall.TheVariants.{Irecv, Isend, Wait}
 use Rattle.rma_call.specs.declared.message.Received.{Received}
 use Rattle.rma_call.specs.declared.what.What.{What}
-use Rattle.rma_call.specs.declared.what.What.TheVariants.{Sync}
+use Rattle.rma_call.specs.declared.what.What.TheVariants.{Rma, Sync}
 use Rattle.rma_call.specs.declared.what.SyncCall.TheVariants.{Message}
 
 -- whether it waits for a request
@@ -16,6 +16,20 @@ waits _ = false
 abbrev pub receives : What → Bool
 receives (Sync (Message (Irecv comm))) = true
 receives _ = false
+
+-- whether it has a request always: a nonblocking message, or a wait
+abbrev pub has_request : What → Bool
+has_request (Sync (Message (Isend to tag comm))) = true
+has_request (Sync (Message (Irecv comm))) = true
+has_request (Sync (Message (Wait received))) = true
+has_request _ = false
+
+-- whether it may make a request: a nonblocking message, or an access
+abbrev pub may_make : What → Bool
+may_make (Sync (Message (Isend to tag comm))) = true
+may_make (Sync (Message (Irecv comm))) = true
+may_make (Rma access) = true
+may_make _ = false
 
 -- the source and the tag of the message for which it waited, if one came
 abbrev pub received_by : What → Option Received
