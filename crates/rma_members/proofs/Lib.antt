@@ -1,0 +1,5 @@
+pub mod FaultLemmas
+pub mod NameLemmas
+pub mod MemberLemmas
+pub mod RoundLemmas
+pub mod PartLemmas
