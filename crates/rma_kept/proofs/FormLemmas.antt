@@ -125,7 +125,7 @@ stated_named v verb rest stated h =
     let event = passed (event_of v form.0 (drop (kind_words form.0) words)) (λ event. Ok (record { event = event; site = site.0 })) stated site.2 in
     let own : Stated = record { event = event.0; site = site.0 } in
     let same : own ≡ stated = cc in
-    subst (λ (s : Stated). Named s.event) same (event_named (version_in v form.0 (drop (kind_words form.0) words)) form.0 (drop (kind_words form.0) words) event.0 event.1)
+    subst (λ (s : Stated). Named s.event) {x = own} same (event_named (version_in v form.0 (drop (kind_words form.0) words)) form.0 (drop (kind_words form.0) words) event.0 event.1)
 
 words_named : (v : Version) (words : List (List ℕ)) (stated : Stated) → read_words v words ≡ Ok (Some stated) → Named stated.event
 words_named v [] stated h = cc

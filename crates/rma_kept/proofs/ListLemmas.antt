@@ -1,9 +1,12 @@
 -- Lists of calls with one call more, and their first calls.
 use Rattle.std.proofs.Common.{◌≡◌, ℕ, zero, suc, ◌<◌, List, [], ◌∷◌, ◌++◌, length, take, slice_get, Some, refl, sym, ap, subst, ◌∙◌, ◌⊎◌, inl, inr, ⊎_elim, arith}
 use Rattle.std.proofs.lemmas.List.{length-take, take-append-le, take-take, take_at}
-use Rattle.std.proofs.lemmas.Option.{slice_get_within}
+use Rattle.std.proofs.lemmas.Bool.{cases_order}
+use Rattle.std.proofs.lemmas.Option.{get_or_from_slice_get, slice_get_within}
 use Rattle.rma_call.specs.Call.{Call}
 use Rattle.rma_kept.specs.Kept.{IsKeptAfter, AreKept}
+use Rattle.rma_kept.specs.Naming.{Creates, Declares, NoCall}
+use Rattle.rma_kept.specs.Requests.{Awaits, Makes}
 
 module _ {X : Type 0} where
   pub slice_get_front : (k : ℕ) (xs : List X) (x : X) → k < length xs → slice_get (xs ++ x ∷ []) k ≡ slice_get xs k
@@ -51,3 +54,33 @@ kept_take rank logs count calls kept place call h =
     let below : place < count = omega (arith, within, length-take count calls) in
     subst (λ earlier. IsKeptAfter rank logs earlier call) (sym (take-take place count calls (omega (arith, below))))
     (kept place call (sym (slice_get_take place count calls below) ∙ h))
+
+-- what a call does that no call before it does, is done by one call
+once : (Does : Call → Type 0) (calls : List Call) → ((place : ℕ) (call : Call) → slice_get calls place ≡ Some call → Does call → NoCall Does (take place calls))
+    → (i j : ℕ) (one other : Call) → slice_get calls i ≡ Some one → slice_get calls j ≡ Some other → Does one → Does other → i < j → ⊥
+once Does calls new i j one other here there does also below =
+    let earlier : slice_get (take j calls) i ≡ Some one = slice_get_take i j calls below ∙ here in
+    new j other there also one (i, slice_get_within (take j calls) i one earlier, get_or_from_slice_get (take j calls) i one one earlier) does
+
+pub only_once : (Does : Call → Type 0) (calls : List Call) → ((place : ℕ) (call : Call) → slice_get calls place ≡ Some call → Does call → NoCall Does (take place calls))
+    → (i j : ℕ) (one other : Call) → slice_get calls i ≡ Some one → slice_get calls j ≡ Some other → Does one → Does other → i ≡ j
+only_once Does calls new i j one other here there does also = ⊎_elim
+    (λ (same : i ≡ j). same)
+    (λ (apart : (i < j) ⊎ (j < i)). ⊎_elim
+    (λ (below : i < j). absurd (once Does calls new i j one other here there does also below))
+    (λ (above : j < i). absurd (once Does calls new j i other one there here also does above))
+    apart)
+    (cases_order i j)
+
+module _ (rank logs : ℕ) (calls : List Call) (kept : AreKept rank logs calls) (i j : ℕ) (one other : Call) (here : slice_get calls i ≡ Some one) (there : slice_get calls j ≡ Some other) where
+  pub made_once : (number : ℕ) → Makes number one → Makes number other → i ≡ j
+  made_once number = only_once (Makes number) calls (λ place call at does. (kept place call at).request_is_new number does) i j one other here there
+
+  pub awaited_once : (number : ℕ) → Awaits number one → Awaits number other → i ≡ j
+  awaited_once number = only_once (Awaits number) calls (λ place call at does. ((kept place call at).request_is_there number does).1) i j one other here there
+
+  pub created_once : (window : List ℕ) → Creates window one → Creates window other → i ≡ j
+  created_once window = only_once (Creates window) calls (λ place call at does. (kept place call at).window_is_new window does) i j one other here there
+
+  pub declared_once : (comm : List ℕ) → Declares comm one → Declares comm other → i ≡ j
+  declared_once comm = only_once (Declares comm) calls (λ place call at does. ((kept place call at).comm_is_new comm does).1) i j one other here there

@@ -88,6 +88,9 @@ few_lines (byte ∷ bytes) = by (byte == 10) (few_lines bytes)
 pub few_checked : (text : List ℕ) → length (checked_lines text) ≤ length text
 few_checked text = let same = length_checked_lines text in let few = few_lines text in omega arith
 
+pub fewer_than_bytes : (rank logs : ℕ) (text : List ℕ) (own : RankCalls) → AreCallsOf rank logs (checked_lines text) own → length own.calls < length text
+fewer_than_bytes rank logs text own is = let fewer = fewer_calls rank logs (checked_lines text) own is in let few = few_checked text in omega arith
+
 -- ---- what follows from kept calls
 
 pub target_below : (rank logs place : ℕ) (calls : List Call) (call : Call) (access : RmaCall) (target : Rank) → AreKept rank logs calls → slice_get calls place ≡ Some call
