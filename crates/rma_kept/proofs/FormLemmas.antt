@@ -14,13 +14,12 @@ use Rattle.rma_form.specs.declared.event.Event.{Event}
 use Rattle.rma_form.specs.declared.event.Stated.{Stated}
 use Rattle.rma_form.specs.declared.form.LineForm.{LineForm}
 use Rattle.rma_form.specs.declared.form.LineForm.TheVariants as form
-use Rattle.rma_judge.specs.inside.CallEvent.{request_of}
 use Rattle.rma_lex.specs.Field.{fields, texts}
-use Rattle.rma_kept.proofs.RequestNameLemmas.{event_has_request}
+use Rattle.rma_kept.proofs.RequestNameLemmas.{event_has_request, named_request}
 
 -- the event names its request, where it has one always
 abbrev pub Named : Event → Type 0
-Named event = event_has_request event ≡ true → IsSome (request_of event)
+Named event = event_has_request event ≡ true → IsSome (named_request event)
 
 -- ---- what is made of fields
 

@@ -21,7 +21,6 @@ use Rattle.rma_form.specs.declared.event.rma_line.RmaLine.{RmaLine}
 use Rattle.rma_form.specs.declared.event.Event.TheVariants.{Header, End, Call, Datatype, Rma, Local}
 use Rattle.rma_judge.specs.Calls.{what_in}
 use Rattle.rma_judge.specs.Naming.{Attributes, attributes_of}
-use Rattle.rma_judge.specs.inside.CallEvent.{request_of as named_request}
 use Rattle.std.proofs.lemmas.Bool.{false≢true}
 use Rattle.rma_type.specs.Table.{Table}
 use Rattle.rma_kept.specs.Requests.{has_request, may_make, received_by, receives, waits}
@@ -135,6 +134,12 @@ request_says types (Rma line request) does is = by (operands_of types.live line.
 request_says types (Local line) does is = record { made = λ name word h. cc; awaited = λ name word h. cc }
 
 -- ---- calls that have a request always
+
+-- the name of a request that stands beside the call of an event
+abbrev pub named_request : Event → Option (List ℕ)
+named_request (Call call request) = request
+named_request (Rma line request) = request
+named_request _ = None
 
 -- whether the call of the event has a request always
 abbrev pub event_has_request : Event → Bool

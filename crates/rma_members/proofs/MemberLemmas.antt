@@ -2,7 +2,7 @@
 use Rattle.std.proofs.Common.{◌≡◌, ◌≢◌, ℕ, ◌<◌, Bool, true, false, ◌&&◌, List, [], ◌∷◌, length, take, map, Option, Some, None, slice_get, cond, refl, sym, ap, subst, ◌∙◌, ⊎_elim, arith}
 use Rattle.std.specs.Prelude.{Contains, nat_eq, option_map, ◌==◌}
 use Rattle.std.specs.Cmp.Lexicographic.{pointwise}
-use Rattle.std.specs.Option.{option_and_then}
+use Rattle.std.specs.Option.{option_and_then, option_map_or}
 use Rattle.std.proofs.lemmas.Bool.{and_parts, eqb-true, false_from_ne_true, or_cases}
 use Rattle.std.proofs.lemmas.List.{length-take}
 use Rattle.std.proofs.lemmas.Option.{get_or_from_slice_get, slice_get_read, slice_get_within}
@@ -20,16 +20,23 @@ use Rattle.rma_kept.specs.Naming.{Declares, DeclaresWith, NamesComm, NamesWindow
 use Rattle.rma_member.specs.Attribute.{created, declared, same_attributes, same_ranks}
 use Rattle.rma_member.specs.Declaration.{declaration_of, declarations, declarations_of, first_of, is_of}
 use Rattle.rma_member.specs.Difference.{difference, differences, differs_from}
-use Rattle.rma_member.specs.Member.{comm_of_window, members_of_comm}
+use Rattle.rma_member.specs.Member.{comm_for, comm_of_window, members_of_comm, everyone}
 use Rattle.rma_member.specs.declared.attribute.WindowAttributes.{WindowAttributes}
 use Rattle.rma_member.specs.declared.declaration.Declaration.{Declaration}
 use Rattle.rma_round.specs.Kind.{named}
 use Rattle.rma_round.specs.declared.kind.Kind.{Kind}
 use Rattle.rma_round.specs.declared.kind.Kind.TheVariants.{Collective, Free, Fence, Moving}
 use Rattle.rma_run.proofs.ContainLemmas.{filter_map_has, first_or_later, flat_map_has, has_first, has_later, has_none, in_filter_map, in_flat_map}
+use Rattle.rma_round.proofs.RowLemmas.{in_map}
+use Rattle.rma_kept.proofs.WholeLemmas.{whole_is}
+use Rattle.rma_log.specs.Ends.{AreCallsOf}
+use Rattle.rma_log.specs.Logs.{Checked}
+use Rattle.rma_run.specs.Run.{AreInOrder}
+use Rattle.rma_sync.specs.Matching.{match_faults}
+use Rattle.std.proofs.lemmas.List.Elements.{All-contains}
 use Rattle.rma_members.specs.Matched.{IsMatched, IsMember}
-use Rattle.rma_members.proofs.FaultLemmas.{finds, no_faults, none_in_filter}
-use Rattle.rma_members.proofs.NameLemmas.{CreatesWith, collective_names, creates_from_names, declared_same, fence_names, free_names, moving_names}
+use Rattle.rma_members.proofs.FaultLemmas.{finds, no_faults, none_in_filter, found}
+use Rattle.rma_members.proofs.NameLemmas.{CreatesWith, collective_names, creates_from_names, declared_same, fence_names, free_names, moving_names, declared_group}
 
 -- ---- lists
 
@@ -178,3 +185,40 @@ module _ (ranks : List RankCalls) (h : IsMatched ranks) where
   call_member Free own k call name among there is = window_member own k call name among there (free_names call.what name is)
   call_member Fence own k call name among there is = window_member own k call name among there (fence_names call.what name is)
   call_member Moving own k call name among there is = comm_member own k call name among there (moving_names call.what name is)
+
+  -- ---- members have logs
+
+  comm_below : (comm : List ℕ) (rank : ℕ) → Contains (members_of_comm ranks comm) rank → rank < length ranks
+  comm_below comm rank = by (pointwise nat_eq comm world) (first_of (declarations declared ranks) comm) refl
+    where
+      by : (all : Bool) (first : Option (Declaration (List ℕ))) → first_of (declarations declared ranks) comm ≡ first
+          → Contains (cond all (everyone ranks) (option_map_or (λ (d : Declaration (List ℕ)). d.attributes) first [])) rank → rank < length ranks
+      by true first is has =
+          let one = in_map (λ (r : RankCalls). r.rank.0) ranks rank has in
+          let at = at_place ranks one.0 one.1 in
+          let order = h.in_order at.0 one.0 at.1 in
+          let within = slice_get_within ranks at.0 one.0 at.1 in
+          let same = one.2 in
+          omega arith
+      by false None is has = has_none rank has
+      by false (Some first) is has =
+          let one = found (is_of comm) (declarations declared ranks) first is in
+          let made = made_by declared ranks first one.0 in
+          let kept = h.kept made.own made.among made.number made.call made.there in
+          All-contains (λ n. n < length ranks) first.attributes rank (kept.group_has_logs first.attributes (declared_group made.call.what first.name first.attributes made.is)) has
+
+  pub member_below : (kind : Kind) (name : List ℕ) (rank : ℕ) → IsMember kind ranks name rank → rank < length ranks
+  member_below kind name rank member = by (comm_for kind ranks name) member
+    where
+      by : (comm : Option (List ℕ)) → Contains (option_map_or (members_of_comm ranks) comm []) rank → rank < length ranks
+      by None has = has_none rank has
+      by (Some comm) has = comm_below comm rank has
+
+-- the logs of a run that are good, where no call is at fault for those of other ranks
+pub matched_of : (ranks : List RankCalls) → AreInOrder ranks → ((own : RankCalls) → Contains ranks own → (lines : List Checked) × AreCallsOf own.rank.0 (length ranks) lines own) → match_faults ranks ≡ []
+    → IsMatched ranks
+matched_of ranks in_order good none = record {
+  in_order = in_order;
+  kept = λ own among. let log = good own among in (whole_is own.rank.0 (length ranks) log.0 own log.1).kept;
+  matched = none;
+}

@@ -61,6 +61,42 @@ declared_same (what.Sync (Moving (Alltoall bytes comm))) = refl
 declared_same (what.Rma access) = refl
 declared_same (what.Local access) = refl
 
+pub declared_group : (does : What) (comm numbers : List ℕ) → declared does ≡ Some (comm, numbers) → (names_of does).group ≡ Some numbers
+declared_group (what.Sync (Frame (Comm comm ranks))) name numbers h = ap Some (some_pair_parts comm name ranks numbers h).1
+declared_group (what.Sync (Frame (Barrier comm))) name numbers h = cc
+declared_group (what.Sync (Message (Send to tag comm))) name numbers h = cc
+declared_group (what.Sync (Message (Recv from tag comm))) name numbers h = cc
+declared_group (what.Sync (Message (Isend to tag comm))) name numbers h = cc
+declared_group (what.Sync (Message (Irecv comm))) name numbers h = cc
+declared_group (what.Sync (Message (Wait received))) name numbers h = cc
+declared_group (what.Sync (Window (Create own comm base bytes unit model operations is))) name numbers h = cc
+declared_group (what.Sync (Window (Free own))) name numbers h = cc
+declared_group (what.Sync (Window (Attach own address bytes))) name numbers h = cc
+declared_group (what.Sync (Window (Detach own address))) name numbers h = cc
+declared_group (what.Sync (Epoch (Fence own assertions))) name numbers h = cc
+declared_group (what.Sync (Epoch (Post own origins assertions))) name numbers h = cc
+declared_group (what.Sync (Epoch (Start own targets assertions))) name numbers h = cc
+declared_group (what.Sync (Epoch (Complete own))) name numbers h = cc
+declared_group (what.Sync (Epoch (Expwait own))) name numbers h = cc
+declared_group (what.Sync (Epoch (Lock own target kind assertions))) name numbers h = cc
+declared_group (what.Sync (Epoch (Unlock own target))) name numbers h = cc
+declared_group (what.Sync (Epoch (LockAll own assertions))) name numbers h = cc
+declared_group (what.Sync (Epoch (UnlockAll own))) name numbers h = cc
+declared_group (what.Sync (Epoch (Flush own target))) name numbers h = cc
+declared_group (what.Sync (Epoch (FlushAll own))) name numbers h = cc
+declared_group (what.Sync (Epoch (FlushLocal own target))) name numbers h = cc
+declared_group (what.Sync (Epoch (FlushLocalAll own))) name numbers h = cc
+declared_group (what.Sync (Epoch (epoch.Sync own))) name numbers h = cc
+declared_group (what.Sync (Moving (Bcast root bytes comm))) name numbers h = cc
+declared_group (what.Sync (Moving (Scatter root bytes comm))) name numbers h = cc
+declared_group (what.Sync (Moving (Gather root bytes comm))) name numbers h = cc
+declared_group (what.Sync (Moving (Reduce root bytes comm))) name numbers h = cc
+declared_group (what.Sync (Moving (Allreduce bytes comm))) name numbers h = cc
+declared_group (what.Sync (Moving (Allgather bytes comm))) name numbers h = cc
+declared_group (what.Sync (Moving (Alltoall bytes comm))) name numbers h = cc
+declared_group (what.Rma access) name numbers h = cc
+declared_group (what.Local access) name numbers h = cc
+
 pub collective_names : (does : What) (comm : List ℕ) → comm_of does ≡ Some comm → (names_of does).needed_comm ≡ Some comm
 collective_names (what.Sync (Frame (Comm comm ranks))) name h = cc
 collective_names (what.Sync (Frame (Barrier comm))) own h = h
