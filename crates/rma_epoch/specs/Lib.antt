@@ -4,4 +4,5 @@ pub use Rattle.rma_open.specs.Reason
 pub use Rattle.rma_open.specs.Reaching
 pub mod Fault
 pub mod Table
+pub mod Laws
 pub mod inside

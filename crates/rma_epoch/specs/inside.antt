@@ -1,3 +1,4 @@
 pub mod Windows
-pub mod Placements
+pub mod Epochs
+pub mod Parts
 pub mod Live

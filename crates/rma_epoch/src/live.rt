@@ -1,43 +1,53 @@
 //! The epochs of a rank, as its calls come.
-ghost use Rattle.std.specs.Prelude.{◌≡◌, [], List, length, slice_get, IfOk, OnOk};
+ghost use Rattle.std.specs.Prelude.{◌≡◌, [], List, None, length, IfOk, OnOk};
 ghost use Rattle.std.specs.List.{list_any};
+ghost use Rattle.std.specs.Option.{option_and_then};
 ghost use Rattle.rma_call.specs.Call.{Call, call_of};
 ghost use Rattle.rma_window.specs.Windows.{Window};
 ghost use Rattle.rma_open.specs.Reason.{reason_at};
-ghost use Rattle.rma_epoch.specs.Table.{close_of, epoch_of, locks_of, table_of, taken_with};
+ghost use Rattle.rma_epoch.specs.Table.{epoch_at, epochs_of, placed_of, taken_with};
 ghost use Rattle.rma_epoch.specs.Fault.{leaves_open};
-ghost use Rattle.rma_epoch.specs.inside.Live.{HasLocks, Represents};
+ghost use Rattle.rma_epoch.specs.inside.Epochs.{InOrder};
+ghost use Rattle.rma_epoch.specs.inside.Live.{HasEpochs, Represents, taken_of};
 ghost use Rattle.rma_epoch.specs.inside.Windows.{IsOpenAfter, IsPlaceOf, names_in};
 
-use crate::locks::add_lock;
+use crate::epoch::{Epoch, Placed};
 use crate::open_windows::{OpenWindows, Place};
-use crate::placements::Placements;
-use crate::table::{Epoch, EpochTable, LockEpoch};
+use crate::parts::PartTable;
+use crate::placements::{Placements, epoch_of};
+use crate::table::EpochTable;
 use rma_base::{EpochReason, Memory};
 use rma_call::CallRef;
-use rma_window::Windows;
+use rma_window::{WindowId, Windows};
 use std::alloc::Global;
 
 /// The epochs of a rank, as its calls come.
 #[derive(Drop)]
 pub struct LiveEpochs {
-    /// Where tables take their memory.
-    alloc: Global,
     /// What the calls taken leave open on each window.
     windows: OpenWindows,
     /// How many calls are taken.
     taken: u32,
-    /// The epochs in which they stand.
+    /// The epochs that they open, and those in which they stand.
     placements: Placements,
-    /// The lock epochs that they open, in the order of their opening, without the calls that close them.
-    locks: Vec<LockEpoch>,
+}
+
+/// What comes of a call.
+#[derive(Clone, Copy, Debug, PartialEq, Eq)]
+pub struct Taken {
+    /// Why it stands in no epoch that allows it; then it is not taken.
+    pub reason: Option<EpochReason>,
+    /// The index of the epoch in which it stands, where it is taken and is an access to a target.
+    pub epoch: Option<u32>,
+    /// The index of the epoch that it closes, where it is taken and closes one.
+    pub closes: Option<u32>,
 }
 
 impl LiveEpochs {
     /// No calls.
     pub fn new(alloc: Global) -> LiveEpochs
         ensures nothing { Represents [] result }
-        ensures no_locks { (windows : List Window) → HasLocks windows [] result }
+        ensures no_epochs { (windows : List Window) → HasEpochs windows [] result }
     {
         LiveEpochs::on(alloc, OpenWindows::new(alloc))
     }
@@ -46,32 +56,27 @@ impl LiveEpochs {
     pub(crate) fn on(alloc: Global, windows: OpenWindows) -> LiveEpochs
         requires { IsOpenAfter [] windows }
         ensures nothing { Represents [] result }
-        ensures no_locks { (windows : List Window) → HasLocks windows [] result }
+        ensures no_epochs { (windows : List Window) → HasEpochs windows [] result }
         ensures names { names_in result.windows ≡ names_in windows }
     {
         LiveEpochs {
-            alloc,
             windows,
             taken: 0,
             placements: Placements::new(alloc),
-            locks: Vec::new(alloc),
         }
     }
 
     /// Takes the next call of the rank, unless it stands in no epoch that allows it: then it answers why, and the call is not
-    /// taken.
+    /// taken. Of a call that is taken it tells the epoch in which it stands and the one that it closes.
     ///
     /// # Errors
     ///
     /// `Memory`, and then nothing is said of what is kept.
-    pub fn take(
-        &mut self,
-        windows: &Windows,
-        call: CallRef<'_>,
-    ) -> Result<Option<EpochReason>, Memory>
-        ensures reason { IfOk result (λ reason. (calls : List Call) → Represents calls self.old → reason ≡ reason_at windows.now calls (call_of call.entry)) }
-        ensures taken { IfOk result (λ reason. (calls : List Call) → Represents calls self.old → Represents (taken_with reason (call_of call.entry) calls) self.new) }
-        ensures locks { IfOk result (λ reason. (calls : List Call) → Represents calls self.old → HasLocks windows.now calls self.old → HasLocks windows.now (taken_with reason (call_of call.entry) calls) self.new) }
+    pub fn take(&mut self, windows: &Windows, call: CallRef<'_>) -> Result<Taken, Memory>
+        ensures reason { IfOk result (λ taken. (calls : List Call) → Represents calls self.old → taken.reason ≡ reason_at windows.now calls (call_of call.entry)) }
+        ensures taken { IfOk result (λ taken. (calls : List Call) → Represents calls self.old → Represents (taken_with taken.reason (call_of call.entry) calls) self.new) }
+        ensures epochs { IfOk result (λ taken. (calls : List Call) → Represents calls self.old → HasEpochs windows.now calls self.old → HasEpochs windows.now (taken_with taken.reason (call_of call.entry) calls) self.new) }
+        ensures indices { IfOk result (λ taken. (calls : List Call) → Represents calls self.old → HasEpochs windows.now calls self.old → taken ≡ taken_of windows.now calls (call_of call.entry)) }
     {
         let place = self.windows.place(windows, call.what)?;
         self.take_at(windows, place, call)
@@ -83,26 +88,32 @@ impl LiveEpochs {
         windows: &Windows,
         place: Option<Place<'_>>,
         call: CallRef<'_>,
-    ) -> Result<Option<EpochReason>, Memory>
+    ) -> Result<Taken, Memory>
         requires { IsPlaceOf windows.now (names_in self.old.windows) (call_of call).what place }
-        ensures reason { IfOk result (λ reason. (calls : List Call) → Represents calls self.old → reason ≡ reason_at windows.now calls (call_of call.entry)) }
-        ensures taken { IfOk result (λ reason. (calls : List Call) → Represents calls self.old → Represents (taken_with reason (call_of call.entry) calls) self.new) }
-        ensures locks { IfOk result (λ reason. (calls : List Call) → Represents calls self.old → HasLocks windows.now calls self.old → HasLocks windows.now (taken_with reason (call_of call.entry) calls) self.new) }
+        ensures reason { IfOk result (λ taken. (calls : List Call) → Represents calls self.old → taken.reason ≡ reason_at windows.now calls (call_of call.entry)) }
+        ensures taken { IfOk result (λ taken. (calls : List Call) → Represents calls self.old → Represents (taken_with taken.reason (call_of call.entry) calls) self.new) }
+        ensures epochs { IfOk result (λ taken. (calls : List Call) → Represents calls self.old → HasEpochs windows.now calls self.old → HasEpochs windows.now (taken_with taken.reason (call_of call.entry) calls) self.new) }
+        ensures indices { IfOk result (λ taken. (calls : List Call) → Represents calls self.old → HasEpochs windows.now calls self.old → taken ≡ taken_of windows.now calls (call_of call.entry)) }
         ensures names { OnOk result (names_in self.new.windows ≡ names_in self.old.windows) }
     {
         let number = self.taken;
         let Some(next) = number.checked_add(1) else {
             return Err(Memory);
         };
-        let placement = self.windows.placement(place, call);
-        let reason = self.windows.take(place, number, call)?;
-        if reason.is_some() {
-            return Ok(reason);
+        let step = self.windows.take(place, number, call)?;
+        if step.reason.is_some() {
+            return Ok(refused(step.reason));
         }
-        add_lock(&mut self.locks, windows, number, call.what)?;
-        self.placements.add(number, placement)?;
+        let window = window_of(place);
+        let indices = self
+            .placements
+            .add(number, call.what, window, step.placement)?;
         self.taken = next;
-        Ok(None)
+        Ok(Taken {
+            reason: None,
+            epoch: indices.epoch,
+            closes: indices.closes,
+        })
     }
 
     /// How many calls are taken.
@@ -112,36 +123,25 @@ impl LiveEpochs {
         self.taken
     }
 
-    /// The epoch in which the call of this number stands, where it is taken and is an access to a target.
-    pub fn epoch_of(&self, call: u32) -> Option<Epoch>
-        ensures { (calls : List Call) → Represents calls self.now → result ≡ epoch_of calls call }
+    /// The epochs of the calls taken, in the order of their opening.
+    pub fn epochs(&self) -> &[Epoch]
+        ensures { (windows : List Window) (calls : List Call) → HasEpochs windows calls self.now → result.now ≡ epochs_of windows calls }
     {
-        self.placements.epoch_of(call)
+        self.placements.epochs()
     }
 
-    /// The number of the call that closes what the call of this number opened, where it is taken.
-    pub fn close_of(&self, opener: u32) -> Option<u32>
-        ensures { (calls : List Call) → Represents calls self.now → result ≡ close_of calls opener }
+    /// The accesses to a target among the calls taken, in their order.
+    pub fn placed(&self) -> &[Placed]
+        ensures { (windows : List Window) (calls : List Call) → HasEpochs windows calls self.now → result.now ≡ placed_of windows calls }
     {
-        self.placements.close_of(opener)
+        self.placements.placed()
     }
 
-    /// The lock epoch at an index of those of the calls taken, in the order of their opening; none behind the last.
-    pub fn lock(&self, index: usize) -> Option<LockEpoch>
-        ensures { (windows : List Window) (calls : List Call) → Represents calls self.now → HasLocks windows calls self.now → result ≡ slice_get (locks_of windows calls) index }
+    /// The index of the epoch in which the call of this number stands, where it is taken and is an access to a target.
+    pub fn epoch_of(&self, call: u32) -> Option<u32>
+        ensures { (windows : List Window) (calls : List Call) → HasEpochs windows calls self.now → result ≡ epoch_at (placed_of windows calls) call }
     {
-        match self.locks.get(index) {
-            Some(lock) => Some(self.placements.lock(*lock)),
-            None => None,
-        }
-    }
-
-    /// The table of the calls taken.
-    pub(crate) fn into_table(self) -> Result<EpochTable, Memory>
-        ensures { IfOk result (λ table. (windows : List Window) (calls : List Call) → Represents calls self → HasLocks windows calls self → table ≡ table_of windows calls) }
-    {
-        let locks = self.placements.locks(self.alloc, &self.locks)?;
-        Ok(EpochTable::new(self.taken, self.placements, locks))
+        epoch_of(self.placements.placed(), call)
     }
 
     /// Whether an epoch has to be closed yet on a window that is not freed.
@@ -149,5 +149,37 @@ impl LiveEpochs {
         ensures { (calls : List Call) → Represents calls self.now → result ≡ list_any (leaves_open calls) calls }
     {
         self.windows.is_unclosed()
+    }
+
+    /// The table of the calls taken, with what calls share that do the same.
+    pub(crate) fn into_table(self, parts: PartTable) -> EpochTable
+        requires { InOrder self.placements.placed.items }
+        ensures sound { (calls : List Call) → Represents calls self → result.sound ≡ length calls }
+        ensures epochs { (windows : List Window) (calls : List Call) → HasEpochs windows calls self → result.epochs ≡ epochs_of windows calls }
+        ensures placed { (windows : List Window) (calls : List Call) → HasEpochs windows calls self → result.placed ≡ placed_of windows calls }
+        ensures parts { result.parts ≡ parts }
+    {
+        EpochTable::new(self.taken, self.placements, parts)
+    }
+}
+
+/// A call that is not taken.
+fn refused(reason: Option<EpochReason>) -> Taken
+    ensures { result ≡ record { reason = reason; epoch = None; closes = None } }
+{
+    Taken {
+        reason,
+        epoch: None,
+        closes: None,
+    }
+}
+
+/// The number of the window at a place.
+fn window_of(place: Option<Place<'_>>) -> Option<WindowId>
+    ensures { result ≡ option_and_then (λ place. place.window) place.entry }
+{
+    match place {
+        Some(place) => place.window,
+        None => None,
     }
 }

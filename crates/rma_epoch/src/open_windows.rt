@@ -1,22 +1,29 @@
 //! What a rank has open on its windows.
-ghost use Rattle.std.specs.Prelude.{◌≡◌, [], ℕ, List, Some, true, length, nat_eq, slice_get, IfOk, OnOk};
+ghost use Rattle.std.specs.Prelude.{◌≡◌, ◌+◌, [], ℕ, List, Some, None, true, length, nat_eq, slice_get, IfOk, OnOk};
 ghost use Rattle.std.specs.Map.{keys_of, lookup};
 ghost use Rattle.std.specs.List.{list_any};
 ghost use Rattle.std.specs.Cmp.Lexicographic.{pointwise};
 ghost use Rattle.rma_call.specs.Call.{Call, call_of, what_of};
+ghost use Rattle.rma_call.specs.declared.what.What.{What};
 ghost use Rattle.rma_window.specs.Windows.{Window, number_of};
-ghost use Rattle.rma_open.specs.Open.{open_on, is_unclosed};
+ghost use Rattle.rma_open.specs.Calls.{number_on, part_on};
+ghost use Rattle.rma_open.specs.Open.{open_after, open_on, is_unclosed};
+ghost use Rattle.rma_open.specs.Reason.{reason_in};
 ghost use Rattle.rma_epoch.specs.Fault.{leaves_open};
 ghost use Rattle.rma_open.specs.declared.open_epochs.OpenEpochs.{OpenEpochs};
 ghost use Rattle.rma_open.specs.inside.Held.{open_of};
-ghost use Rattle.rma_epoch.specs.inside.Windows.{ArePlaces, IsOpenAfter, IsPlaceOf, IsTaken, kept, names_in, placed_at, placed_in, StayThere};
+ghost use Rattle.rma_open.specs.inside.Next.{past_with};
+ghost use Rattle.rma_open.specs.inside.Settled.{settled_by};
+ghost use Rattle.rma_epoch.specs.inside.Parts.{AreEntries};
+ghost use Rattle.rma_epoch.specs.inside.Windows.{ArePlaces, IsOpenAfter, IsPlaceOf, IsSpotOf, IsTaken, kept, names_in, placed_in, StayThere};
 
+use crate::parts::Parts;
 use crate::placements::Placement;
 use indexmap::IndexMap;
 use rma_base::{EpochReason, Memory, Name};
 use rma_call::{CallList, CallRef, WhatRef};
-use rma_open::{OpenEpochs, Settled, window_on};
-use rma_window::{WindowId, Windows};
+use rma_open::{OpenEpochs, Settled, part_on, window_on};
+use rma_window::{Part, WindowId, Windows};
 use std::alloc::Global;
 
 /// What a rank has open on its windows, as its calls come. A call finds its window by a place: what calls do tells it, so it
@@ -33,15 +40,68 @@ pub(crate) struct OpenWindows {
     last: usize,
 }
 
+/// Where a window is found.
+#[derive(Clone, Copy, Debug)]
+pub(crate) struct Spot {
+    /// Its index among the windows on which something may be open.
+    pub index: usize,
+    /// Its number among the windows of the run, if it is one of them.
+    pub window: Option<WindowId>,
+}
+
 /// Where the window of a call is found.
 #[derive(Clone, Copy, Debug)]
 pub(crate) struct Place<'a> {
     /// Its index among the windows on which something may be open.
     pub index: usize,
+    /// Its number among the windows of the run, if it is one of them.
+    pub window: Option<WindowId>,
     /// What is settled of the call, whatever is open there.
     pub settled: Settled,
     /// What the call does.
     pub what: WhatRef<'a>,
+}
+
+/// What comes of a call.
+#[derive(Clone, Copy, Debug)]
+pub(crate) struct Step {
+    /// Why it stands in no epoch that allows it, and is not taken.
+    pub reason: Option<EpochReason>,
+    /// In which epoch it would stand, and what it would close.
+    pub placement: Placement,
+}
+
+impl Step {
+    /// A call that is on no window.
+    fn none() -> Step
+        ensures { result ≡ record { reason = None; placement = record { opening = None; closes = None } } }
+    {
+        Step {
+            reason: None,
+            placement: Placement::none(),
+        }
+    }
+}
+
+impl Place<'_> {
+    /// The place of calls that do this, on a window that is found there, and to a target with this part of it.
+    pub(crate) fn new<'a>(
+        windows: &Windows,
+        spot: Spot,
+        part: Option<Part>,
+        what: WhatRef<'a>,
+    ) -> Place<'a>
+        requires window { spot.window ≡ number_on windows.now (what_of what) }
+        requires part { part ≡ part_on windows.now (what_of what) }
+        ensures { result ≡ record { index = spot.index; window = spot.window; settled = settled_by windows.now (what_of what.entry); what = what.entry } }
+    {
+        Place {
+            index: spot.index,
+            window: spot.window,
+            settled: Settled::of(windows, spot.window, part, what),
+            what,
+        }
+    }
 }
 
 impl OpenWindows {
@@ -57,22 +117,52 @@ impl OpenWindows {
         }
     }
 
-    /// The places of the windows that calls are on, by the numbers of what calls do.
+    /// The places of the windows that calls are on, by the numbers of what calls do. What they share that do the same is added to
+    /// the parts, where nothing stands yet.
     pub(crate) fn places<'a>(
         &mut self,
         windows: &Windows,
+        parts: &mut Parts,
         calls: &'a CallList,
     ) -> Result<Vec<Option<Place<'a>>>, Memory>
+        requires { parts.old.entries.items ≡ [] }
         ensures len { IfOk result (λ places. length places.items ≡ length calls.now.whats) }
-        ensures places { IfOk result (λ places. ArePlaces windows.now (names_in self.new) calls.now.whats places.items) }
+        ensures places { IfOk result (λ places. AreEntries windows.now calls.now.whats parts.old → ArePlaces windows.now (names_in self.new) calls.now.whats places.items) }
         ensures same { OnOk result ((before : List Call) → IsOpenAfter before self.old → IsOpenAfter before self.new) }
+        ensures parts_len { OnOk result (length parts.new.entries.items ≡ length calls.now.whats) }
+        ensures parts { OnOk result (AreEntries windows.now calls.now.whats parts.old → AreEntries windows.now calls.now.whats parts.new) }
     {
         let mut places = Vec::new(self.alloc);
         for number in 0..calls.whats() {
-            let place = self.place(windows, calls.what(number))?;
+            let place = self.place_with(windows, parts, calls.what(number))?;
             places.push(place)?;
         }
         Ok(places)
+    }
+
+    /// The place of the window that calls are on which do this, where they are on one. What they share is added to the parts.
+    fn place_with<'a>(
+        &mut self,
+        windows: &Windows,
+        parts: &mut Parts,
+        what: WhatRef<'a>,
+    ) -> Result<Option<Place<'a>>, Memory>
+        ensures place { IfOk result (λ place. (whats : List What) → AreEntries windows.now whats parts.old → IsPlaceOf windows.now (names_in self.new) (what_of what.entry) place) }
+        ensures names { OnOk result (StayThere (names_in self.old) (names_in self.new)) }
+        ensures same { OnOk result ((before : List Call) → IsOpenAfter before self.old → IsOpenAfter before self.new) }
+        ensures len { OnOk result (length parts.new.entries.items ≡ length parts.old.entries.items + 1) }
+        ensures parts { OnOk result ((whats : List What) → slice_get whats (length parts.old.entries.items) ≡ Some (what_of what.entry) → AreEntries windows.now whats parts.old → AreEntries windows.now whats parts.new) }
+    {
+        match self.spot(windows, what)? {
+            Some(spot) => {
+                let part = parts.add(windows, spot.window, what)?;
+                Ok(Some(Place::new(windows, spot, part, what)))
+            }
+            None => {
+                parts.add(windows, None, what)?;
+                Ok(None)
+            }
+        }
     }
 
     /// The place of the window that calls are on which do this, where they are on one.
@@ -85,16 +175,26 @@ impl OpenWindows {
         ensures names { OnOk result (StayThere (names_in self.old) (names_in self.new)) }
         ensures same { OnOk result ((before : List Call) → IsOpenAfter before self.old → IsOpenAfter before self.new) }
     {
+        match self.spot(windows, what)? {
+            Some(spot) => {
+                let part = part_on(windows, spot.window, what);
+                Ok(Some(Place::new(windows, spot, part, what)))
+            }
+            None => Ok(None),
+        }
+    }
+
+    /// Where the window is found that calls are on which do this, where they are on one.
+    fn spot(&mut self, windows: &Windows, what: WhatRef<'_>) -> Result<Option<Spot>, Memory>
+        ensures spot { IfOk result (IsSpotOf windows.now (names_in self.new) (what_of what.entry)) }
+        ensures names { OnOk result (StayThere (names_in self.old) (names_in self.new)) }
+        ensures same { OnOk result ((before : List Call) → IsOpenAfter before self.old → IsOpenAfter before self.new) }
+    {
         match window_on(what) {
             Some(name) => {
                 let index = self.index_of(name)?;
                 let window = self.number_of(windows, index, name)?;
-                let settled = Settled::of(windows, window, what);
-                Ok(Some(Place {
-                    index,
-                    settled,
-                    what,
-                }))
+                Ok(Some(Spot { index, window }))
             }
             None => Ok(None),
         }
@@ -137,7 +237,7 @@ impl OpenWindows {
     }
 
     /// Takes the call of this number, which is the next one and whose window has this place, unless it stands in no epoch that
-    /// allows it: then it answers why, and the call is not taken.
+    /// allows it: then it answers why, and the call is not taken. It answers too in which epoch the call stands, and what it closes.
     ///
     /// # Errors
     ///
@@ -147,24 +247,14 @@ impl OpenWindows {
         place: Option<Place<'_>>,
         number: u32,
         call: CallRef<'_>,
-    ) -> Result<Option<EpochReason>, Memory>
+    ) -> Result<Step, Memory>
         ensures names { OnOk result (names_in self.new ≡ names_in self.old) }
-        ensures taken { IfOk result (λ reason. (windows : List Window) (calls : List Call) → IsPlaceOf windows (names_in self.old) (call_of call.entry).what place.entry → number ≡ length calls → IsOpenAfter calls self.old
-            → IsTaken windows calls (call_of call.entry) reason self.new.windows.entries) }
+        ensures taken { IfOk result (λ step. (windows : List Window) (calls : List Call) → IsPlaceOf windows (names_in self.old) (call_of call.entry).what place.entry → number ≡ length calls → IsOpenAfter calls self.old
+            → IsTaken windows calls (call_of call.entry) step self.new.windows.entries) }
     {
         match place {
             Some(place) => take_at(&mut self.windows, place, number, call),
-            None => Ok(None),
-        }
-    }
-
-    /// In which epoch the call would stand that comes next, and what it would close. Its window has this place.
-    pub(crate) fn placement(&self, place: Option<Place<'_>>, call: CallRef<'_>) -> Placement
-        ensures { (windows : List Window) (calls : List Call) → IsOpenAfter calls self.now → IsPlaceOf windows (names_in self.now) (call_of call.entry).what place.entry → result ≡ placed_at calls (call_of call.entry) }
-    {
-        match place {
-            Some(place) => placement_in(&self.windows, place.index, call.what),
-            None => Placement::none(),
+            None => Ok(Step::none()),
         }
     }
 
@@ -228,31 +318,37 @@ fn take_at(
     place: Place<'_>,
     number: u32,
     call: CallRef<'_>,
-) -> Result<Option<EpochReason>, Memory>
+) -> Result<Step, Memory>
     ensures names { OnOk result (keys_of table.new.entries ≡ keys_of table.old.entries) }
-    ensures taken { IfOk result (λ reason. (windows : List Window) (calls : List Call) → IsPlaceOf windows (keys_of table.old.entries) (call_of call.entry).what (Some place.entry) → number ≡ length calls
-        → ((window : List ℕ) → kept table.old.entries window ≡ open_on calls window) → IsTaken windows calls (call_of call.entry) reason table.new.entries) }
+    ensures taken { IfOk result (λ step. (windows : List Window) (calls : List Call) → IsPlaceOf windows (keys_of table.old.entries) (call_of call.entry).what (Some place.entry) → number ≡ length calls
+        → ((window : List ℕ) → kept table.old.entries window ≡ open_on calls window) → IsTaken windows calls (call_of call.entry) step table.new.entries) }
 {
     match table.get_index_mut(place.index) {
-        Some(own) => {
-            let what = place.what;
-            own.take_allowed(place.settled, number, CallRef { what, ..call })
-        }
-        None => Ok(None),
+        Some(own) => take_on(own, place, number, call),
+        None => Ok(Step::none()),
     }
 }
 
-/// In which epoch a call on the window at the index would stand, and what it would close.
-fn placement_in(table: &IndexMap<Name, OpenEpochs>, index: usize, what: WhatRef<'_>) -> Placement
-    ensures { (name : List ℕ) → slice_get (keys_of table.now.entries) index ≡ Some name → result ≡ placed_in (kept table.now.entries name) (what_of what.entry) }
+/// Takes the call of this number, on the window on which this is open, unless it has a reason, which it answers.
+fn take_on(
+    own: &mut OpenEpochs,
+    place: Place<'_>,
+    number: u32,
+    call: CallRef<'_>,
+) -> Result<Step, Memory>
+    ensures placement { IfOk result (λ step. step.placement ≡ placed_in (open_of own.old) (what_of place.entry.what)) }
+    ensures reason { IfOk result (λ step. (windows : List Window) → place.entry.settled ≡ settled_by windows (what_of place.entry.what)
+        → step.reason ≡ reason_in windows (open_of own.old) (what_of place.entry.what) call.entry.request) }
+    ensures taken { IfOk result (λ step. (past : List (ℕ × What)) → open_of own.old ≡ open_after past
+        → open_of own.new ≡ open_after (past_with step.reason (number, what_of place.entry.what) past)) }
 {
-    match table.get_index(index) {
-        Some((_, own)) => Placement {
-            opening: own.opening(what),
-            closes: own.closed_by(what),
-        },
-        None => Placement::none(),
-    }
+    let what = place.what;
+    let placement = Placement {
+        opening: own.opening(what),
+        closes: own.closed_by(what),
+    };
+    let reason = own.take_allowed(place.settled, number, CallRef { what, ..call })?;
+    Ok(Step { reason, placement })
 }
 
 /// Whether an epoch has to be closed yet on some window that is kept and not freed.

@@ -1,11 +1,17 @@
-//! The epochs in which calls stand, as they are kept.
-ghost use Rattle.std.specs.Prelude.{◌≡◌, ◌++◌, ◌∷◌, [], ◌<◌, ◌==◌, ℕ, length, map, IfOk, OnOk, Some, None, if◌then◌else◌};
-ghost use Rattle.rma_epoch.specs.Table.{at_number, epoch_with, is_opener, lock_with};
-ghost use Rattle.rma_epoch.specs.inside.Placements.{close_at, close_in, epochs_in};
+//! The epochs of a rank, and the accesses that stand in them, as they are kept.
+ghost use Rattle.std.specs.Prelude.{◌≡◌, ◌++◌, [], map, IfOk, OnOk, true, slice_get, Some, None, false, option_map, IfSome, ◌<◌, length, ℕ};
+ghost use Rattle.std.specs.List.{cons_option};
+ghost use Rattle.std.specs.Option.{option_and_then, option_map_or};
+ghost use Rattle.rma_call.specs.Call.{what_of};
+ghost use Rattle.rma_epoch.specs.Table.{epoch_at, index_in, is_opened_by, opened_on};
+ghost use Rattle.rma_epoch.specs.inside.Epochs.{Ascend, InOrder, closed_with, epochs_with, index_of_opening, placed_with};
 
-use crate::table::{Epoch, LockEpoch};
+use crate::epoch::{Epoch, Placed};
+use crate::opened::opened;
 use rma_base::Memory;
+use rma_call::WhatRef;
 use rma_open::Opening;
+use rma_window::WindowId;
 use std::alloc::Global;
 
 /// In which epoch a call stands, and what it closes.
@@ -29,113 +35,179 @@ impl Placement {
     }
 }
 
-/// The epochs in which calls stand.
+/// The epochs in which a call stands and which it closes.
+#[derive(Clone, Copy, Debug)]
+pub(crate) struct Indices {
+    /// The index of the epoch in which it stands, where it is an access to a target.
+    pub epoch: Option<u32>,
+    /// The index of the one that it closes.
+    pub closes: Option<u32>,
+}
+
+/// The epochs of a rank, and the accesses that stand in them.
 #[derive(Debug, Drop)]
-pub struct Placements {
-    /// For each call the epoch in which it stands, where it is an access to a target.
-    openings: Vec<Option<Opening>>,
-    /// The number of the call that closes an epoch, at the number of the one that opened it. None that is closed lies behind
-    /// the end.
-    closes: Vec<Option<u32>>,
+pub(crate) struct Placements {
+    /// The epochs, in the order of their opening.
+    epochs: Vec<Epoch>,
+    /// The accesses to a target, in their order.
+    placed: Vec<Placed>,
+    /// The index of the epoch that was asked for last: the next access mostly stands in the same one.
+    last: usize,
 }
 
 impl Placements {
     /// No calls.
     pub(crate) fn new(alloc: Global) -> Placements
-        ensures openings { result.openings.items ≡ [] }
-        ensures closes { (opener : ℕ) → close_in result opener ≡ None }
+        ensures epochs { result.epochs.items ≡ [] }
+        ensures placed { result.placed.items ≡ [] }
     {
         Placements {
-            openings: Vec::new(alloc),
-            closes: Vec::new(alloc),
+            epochs: Vec::new(alloc),
+            placed: Vec::new(alloc),
+            last: 0,
         }
     }
 
-    /// Adds the call of this number, which is the next one.
-    pub(crate) fn add(&mut self, number: u32, placement: Placement) -> Result<(), Memory>
-        ensures openings { OnOk result (self.new.openings.items ≡ self.old.openings.items ++ placement.opening ∷ []) }
-        ensures closes { OnOk result ((opener : ℕ) → close_in self.new opener ≡ (if is_opener opener placement.closes then Some number else close_in self.old opener)) }
+    /// Adds the call of this number, which is the next one and on this window, if that is one of the run.
+    pub(crate) fn add(
+        &mut self,
+        number: u32,
+        what: WhatRef<'_>,
+        window: Option<WindowId>,
+        placement: Placement,
+    ) -> Result<Indices, Memory>
+        ensures epochs { OnOk result (Ascend self.old.epochs.items → self.new.epochs.items ≡ epochs_with number (what_of what.entry) window placement.closes self.old.epochs.items) }
+        ensures placed { OnOk result (Ascend self.old.epochs.items → self.new.placed.items ≡ placed_with number (index_of_opening self.old.epochs.items placement) self.old.placed.items) }
+        ensures indices { IfOk result (λ indices. Ascend self.old.epochs.items → indices ≡ record { epoch = index_of_opening self.old.epochs.items placement; closes = option_and_then (index_in self.old.epochs.items) placement.closes }) }
     {
-        self.openings.push(placement.opening)?;
-        match placement.closes {
-            Some(opener) => close(&mut self.closes, opener, number),
-            None => Ok(()),
+        let epoch = self.place(number, placement.opening)?;
+        let closes = self.close(number, placement.closes)?;
+        self.open(number, what, window)?;
+        Ok(Indices { epoch, closes })
+    }
+
+    /// Keeps in which epoch the access of this number stands, and answers its index.
+    fn place(&mut self, number: u32, opening: Option<Opening>) -> Result<Option<u32>, Memory>
+        ensures epochs { OnOk result (self.new.epochs.items ≡ self.old.epochs.items) }
+        ensures placed { IfOk result (λ index. self.new.placed.items ≡ placed_with number index self.old.placed.items) }
+        ensures index { IfOk result (λ index. Ascend self.old.epochs.items → index ≡ option_and_then (λ opening. index_in self.old.epochs.items opening.opener) opening) }
+    {
+        let Some(opening) = opening else {
+            return Ok(None);
+        };
+        let Some(epoch) = self.index_of(opening.opener)? else {
+            return Ok(None);
+        };
+        self.placed.push(Placed {
+            call: number,
+            epoch,
+        })?;
+        Ok(Some(epoch))
+    }
+
+    /// Keeps that the call of this number closes what the call of the number of the opener opened, and answers its index.
+    fn close(&mut self, number: u32, opener: Option<u32>) -> Result<Option<u32>, Memory>
+        ensures epochs { OnOk result (Ascend self.old.epochs.items → self.new.epochs.items ≡ map (closed_with opener number) self.old.epochs.items) }
+        ensures placed { OnOk result (self.new.placed.items ≡ self.old.placed.items) }
+        ensures index { IfOk result (λ index. Ascend self.old.epochs.items → index ≡ option_and_then (index_in self.old.epochs.items) opener) }
+    {
+        let Some(opener) = opener else {
+            return Ok(None);
+        };
+        let Some(index) = self.index_of(opener)? else {
+            return Ok(None);
+        };
+        close_at(&mut self.epochs, index as usize, number);
+        Ok(Some(index))
+    }
+
+    /// Keeps the epoch that the call of this number opens, if it opens one.
+    fn open(
+        &mut self,
+        number: u32,
+        what: WhatRef<'_>,
+        window: Option<WindowId>,
+    ) -> Result<(), Memory>
+        ensures epochs { OnOk result (self.new.epochs.items ≡ self.old.epochs.items ++ cons_option (option_and_then (opened_on number (what_of what.entry)) window) []) }
+        ensures placed { OnOk result (self.new.placed.items ≡ self.old.placed.items) }
+    {
+        if let Some(epoch) = opened(number, what, window)? {
+            self.last = self.epochs.len();
+            self.epochs.push(epoch)?;
+        }
+        Ok(())
+    }
+
+    /// The index of the epoch that the call of this number opens, where there is one.
+    fn index_of(&mut self, opener: u32) -> Result<Option<u32>, Memory>
+        ensures index { IfOk result (λ index. Ascend self.old.epochs.items → index ≡ index_in self.old.epochs.items opener) }
+        ensures within { IfOk result (λ index. IfSome index (λ i. i < length self.old.epochs.items)) }
+        ensures epochs { OnOk result (self.new.epochs.items ≡ self.old.epochs.items) }
+        ensures placed { OnOk result (self.new.placed.items ≡ self.old.placed.items) }
+    {
+        let Some(index) = index_from(&self.epochs, self.last, opener) else {
+            return Ok(None);
+        };
+        self.last = index;
+        match u32::try_from(index) {
+            Ok(index) => Ok(Some(index)),
+            Err(_) => Err(Memory),
         }
     }
 
-    /// The epoch in which the call of this number stands, where it is an access to a target.
-    pub(crate) fn epoch_of(&self, call: u32) -> Option<Epoch>
-        ensures { result ≡ at_number (epochs_in self.now) call }
+    /// The epochs, in the order of their opening.
+    pub(crate) fn epochs(&self) -> &[Epoch]
+        ensures { result.now ≡ self.now.epochs.items }
     {
-        match self.openings.get(call as usize) {
-            Some(Some(opening)) => Some(self.epoch(*opening)),
-            _ => None,
-        }
+        &self.epochs
     }
 
-    /// The epoch with the call that closes it.
-    fn epoch(&self, opening: Opening) -> Epoch
-        ensures { result ≡ epoch_with (close_in self.now) opening }
+    /// The accesses to a target, in their order.
+    pub(crate) fn placed(&self) -> &[Placed]
+        ensures { result.now ≡ self.now.placed.items }
     {
-        Epoch {
-            kind: opening.kind,
-            opener: opening.opener,
-            close: self.close_of(opening.opener),
-        }
-    }
-
-    /// The lock epoch with the call that closes it.
-    pub(crate) fn lock(&self, lock: LockEpoch) -> LockEpoch
-        ensures { result ≡ lock_with (close_in self.now) lock }
-    {
-        LockEpoch {
-            close: self.close_of(lock.opener),
-            ..lock
-        }
-    }
-
-    /// The lock epochs with the calls that close them.
-    pub(crate) fn locks(
-        &self,
-        alloc: Global,
-        opened: &[LockEpoch],
-    ) -> Result<Vec<LockEpoch>, Memory>
-        ensures { IfOk result (λ locks. locks.items ≡ map (lock_with (close_in self.now)) opened.now) }
-    {
-        let mut locks = Vec::new(alloc);
-        for lock in opened {
-            locks.push(self.lock(*lock))?;
-        }
-        Ok(locks)
-    }
-
-    /// The number of the call that closes what the call of this number opened.
-    pub(crate) fn close_of(&self, opener: u32) -> Option<u32>
-        ensures { result ≡ close_in self.now opener }
-    {
-        match self.closes.get(opener as usize) {
-            Some(close) => *close,
-            None => None,
-        }
+        &self.placed
     }
 }
 
-/// Keeps the number of the call that closes what the call of the number of the opener opened.
-fn close(closes: &mut Vec<Option<u32>>, opener: u32, number: u32) -> Result<(), Memory>
-    ensures { OnOk result ((other : ℕ) → close_at closes.new.items other ≡ (if opener == other then Some number else close_at closes.old.items other)) }
+/// The index of the epoch that the call of this number opens, where there is one. It may be this one.
+fn index_from(epochs: &[Epoch], last: usize, opener: u32) -> Option<usize>
+    ensures index { Ascend epochs.now → result ≡ index_in epochs.now opener }
+    ensures within { IfSome result (λ i. i < length epochs.now) }
 {
-    reach(closes, opener)?;
-    closes[opener as usize] = Some(number);
-    Ok(())
+    if is_at(epochs, last, opener) {
+        return Some(last);
+    }
+    epochs
+        .binary_search_by_key(&opener, |epoch| epoch.opener)
+        .ok()
 }
 
-/// Makes the column so long that it has a place for the number.
-fn reach(closes: &mut Vec<Option<u32>>, opener: u32) -> Result<(), Memory>
-    ensures long { OnOk result (opener < length closes.new.items) }
-    ensures same { OnOk result ((other : ℕ) → close_at closes.new.items other ≡ close_at closes.old.items other) }
+/// Whether the epoch at the index is the one that the call of this number opens.
+fn is_at(epochs: &[Epoch], index: usize, opener: u32) -> bool
+    ensures { result ≡ option_map_or (is_opened_by opener) (slice_get epochs.now index) false }
 {
-    for _ in closes.len()..opener as usize + 1 {
-        closes.push(None)?;
+    match epochs.get(index) {
+        Some(epoch) => epoch.opener == opener,
+        None => false,
     }
-    Ok(())
+}
+
+/// Notes that the call of this number closes the epoch at the index.
+fn close_at(epochs: &mut [Epoch], index: usize, number: u32)
+    requires { index < length epochs.old }
+    ensures { (opener : ℕ) → Ascend epochs.old → index_in epochs.old opener ≡ Some index → epochs.new ≡ map (closed_with (Some opener) number) epochs.old }
+{
+    let epoch = &mut epochs[index];
+    epoch.close = Some(number);
+}
+
+/// The index of the epoch in which the call of this number stands, among these accesses.
+pub(crate) fn epoch_of(placed: &[Placed], call: u32) -> Option<u32>
+    ensures { InOrder placed.now → result ≡ epoch_at placed.now call }
+{
+    match placed.binary_search_by_key(&call, |placed| placed.call) {
+        Ok(place) => Some(placed[place].epoch),
+        Err(_) => None,
+    }
 }

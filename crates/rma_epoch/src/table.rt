@@ -1,70 +1,47 @@
-//! The epochs in which the accesses of a rank stand, and its lock epochs.
-ghost use Rattle.std.specs.Prelude.{◌≡◌};
-ghost use Rattle.rma_epoch.specs.Table.{at_number};
-ghost use Rattle.rma_epoch.specs.inside.Placements.{epochs_in};
+//! The epochs of the sound calls of a rank.
+ghost use Rattle.std.specs.Prelude.{◌≡◌, ◌∷◌, [], None};
+ghost use Rattle.rma_epoch.specs.Table.{epoch_at};
+ghost use Rattle.rma_epoch.specs.inside.Epochs.{InOrder};
 
+use crate::epoch::{Epoch, Placed};
 use crate::fault::EpochFault;
-use crate::placements::Placements;
-use rma_base::Rank;
-use rma_open::EpochKind;
-use rma_window::WindowId;
+use crate::parts::PartTable;
+use crate::placements::{Placements, epoch_of};
 use std::marker::Model;
-
-/// The epoch in which an access stands.
-#[derive(Clone, Copy, Debug, PartialEq, Eq)]
-pub struct Epoch {
-    /// Its kind.
-    pub kind: EpochKind,
-    /// The number of the call that opens it.
-    pub opener: u32,
-    /// The number of the sound call that closes it, where there is one.
-    pub close: Option<u32>,
-}
-
-/// A lock epoch.
-#[derive(Clone, Copy, Debug, PartialEq, Eq)]
-pub struct LockEpoch {
-    /// The window.
-    pub window: WindowId,
-    /// The target; none for a lockall.
-    pub target: Option<Rank>,
-    /// Whether it keeps all other locks away.
-    pub exclusive: bool,
-    /// The number of the call that opens it.
-    pub opener: u32,
-    /// The number of the sound call that closes it, where there is one.
-    pub close: Option<u32>,
-}
 
 /// The epochs of the sound calls of a rank: those before its first call that stands in no epoch that allows it.
 #[derive(Debug, Drop)]
 pub struct EpochTable {
     /// How many calls are sound.
     sound: u32,
-    /// The epochs in which they stand.
+    /// Their epochs, and the accesses that stand in them.
     placements: Placements,
-    /// The lock epochs in the order of their opening.
-    locks: Vec<LockEpoch>,
+    /// What calls share that do the same.
+    parts: PartTable,
 }
 
 impl Model for EpochTable {
     ghost use Rattle.rma_epoch.specs.Table.{Epochs};
-    ghost use Rattle.rma_epoch.specs.inside.Placements.{epochs_in};
 
     ghost Value = { Epochs };
 
-    ghost view = { λ table. record { sound = table.sound; epochs = epochs_in table.placements; locks = table.locks.items } };
+    ghost use Rattle.rma_epoch.specs.inside.Epochs.{InOrder};
+
+    ghost view = { λ table. record { sound = table.sound; epochs = table.placements.epochs.items; placed = table.placements.placed.items; parts = table.parts } };
+
+    ghost invariant = { λ table. InOrder table.placements.placed.items };
 }
 
 impl EpochTable {
     /// The table of these.
-    pub(crate) fn new(sound: u32, placements: Placements, locks: Vec<LockEpoch>) -> EpochTable
-        ensures { result ≡ record { sound = sound; epochs = epochs_in placements; locks = locks.items } }
+    pub(crate) fn new(sound: u32, placements: Placements, parts: PartTable) -> EpochTable
+        requires { InOrder placements.placed.items }
+        ensures { result ≡ record { sound = sound; epochs = placements.epochs.items; placed = placements.placed.items; parts = parts } }
     {
         EpochTable {
             sound,
             placements,
-            locks,
+            parts,
         }
     }
 
@@ -75,18 +52,32 @@ impl EpochTable {
         self.sound
     }
 
-    /// The epoch in which the call of this number stands, where it is sound and an access to a target.
-    pub fn epoch_of(&self, call: u32) -> Option<Epoch>
-        ensures { result ≡ at_number self.now.epochs call }
+    /// The epochs of the sound calls, in the order of their opening.
+    pub fn epochs(&self) -> &[Epoch]
+        ensures { result.now ≡ self.now.epochs }
     {
-        self.placements.epoch_of(call)
+        self.placements.epochs()
     }
 
-    /// The lock epochs of the sound calls, in the order of their opening.
-    pub fn locks(&self) -> &[LockEpoch]
-        ensures { result.now ≡ self.now.locks }
+    /// The sound accesses to a target in their order, each with the index of its epoch.
+    pub fn placed(&self) -> &[Placed]
+        ensures { result.now ≡ self.now.placed }
     {
-        &self.locks
+        self.placements.placed()
+    }
+
+    /// The index of the epoch in which the call of this number stands, where it is sound and an access to a target.
+    pub fn epoch_of(&self, call: u32) -> Option<u32>
+        ensures { result ≡ epoch_at self.now.placed call }
+    {
+        epoch_of(self.placements.placed(), call)
+    }
+
+    /// The window of all calls of the rank, and the part of their target, by the numbers of what they do.
+    pub fn parts(&self) -> &PartTable
+        ensures { result.now ≡ self.now.parts }
+    {
+        &self.parts
     }
 }
 

@@ -10,8 +10,9 @@ use Rattle.rma_call.specs.declared.window.WindowCall.TheVariants.{Free}
 use Rattle.rma_call.specs.declared.epoch.EpochCall.{EpochCall}
 use Rattle.rma_call.specs.declared.epoch.EpochCall.TheVariants.{Fence, Post, Start, Complete, Expwait, Lock, Unlock, LockAll, UnlockAll, Flush, FlushAll, FlushLocal, FlushLocalAll}
 use Rattle.rma_call.specs.declared.epoch.EpochCall.TheVariants as epoch
+use Rattle.rma_window.specs.declared.part.Part.{Part}
 use Rattle.rma_window.specs.declared.window_id.WindowId.{WindowId}
-use Rattle.rma_window.specs.Windows.{number_of}
+use Rattle.rma_window.specs.Windows.{number_of, part_named}
 use Rattle.rma_window.specs.Windows as table
 
 -- the window of a call that opens, completes or closes an epoch
@@ -41,6 +42,11 @@ window_on _ = None
 -- the number of the window that a call is on, where it is one of the run
 abbrev pub number_on : List table.Window → What → Option WindowId
 number_on windows what = option_and_then (number_of windows) (window_on what)
+
+-- the part of the target of a call, where it is an access to a target that has a part of its window
+abbrev pub part_on : List table.Window → What → Option Part
+part_on windows (Rma call) = option_and_then (part_named windows call.window) call.target
+part_on windows _ = None
 
 -- whether a call is on the window of this name
 abbrev pub is_on : List ℕ → What → Bool

@@ -46,10 +46,11 @@ opening_in own _ = None
 -- ---- what a call closes
 
 -- the call that opened what a call closes, where this is open on its window: a fence closes the phase, a complete the start,
--- an unlock the lock of its target, and an unlockall the lockall
+-- an unlock the lock of its target, an unlockall the lockall, and an expwait the post
 abbrev pub closed_by : Open → What → Option ℕ
 closed_by own (Sync (sync.Epoch (epoch.Fence window assertions))) = option_map (λ phase. phase.opener) own.phase
 closed_by own (Sync (sync.Epoch (epoch.Complete window))) = option_map (λ start. start.opener) own.start
 closed_by own (Sync (sync.Epoch (epoch.Unlock window target))) = option_map (λ lock. lock.opener) (own.lock_on target.0)
 closed_by own (Sync (sync.Epoch (epoch.UnlockAll window))) = own.lock_all
+closed_by own (Sync (sync.Epoch (epoch.Expwait window))) = own.post
 closed_by own _ = None

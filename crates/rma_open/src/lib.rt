@@ -6,8 +6,8 @@
 //! in which an access stands, and the call that opened what it closes. [`window_on`] tells the window that a call is on.
 //!
 //! A call takes constant work, whatever is open and however many runs it touches, but for the ranks of its own group. So does
-//! each question. No name and no part is looked up: what no other call changes is [`Settled`] before a call comes, by one look-up
-//! of each part that it asks for.
+//! each question. No name and no part is looked up: what no other call changes is [`Settled`] before a call comes, and the part of
+//! an access is looked up once, by [`part_on`].
 #![tactic(auto)]
 
 mod call;
@@ -19,6 +19,7 @@ mod reason;
 mod settled;
 
 pub use call::window_on;
+pub use member::part_on;
 pub use open_epochs::OpenEpochs;
 pub use opening::{EpochKind, FencePhase, HeldLock, OpenStart, Opening};
 pub use settled::Settled;

@@ -6,19 +6,33 @@ ghost use Rattle.rma_call.specs.Rma.{access_of};
 ghost use Rattle.rma_call.specs.declared.what.What.TheVariants.{Sync};
 ghost use Rattle.rma_call.specs.declared.what.SyncCall.TheVariants.{Epoch};
 ghost use Rattle.rma_window.specs.Windows.{number_of, part_named, part_of};
-ghost use Rattle.rma_open.specs.Calls.{window_in};
+ghost use Rattle.rma_call.specs.Call.{what_of};
+ghost use Rattle.rma_open.specs.Calls.{number_on, part_on, window_in};
 ghost use Rattle.rma_open.specs.Reason.{lacks_part, not_member};
 
 use rma_base::Rank;
-use rma_call::{EpochCall, RmaRef};
+use rma_call::{EpochCall, RmaRef, WhatRef};
 use rma_window::{Part, WindowId, Windows};
 
-/// The part of the target of an access, where it has a target and that has a part of the window, which has this number.
-pub(crate) fn target_part(
-    windows: &Windows,
-    window: Option<WindowId>,
-    access: RmaRef<'_>,
-) -> Option<Part>
+/// The part of the target of a call that does this, where it is an access to a target that has a part of its window. The window
+/// has this number among those of the run, if it is one of them.
+pub fn part_on(windows: &Windows, window: Option<WindowId>, what: WhatRef<'_>) -> Option<Part>
+    requires { window ≡ number_on windows.now (what_of what) }
+    ensures { result ≡ part_on windows.now (what_of what.entry) }
+{
+    match what {
+        WhatRef::Rma(access) => target_part(windows, window, access),
+        WhatRef::Epoch(_) => None,
+        WhatRef::Window(_) => None,
+        WhatRef::Frame(_) => None,
+        WhatRef::Message(_) => None,
+        WhatRef::Moving(_) => None,
+        WhatRef::Local(_) => None,
+    }
+}
+
+/// The same of an access.
+fn target_part(windows: &Windows, window: Option<WindowId>, access: RmaRef<'_>) -> Option<Part>
     requires { window ≡ number_of windows.now (access_of access).window }
     ensures { result ≡ option_and_then (part_named windows.now (access_of access.entry).window) (access_of access.entry).target }
 {

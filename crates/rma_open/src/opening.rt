@@ -33,7 +33,7 @@ pub struct FencePhase {
     pub used: bool,
 }
 
-/// The kind of an epoch that reaches targets.
+/// The kind of an epoch.
 #[derive(Clone, Copy, Debug, PartialEq, Eq)]
 pub enum EpochKind {
     /// The phase of a fence.
@@ -47,6 +47,8 @@ pub enum EpochKind {
     },
     /// The shared lock of all targets.
     LockAll,
+    /// The exposure epoch of a post, which reaches no target.
+    Post,
 }
 
 /// An epoch that reaches a target.

@@ -1,15 +1,15 @@
 //! What of a call on a window is settled, whatever is open there.
-ghost use Rattle.std.specs.Prelude.{◌≡◌, false};
+ghost use Rattle.std.specs.Prelude.{◌≡◌, List, false};
 ghost use Rattle.std.specs.Option.{option_map_or};
 ghost use Rattle.rma_call.specs.Rma.{access_of};
 ghost use Rattle.rma_call.specs.Call.{what_of};
 ghost use Rattle.rma_call.specs.declared.what.What.TheVariants.{Rma};
-ghost use Rattle.rma_window.specs.Windows.{number_of};
-ghost use Rattle.rma_open.specs.Calls.{number_on};
+ghost use Rattle.rma_window.specs.Windows.{Window};
+ghost use Rattle.rma_open.specs.Calls.{number_on, part_on};
 ghost use Rattle.rma_open.specs.Range.{touches_outside};
 ghost use Rattle.rma_open.specs.inside.Settled.{settled_by};
 
-use crate::member::{names_stranger, target_part};
+use crate::member::names_stranger;
 use crate::range::touches_outside;
 use rma_call::{RmaRef, WhatRef};
 use rma_window::{Part, WindowId, Windows};
@@ -24,13 +24,20 @@ pub struct Settled {
 }
 
 impl Settled {
-    /// What is settled of a call that does this, on the window of this number among those of the run, if it is one of them.
-    pub fn of(windows: &Windows, window: Option<WindowId>, what: WhatRef<'_>) -> Settled
-        requires { window ≡ number_on windows.now (what_of what) }
+    /// What is settled of a call that does this, on the window of this number among those of the run, if it is one of them, and
+    /// to a target with this part of it.
+    pub fn of(
+        windows: &Windows,
+        window: Option<WindowId>,
+        part: Option<Part>,
+        what: WhatRef<'_>,
+    ) -> Settled
+        requires window { window ≡ number_on windows.now (what_of what) }
+        requires part { part ≡ part_on windows.now (what_of what) }
         ensures { result ≡ settled_by windows.now (what_of what.entry) }
     {
         match what {
-            WhatRef::Rma(access) => Settled::of_access(windows, window, access),
+            WhatRef::Rma(access) => Settled::of_access(part, access),
             WhatRef::Epoch(call) => Settled {
                 not_member: names_stranger(windows, window, call),
                 outside_window: false,
@@ -42,12 +49,10 @@ impl Settled {
         }
     }
 
-    /// The same of an access to a target.
-    fn of_access(windows: &Windows, window: Option<WindowId>, access: RmaRef<'_>) -> Settled
-        requires { window ≡ number_of windows.now (access_of access).window }
-        ensures { result ≡ settled_by windows.now (Rma (access_of access.entry)) }
+    /// The same of an access, to a target with this part.
+    fn of_access(part: Option<Part>, access: RmaRef<'_>) -> Settled
+        ensures { (windows : List Window) → part ≡ part_on windows (Rma (access_of access.entry)) → result ≡ settled_by windows (Rma (access_of access.entry)) }
     {
-        let part = target_part(windows, window, access);
         let lacks_part = part.is_none();
         Settled {
             not_member: access.target().is_some() && lacks_part,

@@ -10,8 +10,10 @@ use Rattle.rma_window.specs.Windows.{Window}
 use Rattle.rma_open.specs.declared.open_epochs.OpenEpochs.{OpenEpochs}
 use Rattle.rma_epoch.specs.declared.open_windows.OpenWindows.{OpenWindows}
 use Rattle.rma_epoch.specs.declared.open_windows.Place.{Place}
+use Rattle.rma_epoch.specs.declared.open_windows.Spot.{Spot}
+use Rattle.rma_epoch.specs.declared.open_windows.Step.{Step}
 use Rattle.rma_epoch.specs.declared.placements.Placement.{Placement}
-use Rattle.rma_open.specs.Calls.{window_on}
+use Rattle.rma_open.specs.Calls.{number_on, window_on}
 use Rattle.rma_open.specs.Open.{Open, open_after, open_on}
 use Rattle.rma_open.specs.Reason.{reason_at}
 use Rattle.rma_open.specs.Reaching.{closed_by, opening_in}
@@ -31,12 +33,18 @@ pub record IsOpenAfter (calls : List Call) (own : OpenWindows) : Type 0 where
 abbrev pub names_in : OpenWindows → List (List ℕ)
 names_in own = keys_of own.windows.entries
 
--- a place is that of the window which calls are on that do this, with what is settled of them and what they do, and there is none where they are on no window
+-- a window is found there which calls are on that do this, under its number, and none where they are on no window
+abbrev pub IsSpotOf : List Window → List (List ℕ) → What → Option Spot → Type 0
+IsSpotOf windows names what None = window_on what ≡ None
+IsSpotOf windows names what (Some spot) = (name : List ℕ) × (slice_get names spot.index ≡ Some name) × (window_on what ≡ Some name) × (spot.window ≡ number_on windows what)
+
+-- a place is that of the window which calls are on that do this, with its number, what is settled of them and what they do, and there is none where they are on no window
 abbrev pub IsPlaceOf : List Window → List (List ℕ) → What → Option Place → Type 0
 IsPlaceOf windows names what None = window_on what ≡ None
 IsPlaceOf windows names what (Some place) = (name : List ℕ) × (slice_get names place.index ≡ Some name) × (window_on what ≡ Some name)
     × (place.settled ≡ settled_by windows what)
     × (what_of place.what ≡ what)
+    × (place.window ≡ number_on windows what)
 
 -- the places are those of what calls do, by number
 abbrev pub ArePlaces : List Window → List (List ℕ) → List What → List (Option Place) → Type 0
@@ -47,11 +55,6 @@ ArePlaces windows names whats places =
 abbrev pub StayThere : List (List ℕ) → List (List ℕ) → Type 0
 StayThere old new = (place : ℕ) (name : List ℕ) → slice_get old place ≡ Some name → slice_get new place ≡ Some name
 
--- a call has come after these calls: the reason is its own, and what is kept is what they leave open and it, unless it has a reason
-pub record IsTaken (windows : List Window) (calls : List Call) (call : Call) (reason : Option EpochReason) (new : List (List ℕ × OpenEpochs)) : Type 0 where
-  pub reason_is : reason ≡ reason_at windows calls call
-  pub windows_are : (window : List ℕ) → kept new window ≡ open_on (taken_with reason call calls) window
-
 -- in which epoch a call on a window stands and what it closes, where this is open there
 abbrev pub placed_in : Open → What → Placement
 placed_in own what = record { opening = opening_in own what; closes = closed_by own what }
@@ -59,3 +62,10 @@ placed_in own what = record { opening = opening_in own what; closes = closed_by 
 -- the same of a call after these calls
 abbrev pub placed_at : List Call → Call → Placement
 placed_at calls call = record { opening = opening_at calls call; closes = closed_at calls call }
+
+-- a call has come after these calls: the reason is its own, what is kept is what they leave open and it, unless it has a reason, and
+-- it stands in this epoch and closes this one
+pub record IsTaken (windows : List Window) (calls : List Call) (call : Call) (step : Step) (new : List (List ℕ × OpenEpochs)) : Type 0 where
+  pub reason_is : step.reason ≡ reason_at windows calls call
+  pub windows_are : (window : List ℕ) → kept new window ≡ open_on (taken_with step.reason call calls) window
+  pub placement_is : step.placement ≡ placed_at calls call
