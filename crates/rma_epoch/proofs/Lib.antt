@@ -1,7 +1,6 @@
 pub mod LiveLemmas
-
-
+pub mod PlaceLemmas
 pub mod WindowlessLemmas
-
+pub mod SoundLemmas
 pub mod ApartLemmas
-
+pub mod PartLemmas

@@ -142,9 +142,9 @@ pub IfOk_map : {T E : Type 0} {P Q : T → Type 0} (r : Result T E) → ((x : T)
 IfOk_map (Ok x) f p = f x p
 IfOk_map (Err e) f p = tt
 
-pub IfOk_both : {T E : Type 0} {P Q R : T → Type 0} (r : Result T E) → ((x : T) → P x → Q x → R x) → IfOk r P → IfOk r Q → IfOk r R
-IfOk_both (Ok x) f p q = f x p q
-IfOk_both (Err e) f p q = tt
+pub IfOk_all : {T E : Type 0} {P Q R S : T → Type 0} (r : Result T E) → ((x : T) → P x → Q x → R x → S x) → IfOk r P → IfOk r Q → IfOk r R → IfOk r S
+IfOk_all (Ok x) f p q s = f x p q s
+IfOk_all (Err e) f p q s = tt
 
 pub OnOk_always : {T E B : Type 0} (r : Result T E) → B → OnOk r B
 OnOk_always (Ok x) b = b

@@ -14,7 +14,7 @@ ghost use Rattle.rma_open.specs.declared.open_epochs.OpenEpochs.{OpenEpochs};
 ghost use Rattle.rma_open.specs.inside.Held.{open_of};
 ghost use Rattle.rma_open.specs.inside.Next.{past_with};
 ghost use Rattle.rma_open.specs.inside.Settled.{settled_by};
-ghost use Rattle.rma_epoch.specs.inside.Parts.{AreEntries};
+ghost use Rattle.rma_epoch.specs.inside.Parts.{AreEntries, AreRemembered};
 ghost use Rattle.rma_epoch.specs.inside.Windows.{ArePlaces, IsOpenAfter, IsPlaceOf, IsSpotOf, IsTaken, kept, names_in, placed_in, StayThere};
 
 use crate::parts::Parts;
@@ -125,12 +125,13 @@ impl OpenWindows {
         parts: &mut Parts,
         calls: &'a CallList,
     ) -> Result<Vec<Option<Place<'a>>>, Memory>
-        requires { parts.old.entries.items ≡ [] }
+        requires nothing { parts.old.entries.items ≡ [] }
+        requires remembered { AreRemembered windows.now parts.old.parts.entries }
         ensures len { IfOk result (λ places. length places.items ≡ length calls.now.whats) }
-        ensures places { IfOk result (λ places. AreEntries windows.now calls.now.whats parts.old → ArePlaces windows.now (names_in self.new) calls.now.whats places.items) }
+        ensures places { IfOk result (λ places. ArePlaces windows.now (names_in self.new) calls.now.whats places.items) }
         ensures same { OnOk result ((before : List Call) → IsOpenAfter before self.old → IsOpenAfter before self.new) }
         ensures parts_len { OnOk result (length parts.new.entries.items ≡ length calls.now.whats) }
-        ensures parts { OnOk result (AreEntries windows.now calls.now.whats parts.old → AreEntries windows.now calls.now.whats parts.new) }
+        ensures parts { OnOk result (AreEntries windows.now calls.now.whats parts.new) }
     {
         let mut places = Vec::new(self.alloc);
         for number in 0..calls.whats() {
@@ -147,7 +148,9 @@ impl OpenWindows {
         parts: &mut Parts,
         what: WhatRef<'a>,
     ) -> Result<Option<Place<'a>>, Memory>
-        ensures place { IfOk result (λ place. (whats : List What) → AreEntries windows.now whats parts.old → IsPlaceOf windows.now (names_in self.new) (what_of what.entry) place) }
+        requires { AreRemembered windows.now parts.old.parts.entries }
+        ensures place { IfOk result (IsPlaceOf windows.now (names_in self.new) (what_of what.entry)) }
+        ensures remembered { OnOk result (AreRemembered windows.now parts.new.parts.entries) }
         ensures names { OnOk result (StayThere (names_in self.old) (names_in self.new)) }
         ensures same { OnOk result ((before : List Call) → IsOpenAfter before self.old → IsOpenAfter before self.new) }
         ensures len { OnOk result (length parts.new.entries.items ≡ length parts.old.entries.items + 1) }

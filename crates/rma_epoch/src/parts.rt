@@ -60,8 +60,10 @@ impl Parts {
         window: Option<WindowId>,
         what: WhatRef<'_>,
     ) -> Result<Option<Part>, Memory>
-        requires { window ≡ number_on windows.now (what_of what) }
-        ensures part { IfOk result (λ part. (whats : List What) → AreEntries windows.now whats self.old → part ≡ part_on windows.now (what_of what.entry)) }
+        requires window { window ≡ number_on windows.now (what_of what) }
+        requires remembered { AreRemembered windows.now self.old.parts.entries }
+        ensures part { IfOk result (λ part. part ≡ part_on windows.now (what_of what.entry)) }
+        ensures remembered { OnOk result (AreRemembered windows.now self.new.parts.entries) }
         ensures len { OnOk result (length self.new.entries.items ≡ length self.old.entries.items + 1) }
         ensures entries { OnOk result ((whats : List What) → slice_get whats (length self.old.entries.items) ≡ Some (what_of what.entry) → AreEntries windows.now whats self.old → AreEntries windows.now whats self.new) }
     {
@@ -102,10 +104,11 @@ fn part_of(
     window: Option<WindowId>,
     target: Option<Rank>,
 ) -> Result<FoundPart, Memory>
-    ensures part { IfOk result (λ found. AreRemembered windows.now parts.old.entries → found.part ≡ part_to windows.now window target) }
-    ensures index { IfOk result (λ found. AreRemembered windows.now parts.old.entries → IsPart parts.new.entries found.index (part_to windows.now window target)) }
+    requires { AreRemembered windows.now parts.old.entries }
+    ensures part { IfOk result (λ found. found.part ≡ part_to windows.now window target) }
+    ensures index { IfOk result (λ found. IsPart parts.new.entries found.index (part_to windows.now window target)) }
     ensures stay { OnOk result (StayIn parts.old.entries parts.new.entries) }
-    ensures remembered { OnOk result (AreRemembered windows.now parts.old.entries → AreRemembered windows.now parts.new.entries) }
+    ensures remembered { OnOk result (AreRemembered windows.now parts.new.entries) }
 {
     match (window, target) {
         (Some(window), Some(rank)) => part_at(parts, windows, PartKey { window, rank }),
@@ -119,10 +122,11 @@ fn part_at(
     windows: &Windows,
     key: PartKey,
 ) -> Result<FoundPart, Memory>
-    ensures part { IfOk result (λ found. AreRemembered windows.now parts.old.entries → found.part ≡ part_of windows.now key.window key.rank) }
-    ensures index { IfOk result (λ found. AreRemembered windows.now parts.old.entries → IsPart parts.new.entries found.index (part_of windows.now key.window key.rank)) }
+    requires { AreRemembered windows.now parts.old.entries }
+    ensures part { IfOk result (λ found. found.part ≡ part_of windows.now key.window key.rank) }
+    ensures index { IfOk result (λ found. IsPart parts.new.entries found.index (part_of windows.now key.window key.rank)) }
     ensures stay { OnOk result (StayIn parts.old.entries parts.new.entries) }
-    ensures remembered { OnOk result (AreRemembered windows.now parts.old.entries → AreRemembered windows.now parts.new.entries) }
+    ensures remembered { OnOk result (AreRemembered windows.now parts.new.entries) }
 {
     if let Some((index, _, part)) = parts.get_full(&key) {
         return found_at(index, *part);

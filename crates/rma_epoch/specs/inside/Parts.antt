@@ -1,5 +1,5 @@
 -- How what calls share that do the same is kept.
-use Rattle.std.specs.Prelude.{◌≡◌, ℕ, zero, suc, List, length, map, Option, Some, None, option_map, slice_get}
+use Rattle.std.specs.Prelude.{◌≡◌, ℕ, zero, suc, List, map, Option, Some, None, option_map, slice_get}
 use Rattle.std.specs.Option.{option_and_then}
 use Rattle.rma_base.specs.declared.rank.Rank.{Rank}
 use Rattle.rma_call.specs.declared.what.What.{What}
@@ -46,7 +46,6 @@ pub record IsEntry (windows : List Window) (parts : List (PartKey × Part)) (wha
 
 -- the entries that are kept are those of what calls do, by number
 pub record AreEntries (windows : List Window) (whats : List What) (kept : Parts) : Type 0 where
-  pub remembered : AreRemembered windows kept.parts.entries
   pub each : (number : ℕ) (what : What) (entry : Entry) → slice_get whats number ≡ Some what → slice_get kept.entries.items number ≡ Some entry → IsEntry windows kept.parts.entries what entry
 
 -- the target of a call that does this, where it is an access to one

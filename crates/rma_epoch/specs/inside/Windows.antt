@@ -3,7 +3,6 @@ use Rattle.std.specs.Prelude.{◌≡◌, ℕ, List, [], nat_eq, Option, Some, No
 use Rattle.std.specs.Map.{keys_of, lookup}
 use Rattle.std.specs.Option.{option_map_or}
 use Rattle.std.specs.Cmp.Lexicographic.{pointwise}
-use Rattle.rma_base.specs.declared.epoch_reason.EpochReason.{EpochReason}
 use Rattle.rma_call.specs.Call.{Call, what_of}
 use Rattle.rma_call.specs.declared.what.What.{What}
 use Rattle.rma_window.specs.Windows.{Window}
