@@ -4,3 +4,5 @@ pub mod WindowlessLemmas
 pub mod SoundLemmas
 pub mod ApartLemmas
 pub mod PartLemmas
+pub mod UpLemmas
+pub mod EpochLemmas

@@ -1,7 +1,6 @@
 -- What the epochs of a rank come to (MPI 4.0, "One-Sided Communications").
 use Rattle.std.specs.Prelude.{◌≡◌, ◌<◌, ◌⊎◌, ℕ, ◌+◌, List, [], ◌∷◌, length, map, take, Bool, false, Option, Some, None, is_some, option_map, slice_get}
 use Rattle.std.specs.List.{cons_option, filter_map}
-use Rattle.std.specs.List.Sorted.{IsStrictlyIncreasing}
 use Rattle.std.specs.Option.{option_map_or}
 use Rattle.rma_base.specs.declared.rank.Rank.{Rank}
 use Rattle.rma_call.specs.Call.{Call, RankCalls}
@@ -21,7 +20,7 @@ use Rattle.rma_epoch.specs.declared.epoch.Targets.TheVariants.{All, One, Group}
 use Rattle.rma_open.specs.Open.{open_on, is_exclusive}
 use Rattle.rma_open.specs.Reaching.{all_reaching}
 use Rattle.rma_epoch.specs.Fault.{fault_of}
-use Rattle.rma_epoch.specs.Table.{close_of, epoch_at, epochs_of, placed_of, sound_calls}
+use Rattle.rma_epoch.specs.Table.{Ascend, InOrder, close_of, epoch_at, epochs_of, placed_of, sound_calls}
 
 -- ---- sound calls
 
@@ -37,7 +36,7 @@ FaultComesNext windows own = (call : Call) → slice_get own.calls (length (soun
 
 -- the epochs ascend by the calls that open them, so two with one opener are the same
 abbrev pub EpochsAscend : List Window → List Call → Type 0
-EpochsAscend windows calls = IsStrictlyIncreasing (map (λ epoch. epoch.opener) (epochs_of windows calls))
+EpochsAscend windows calls = Ascend (epochs_of windows calls)
 
 -- a call that closes an epoch comes after the one that opens it
 abbrev pub CloseComesLater : List Window → List Call → Type 0
@@ -57,7 +56,7 @@ has_target _ = false
 
 -- the accesses that stand in an epoch ascend, so that each stands in one
 abbrev pub PlacedAscend : List Window → List Call → Type 0
-PlacedAscend windows calls = IsStrictlyIncreasing (map (λ placed. placed.call) (placed_of windows calls))
+PlacedAscend windows calls = InOrder (placed_of windows calls)
 
 -- a sound access to a target stands in an epoch, and no other call does
 abbrev pub AccessesHaveEpochs : List Window → List Call → Type 0

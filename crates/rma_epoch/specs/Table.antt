@@ -1,5 +1,5 @@
 -- The sound calls of a rank, its epochs, and those in which its accesses stand (MPI 4.0, "One-Sided Communications").
-use Rattle.std.specs.Prelude.{◌≡◌, ℕ, ◌+◌, ◌==◌, List, [], ◌∷◌, ◌++◌, length, map, find, position, Bool, false, Option, Some, None, is_none, option_map, slice_get, unwrap_or, if◌then◌else◌}
+use Rattle.std.specs.Prelude.{◌≡◌, ◌<◌, ℕ, ◌+◌, ◌==◌, List, [], ◌∷◌, ◌++◌, length, map, find, position, Bool, false, Option, Some, None, is_none, option_map, slice_get, unwrap_or, if◌then◌else◌}
 use Rattle.std.specs.List.{cons_option}
 use Rattle.std.specs.Option.{option_and_then, option_map_or, option_or}
 use Rattle.rma_base.specs.declared.epoch_reason.EpochReason.{EpochReason}
@@ -90,6 +90,10 @@ epoch_with close epoch = record epoch { close = close epoch.opener }
 abbrev pub epochs_of : List Window → List Call → List Epoch
 epochs_of windows calls = map (epoch_with (close_of calls)) (opened_from windows 0 calls)
 
+-- epochs ascend by the calls that open them: of two the later one has the later opener
+abbrev pub Ascend : List Epoch → Type 0
+Ascend epochs = (i j : ℕ) (a b : Epoch) → i < j → slice_get epochs i ≡ Some a → slice_get epochs j ≡ Some b → a.opener < b.opener
+
 -- whether the call of this number opens an epoch
 abbrev pub is_opened_by : ℕ → Epoch → Bool
 is_opened_by opener epoch = epoch.opener == opener
@@ -121,6 +125,10 @@ placed_from windows before (call ∷ calls) =
 -- those of these calls
 abbrev pub placed_of : List Window → List Call → List Placed
 placed_of windows calls = placed_from windows [] calls
+
+-- accesses ascend: of two the later one has the larger number
+abbrev pub InOrder : List Placed → Type 0
+InOrder placed = (i j : ℕ) (a b : Placed) → i < j → slice_get placed i ≡ Some a → slice_get placed j ≡ Some b → a.call < b.call
 
 -- whether it is the access of this number
 abbrev pub is_access : ℕ → Placed → Bool

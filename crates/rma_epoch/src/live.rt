@@ -5,9 +5,8 @@ ghost use Rattle.std.specs.Option.{option_and_then};
 ghost use Rattle.rma_call.specs.Call.{Call, call_of};
 ghost use Rattle.rma_window.specs.Windows.{Window};
 ghost use Rattle.rma_open.specs.Reason.{reason_at};
-ghost use Rattle.rma_epoch.specs.Table.{epoch_at, epochs_of, placed_of, taken_with};
+ghost use Rattle.rma_epoch.specs.Table.{InOrder, epoch_at, epochs_of, placed_of, taken_with};
 ghost use Rattle.rma_epoch.specs.Fault.{leaves_open};
-ghost use Rattle.rma_epoch.specs.inside.Epochs.{InOrder};
 ghost use Rattle.rma_epoch.specs.inside.Live.{HasEpochs, Represents, taken_of};
 ghost use Rattle.rma_epoch.specs.inside.Windows.{IsOpenAfter, IsPlaceOf, names_in};
 

@@ -3,8 +3,8 @@ ghost use Rattle.std.specs.Prelude.{◌≡◌, ◌++◌, [], map, IfOk, OnOk, tr
 ghost use Rattle.std.specs.List.{cons_option};
 ghost use Rattle.std.specs.Option.{option_and_then, option_map_or};
 ghost use Rattle.rma_call.specs.Call.{what_of};
-ghost use Rattle.rma_epoch.specs.Table.{epoch_at, index_in, is_opened_by, opened_on};
-ghost use Rattle.rma_epoch.specs.inside.Epochs.{Ascend, InOrder, closed_with, epochs_with, index_of_opening, placed_with};
+ghost use Rattle.rma_epoch.specs.Table.{Ascend, InOrder, epoch_at, index_in, is_opened_by, opened_on};
+ghost use Rattle.rma_epoch.specs.inside.Epochs.{closed_with, epochs_with, index_of_opening, placed_with};
 
 use crate::epoch::{Epoch, Placed};
 use crate::opened::opened;

@@ -1,7 +1,6 @@
 //! The epochs of the sound calls of a rank.
 ghost use Rattle.std.specs.Prelude.{◌≡◌, ◌∷◌, [], None};
-ghost use Rattle.rma_epoch.specs.Table.{epoch_at};
-ghost use Rattle.rma_epoch.specs.inside.Epochs.{InOrder};
+ghost use Rattle.rma_epoch.specs.Table.{InOrder, epoch_at};
 
 use crate::epoch::{Epoch, Placed};
 use crate::fault::EpochFault;
@@ -21,11 +20,9 @@ pub struct EpochTable {
 }
 
 impl Model for EpochTable {
-    ghost use Rattle.rma_epoch.specs.Table.{Epochs};
+    ghost use Rattle.rma_epoch.specs.Table.{Epochs, InOrder};
 
     ghost Value = { Epochs };
-
-    ghost use Rattle.rma_epoch.specs.inside.Epochs.{InOrder};
 
     ghost view = { λ table. record { sound = table.sound; epochs = table.placements.epochs.items; placed = table.placements.placed.items; parts = table.parts } };
 

@@ -1,23 +1,13 @@
 -- How the epochs of a rank are kept.
-use Rattle.std.specs.Prelude.{◌≡◌, ◌<◌, ℕ, ◌+◌, List, [], ◌++◌, map, Option, Some, option_map, if◌then◌else◌}
+use Rattle.std.specs.Prelude.{ℕ, List, [], ◌++◌, map, Option, Some, option_map, if◌then◌else◌}
 use Rattle.std.specs.List.{cons_option}
-use Rattle.std.specs.List.Sorted.{IsStrictlyIncreasing}
 use Rattle.std.specs.Option.{option_and_then}
 use Rattle.rma_call.specs.declared.what.What.{What}
 use Rattle.rma_window.specs.declared.window_id.WindowId.{WindowId}
 use Rattle.rma_epoch.specs.declared.epoch.Epoch.{Epoch}
 use Rattle.rma_epoch.specs.declared.epoch.Placed.{Placed}
 use Rattle.rma_epoch.specs.declared.placements.Placement.{Placement}
-use Rattle.rma_epoch.specs.declared.placements.Placements.{Placements}
 use Rattle.rma_epoch.specs.Table.{index_in, is_opener, opened_on}
-
--- epochs ascend by the calls that open them
-abbrev pub Ascend : List Epoch → Type 0
-Ascend epochs = IsStrictlyIncreasing (map (λ epoch. epoch.opener) epochs)
-
--- accesses ascend
-abbrev pub InOrder : List Placed → Type 0
-InOrder placed = IsStrictlyIncreasing (map (λ p. p.call) placed)
 
 -- an epoch after the call of a number, which closes what this call opened
 abbrev pub closed_with : Option ℕ → ℕ → Epoch → Epoch
