@@ -6,3 +6,6 @@ pub mod ApartLemmas
 pub mod PartLemmas
 pub mod UpLemmas
 pub mod EpochLemmas
+pub mod PastLemmas
+pub mod OpenerLemmas
+pub mod TableLemmas
