@@ -9,3 +9,4 @@ pub mod EpochLemmas
 pub mod PastLemmas
 pub mod OpenerLemmas
 pub mod TableLemmas
+pub mod StepLemmas
