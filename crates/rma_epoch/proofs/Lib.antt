@@ -10,3 +10,4 @@ pub mod PastLemmas
 pub mod OpenerLemmas
 pub mod TableLemmas
 pub mod StepLemmas
+pub mod CloseLemmas
