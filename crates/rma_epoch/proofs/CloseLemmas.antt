@@ -27,7 +27,7 @@ opener_is opener (Some n) is = ap Some (eqb-true n opener is)
 
 pub closes_from : (opener : ℕ) (before calls : List Call) (close : ℕ) → close_from opener before calls ≡ Some close → IsClose opener before calls close
 closes_from opener before [] close is = absurd (none-some close is)
-closes_from opener before (x ∷ xs) close is = by (close_from opener (before ++ x ∷ []) xs) refl is
+closes_from opener before (x ∷ xs) close is = by (close_from opener (before ++ x ∷ []) xs) refl is (λ found. closes_from opener (before ++ x ∷ []) xs close found)
   where
     last : (b : Bool) → is_opener opener (closed_at before x) ≡ b → cond b (Some (length before)) None ≡ Some close → IsClose opener before (x ∷ xs) close
     last true same found = record {
@@ -39,10 +39,11 @@ closes_from opener before (x ∷ xs) close is = by (close_from opener (before ++
     }
     last false other found = absurd (none-some close found)
 
-    by : (o : Option ℕ) → close_from opener (before ++ x ∷ []) xs ≡ o → option_or o (cond (is_opener opener (closed_at before x)) (Some (length before)) None) ≡ Some close → IsClose opener before (x ∷ xs) close
-    by None rest found = last (is_opener opener (closed_at before x)) refl found
-    by (Some c) rest found =
-        let later = closes_from opener (before ++ x ∷ []) xs close (rest ∙ found) in
+    by : (o : Option ℕ) → close_from opener (before ++ x ∷ []) xs ≡ o → option_or o (cond (is_opener opener (closed_at before x)) (Some (length before)) None) ≡ Some close
+        → (close_from opener (before ++ x ∷ []) xs ≡ Some close → IsClose opener (before ++ x ∷ []) xs close) → IsClose opener before (x ∷ xs) close
+    by None rest found next = last (is_opener opener (closed_at before x)) refl found
+    by (Some c) rest found next =
+        let later = next (rest ∙ found) in
         record {
           place = suc later.place;
           call = later.call;

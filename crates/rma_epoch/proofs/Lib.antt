@@ -11,3 +11,5 @@ pub mod OpenerLemmas
 pub mod TableLemmas
 pub mod StepLemmas
 pub mod CloseLemmas
+pub mod OneLemmas
+pub mod LockLemmas

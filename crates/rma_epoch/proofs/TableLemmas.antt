@@ -214,7 +214,7 @@ placed_more windows before (x ∷ xs) call =
 pub placed_push : (windows : List Window) (calls : List Call) (call : Call) → placed_with (length calls) (index_at windows calls call) (placed_of windows calls) ≡ placed_of windows (calls ++ call ∷ [])
 placed_push windows calls call = sym (placed_more windows [] calls call)
 
-placed_above : (windows : List Window) (before calls : List Call) (i : ℕ) (p : Placed) → slice_get (placed_from windows before calls) i ≡ Some p → length before ≤ p.call
+pub placed_above : (windows : List Window) (before calls : List Call) (i : ℕ) (p : Placed) → slice_get (placed_from windows before calls) i ≡ Some p → length before ≤ p.call
 placed_above windows before [] i p at = absurd (none-some p at)
 placed_above windows before (x ∷ xs) i p at = by (index_at windows before x) i at (λ k there. placed_above windows (before ++ x ∷ []) xs k p there)
   where
