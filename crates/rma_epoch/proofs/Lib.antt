@@ -13,3 +13,4 @@ pub mod StepLemmas
 pub mod CloseLemmas
 pub mod OneLemmas
 pub mod LockLemmas
+pub mod WithinLemmas

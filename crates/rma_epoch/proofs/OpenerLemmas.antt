@@ -40,7 +40,7 @@ pub record IsOpener (window : List ℕ) (calls : List Call) (kind : EpochKind) (
 
 -- ---- what a call says that opens something
 
-start_says : (n : ℕ) (what : What) (s : OpenStart) → of_start n what ≡ Some (Some s) → (s.opener ≡ n) × Opens kind.Start n what
+pub start_says : (n : ℕ) (what : What) (s : OpenStart) → of_start n what ≡ Some (Some s) → (s.opener ≡ n) × Opens kind.Start n what
 start_says n (Sync (Epoch (Start w group assertions))) s said = (let same : record { opener = n; targets = group } ≡ s = cc in ap (λ (s : OpenStart). s.opener) (sym same), (targets.Group group, λ id. refl))
 start_says n (Sync (Epoch (Complete w))) s said = absurd (let no : ⊥ = cc in no)
 start_says n _ s said = absurd (none-some (Some s) said)
@@ -50,12 +50,12 @@ post_says n (Sync (Epoch (Post w group assertions))) m said = (let same : n ≡ 
 post_says n (Sync (Epoch (Expwait w))) m said = absurd (let no : ⊥ = cc in no)
 post_says n _ m said = absurd (none-some (Some m) said)
 
-all_says : (n : ℕ) (what : What) (m : ℕ) → of_lock_all n what ≡ Some (Some m) → (m ≡ n) × Opens kind.LockAll n what
+pub all_says : (n : ℕ) (what : What) (m : ℕ) → of_lock_all n what ≡ Some (Some m) → (m ≡ n) × Opens kind.LockAll n what
 all_says n (Sync (Epoch (LockAll w assertions))) m said = (let same : n ≡ m = cc in sym same, (targets.All, λ id. refl))
 all_says n (Sync (Epoch (UnlockAll w))) m said = absurd (let no : ⊥ = cc in no)
 all_says n _ m said = absurd (none-some (Some m) said)
 
-fence_says : (n : ℕ) (what : What) (m : ℕ) → of_fence n what ≡ Some (Some m) → (m ≡ n) × Opens kind.Fence n what
+pub fence_says : (n : ℕ) (what : What) (m : ℕ) → of_fence n what ≡ Some (Some m) → (m ≡ n) × Opens kind.Fence n what
 fence_says n (Sync (Epoch (Fence w assertions))) m said = by assertions.nosucceed refl said
   where
     by : (b : Bool) → assertions.nosucceed ≡ b → Some (cond b None (Some n)) ≡ Some (Some m) → (m ≡ n) × Opens kind.Fence n (Sync (Epoch (Fence w assertions)))
@@ -63,7 +63,7 @@ fence_says n (Sync (Epoch (Fence w assertions))) m said = by assertions.nosuccee
     by false is said = (let same : n ≡ m = cc in sym same, (targets.All, λ id. rw is refl))
 fence_says n _ m said = absurd (none-some (Some m) said)
 
-lock_says : (t n : ℕ) (what : What) (l : HeldLock) → of_lock t n what ≡ Some (Some l) → (l.opener ≡ n) × Opens (kind.Lock l.exclusive) n what
+pub lock_says : (t n : ℕ) (what : What) (l : HeldLock) → of_lock t n what ≡ Some (Some l) → (l.opener ≡ n) × Opens (kind.Lock l.exclusive) n what
 lock_says t n (Sync (Epoch (Lock w own lock assertions))) l said = by (nat_eq own.0 t) said
   where
     by : (b : Bool) → cond b (Some (Some (record { opener = n; exclusive = is_exclusive lock }))) None ≡ Some (Some l) → (l.opener ≡ n) × Opens (kind.Lock l.exclusive) n (Sync (Epoch (Lock w own lock assertions)))
