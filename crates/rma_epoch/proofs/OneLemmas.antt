@@ -1,5 +1,5 @@
 -- The one epoch that reaches the target of a sound access, and stands in the list.
-use Rattle.std.proofs.Common.{◌≡◌, ◌≢◌, ℕ, zero, suc, ◌+◌, ◌<◌, ◌≤◌, Bool, true, false, cond, not, ◌||◌, ◌∷◌, ◌++◌, List, [], length, length-append, map, take, eqb, nat_eq, Option, Some, None, slice_get, inl, inr, refl, sym, ap, subst, ◌∙◌, arith, append_assoc}
+use Rattle.std.proofs.Common.{◌≡◌, ℕ, zero, suc, ◌+◌, Bool, true, false, cond, not, ◌||◌, ◌∷◌, ◌++◌, List, [], length, length-append, take, eqb, nat_eq, Option, Some, None, slice_get, inl, inr, refl, sym, ap, subst, ◌∙◌, arith, append_assoc}
 use Rattle.std.proofs.lemmas.Bool.{true≢false, false≢true}
 use Rattle.std.proofs.lemmas.Bool.Decides.{nat_tests}
 use Rattle.std.proofs.lemmas.List.{append-nil}
@@ -16,7 +16,7 @@ use Rattle.rma_call.specs.declared.rma.RmaCall.{RmaCall}
 use Rattle.rma_call.specs.declared.what.What.{What}
 use Rattle.rma_call.specs.declared.what.What.TheVariants.{Sync, Rma, Local}
 use Rattle.rma_window.specs.declared.window_id.WindowId.{WindowId}
-use Rattle.rma_window.specs.Windows.{Window, number_of, part_named, part_of}
+use Rattle.rma_window.specs.Windows.{Window, number_of, part_of}
 use Rattle.rma_open.specs.declared.opening.FencePhase.{FencePhase}
 use Rattle.rma_open.specs.declared.opening.HeldLock.{HeldLock}
 use Rattle.rma_open.specs.declared.opening.OpenStart.{OpenStart}

@@ -1,15 +1,11 @@
 -- The calls that opened what is open on a window.
-use Rattle.std.proofs.Common.{◌≡◌, ◌≢◌, ℕ, zero, suc, ◌+◌, ◌<◌, ◌≤◌, Bool, true, false, cond, ◌⊎◌, inl, inr, List, [], ◌∷◌, ◌++◌, length, eqb, eqb-true, nat_eq, nat_lt, Option, Some, None, slice_get, refl, sym, ap, subst, ◌∙◌, arith}
-use Rattle.std.specs.Prelude.{is_some, option_map, unwrap_or}
-use Rattle.std.specs.Option.{option_and_then, option_map_or, option_or}
-use Rattle.std.proofs.lemmas.Bool.{false≢true, true≢false}
-use Rattle.std.proofs.lemmas.Bool.Decides.{nat_tests}
-use Rattle.std.proofs.lemmas.Option.{none-some, slice_get_within}
-use Rattle.rma_base.specs.RankSet.{has_number}
-use Rattle.rma_base.specs.declared.rank.Rank.{Rank}
+use Rattle.std.proofs.Common.{◌≡◌, ℕ, Bool, true, false, cond, List, nat_eq, Option, Some, None, slice_get, refl, sym, ap, subst, ◌∙◌}
+use Rattle.std.specs.Prelude.{option_map}
+use Rattle.std.specs.Option.{option_and_then}
+use Rattle.std.proofs.lemmas.Option.{none-some}
 use Rattle.rma_call.specs.Call.{Call}
 use Rattle.rma_call.specs.declared.what.What.{What}
-use Rattle.rma_call.specs.declared.what.What.TheVariants.{Sync, Rma}
+use Rattle.rma_call.specs.declared.what.What.TheVariants.{Sync}
 use Rattle.rma_call.specs.declared.what.SyncCall.TheVariants.{Epoch}
 use Rattle.rma_call.specs.declared.epoch.EpochCall.TheVariants.{Fence, Post, Start, Complete, Expwait, Lock, Unlock, LockAll, UnlockAll}
 use Rattle.rma_window.specs.declared.window_id.WindowId.{WindowId}
@@ -18,14 +14,13 @@ use Rattle.rma_open.specs.declared.opening.EpochKind.TheVariants as kind
 use Rattle.rma_open.specs.declared.opening.FencePhase.{FencePhase}
 use Rattle.rma_open.specs.declared.opening.HeldLock.{HeldLock}
 use Rattle.rma_open.specs.declared.opening.OpenStart.{OpenStart}
-use Rattle.rma_open.specs.declared.opening.Opening.{Opening}
 use Rattle.rma_open.specs.Calls.{is_on, past_on}
 use Rattle.rma_open.specs.Open.{first_use, is_exclusive, left_by, of_fence, of_lock, of_lock_all, of_post, of_start, open_on, phase_of}
-use Rattle.rma_open.specs.Reaching.{by_phase, by_start, closed_by, reaching}
+use Rattle.rma_open.specs.Reaching.{closed_by}
 use Rattle.rma_epoch.specs.declared.epoch.Targets.{Targets}
 use Rattle.rma_epoch.specs.declared.epoch.Targets.TheVariants as targets
 use Rattle.rma_epoch.specs.Table.{opened_on}
-use Rattle.rma_epoch.proofs.PastLemmas.{ArePast, IsLatest, are_past, latest}
+use Rattle.rma_epoch.proofs.PastLemmas.{are_past, latest}
 
 -- the call of a number opens an epoch of this kind
 abbrev pub Opens : EpochKind → ℕ → What → Type 0

@@ -1,5 +1,5 @@
 -- What is kept after one more call.
-use Rattle.std.proofs.Common.{◌≡◌, ℕ, true, false, cond, ◌∷◌, ◌++◌, List, [], length, Option, Some, None, refl, sym, ap, ◌∙◌}
+use Rattle.std.proofs.Common.{◌≡◌, ℕ, true, cond, ◌∷◌, ◌++◌, List, [], length, Option, Some, None, sym, ap, ◌∙◌}
 use Rattle.std.specs.Prelude.{is_none, is_some}
 use Rattle.std.specs.Option.{option_and_then}
 use Rattle.std.proofs.lemmas.Bool.{false≢true}

@@ -1,12 +1,11 @@
 -- The epochs of one more call.
-use Rattle.std.proofs.Common.{◌≡◌, ◌≢◌, ℕ, zero, suc, ◌+◌, ◌<◌, ◌≤◌, Bool, true, false, cond, ◌∷◌, ◌++◌, List, [], length, length-append, map, take, eqb, Option, Some, None, slice_get, refl, sym, ap, subst, ◌∙◌, arith, append_assoc}
+use Rattle.std.proofs.Common.{◌≡◌, ℕ, zero, suc, ◌+◌, ◌<◌, ◌≤◌, Bool, true, false, cond, ◌∷◌, ◌++◌, List, [], length, length-append, map, Option, Some, None, slice_get, refl, sym, ap, ◌∙◌, arith, append_assoc}
 use Rattle.std.specs.Prelude.{option_map}
 use Rattle.std.specs.List.{cons_option}
-use Rattle.std.specs.Option.{option_and_then, option_map_or, option_or}
-use Rattle.std.proofs.lemmas.Bool.{false≢true}
+use Rattle.std.specs.Option.{option_and_then, option_or}
 use Rattle.std.proofs.lemmas.Bool.Decides.{nat_tests}
 use Rattle.std.proofs.lemmas.List.{append-nil, map-append}
-use Rattle.std.proofs.lemmas.Option.{none-some, slice_get_within, slice_get-map}
+use Rattle.std.proofs.lemmas.Option.{none-some, slice_get_within}
 use Rattle.rma_call.specs.Call.{Call}
 use Rattle.rma_call.specs.declared.what.What.{What}
 use Rattle.rma_call.specs.declared.what.What.TheVariants.{Sync}
@@ -24,7 +23,6 @@ use Rattle.rma_epoch.specs.declared.epoch.Placed.{Placed}
 use Rattle.rma_epoch.specs.Table.{Ascend, InOrder, close_from, close_of, closed_at, epoch_with, epochs_of, index_at, is_opener, opened_by, opened_from, opened_on, placed_from, placed_of}
 use Rattle.rma_epoch.specs.inside.Epochs.{closed_with, epochs_with, placed_with}
 use Rattle.rma_epoch.proofs.OpenerLemmas.{closed_opener}
-use Rattle.rma_epoch.proofs.PlaceLemmas.{in_push}
 
 -- an element before some of two lists
 cons_append : {X : Type 0} (o : Option X) (xs ys : List X) → cons_option o (xs ++ ys) ≡ cons_option o xs ++ ys

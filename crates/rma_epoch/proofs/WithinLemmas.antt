@@ -1,5 +1,5 @@
 -- Sound accesses lie within their epochs.
-use Rattle.std.proofs.Common.{◌≡◌, ◌≢◌, ℕ, zero, suc, ◌+◌, ◌<◌, ◌≤◌, Bool, true, false, cond, List, [], ◌∷◌, length, length-take, take, get_or, eqb, eqb-true, nat_eq, nat_lt, Option, Some, None, slice_get, refl, sym, ap, subst, ◌∙◌, arith}
+use Rattle.std.proofs.Common.{◌≡◌, ℕ, zero, suc, ◌<◌, Bool, true, false, cond, List, [], ◌∷◌, length, length-take, take, get_or, eqb, eqb-true, nat_eq, nat_lt, Option, Some, None, slice_get, refl, sym, ap, subst, ◌∙◌, arith}
 use Rattle.std.specs.Prelude.{is_some, option_map, unwrap_or}
 use Rattle.std.specs.Option.{option_and_then, option_map_or, option_or}
 use Rattle.std.specs.Cmp.Lexicographic.{pointwise, same_text}
@@ -7,7 +7,7 @@ use Rattle.std.proofs.lemmas.Bool.{false≢true, true≢false}
 use Rattle.std.proofs.lemmas.Bool.Decides.{nat_tests}
 use Rattle.std.proofs.lemmas.Cmp.{nat_list_eq_equiv}
 use Rattle.std.proofs.lemmas.List.Quantifiers.{position-Some}
-use Rattle.std.proofs.lemmas.Option.{none-some, option_and_then_some, slice_get-get_or, slice_get_within}
+use Rattle.std.proofs.lemmas.Option.{none-some, slice_get-get_or, slice_get_within}
 use Rattle.rma_base.specs.RankSet.{has_number}
 use Rattle.rma_base.specs.declared.rank.Rank.{Rank}
 use Rattle.rma_call.specs.Call.{Call}
@@ -28,11 +28,11 @@ use Rattle.rma_open.specs.Calls.{is_on, past_on, window_on}
 use Rattle.rma_open.specs.Open.{is_exclusive, left_by, locked_by, of_fence, of_lock, of_lock_all, of_post, of_start, open_on}
 use Rattle.rma_open.specs.Reaching.{by_lock_all, by_phase, by_start, closed_by, opening_in, reaching}
 use Rattle.rma_epoch.specs.declared.epoch.Epoch.{Epoch as OneEpoch}
-use Rattle.rma_epoch.specs.Table.{close_of, closed_at, epoch_at, epoch_with, epochs_of, index_at, index_in, is_opened_by, opened_from, opened_on, opening_at, placed_of, sound_calls}
+use Rattle.rma_epoch.specs.Table.{close_of, closed_at, epoch_with, epochs_of, index_at, index_in, is_opened_by, opened_from, opening_at, sound_calls}
 use Rattle.rma_epoch.specs.Laws.{AccessesLieWithin}
 use Rattle.rma_epoch.proofs.CloseLemmas.{closed_as, closed_in}
 use Rattle.rma_epoch.proofs.OneLemmas.{epoch_there, prefix_from, reaching_opener}
-use Rattle.rma_epoch.proofs.OpenerLemmas.{IsOpener, Opens, all_opener, all_says, closed_opener, fence_left, fence_says, lock_opener, lock_says, phase_opener, post_opener, start_opener, start_says}
+use Rattle.rma_epoch.proofs.OpenerLemmas.{IsOpener, Opens, all_opener, all_says, fence_left, fence_says, lock_opener, lock_says, phase_opener, post_opener, start_opener, start_says}
 use Rattle.rma_epoch.proofs.PastLemmas.{ArePast, IsLatest, are_past, latest}
 use Rattle.rma_epoch.proofs.TableLemmas.{closed_below, mapped}
 
@@ -168,9 +168,9 @@ module _ (calls : List Call) (window : List ℕ) where
             kind.Lock l.exclusive,
             subst (IsOpener window calls (kind.Lock l.exclusive)) e (lock_opener calls window target.0 l is),
             λ m opened found.
-            let t : locked opened.what ≡ target.0 = locker target.0 l is opened (ap (slice_get calls) e ∙ found) in
-            let test : nat_eq target.0 (locked opened.what) ≡ true = grind (arith, nat_tests) in
-            ap (λ b. is_some (unlocked b)) test,
+                let t : locked opened.what ≡ target.0 = locker target.0 l is opened (ap (slice_get calls) e ∙ found) in
+                let test : nat_eq target.0 (locked opened.what) ≡ true = grind (arith, nat_tests) in
+                ap (λ b. is_some (unlocked b)) test,
           )
   closed_spoken (Sync (Epoch (UnlockAll w))) n closes = (kind.LockAll, all_opener calls window n closes, λ m opened found. refl)
   closed_spoken (Sync (Epoch (Expwait w))) n closes = (kind.Post, post_opener calls window n closes, λ m opened found. refl)

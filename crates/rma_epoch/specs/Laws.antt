@@ -1,5 +1,5 @@
 -- What the epochs of a rank come to (MPI 4.0, "One-Sided Communications").
-use Rattle.std.specs.Prelude.{◌≡◌, ◌<◌, ◌⊎◌, ℕ, ◌+◌, List, [], ◌∷◌, length, map, take, Bool, false, Option, Some, None, is_some, option_map, slice_get}
+use Rattle.std.specs.Prelude.{◌≡◌, ◌<◌, ℕ, ◌+◌, List, [], ◌∷◌, length, take, Bool, false, Option, Some, None, is_some, option_map, slice_get}
 use Rattle.std.specs.List.{cons_option, filter_map}
 use Rattle.std.specs.Option.{option_map_or}
 use Rattle.rma_base.specs.declared.rank.Rank.{Rank}
@@ -12,11 +12,11 @@ use Rattle.rma_call.specs.declared.epoch.EpochCall.TheVariants as epoch
 use Rattle.rma_window.specs.declared.window_id.WindowId.{WindowId}
 use Rattle.rma_window.specs.Windows.{Window, number_of}
 use Rattle.rma_open.specs.declared.opening.EpochKind.{EpochKind}
-use Rattle.rma_open.specs.declared.opening.EpochKind.TheVariants.{Fence, Start, Lock, LockAll, Post}
+use Rattle.rma_open.specs.declared.opening.EpochKind.TheVariants.{Lock, LockAll}
 use Rattle.rma_open.specs.declared.opening.Opening.{Opening}
 use Rattle.rma_epoch.specs.declared.epoch.Epoch.{Epoch}
 use Rattle.rma_epoch.specs.declared.epoch.Targets.{Targets}
-use Rattle.rma_epoch.specs.declared.epoch.Targets.TheVariants.{All, One, Group}
+use Rattle.rma_epoch.specs.declared.epoch.Targets.TheVariants.{One}
 use Rattle.rma_open.specs.Open.{open_on, is_exclusive}
 use Rattle.rma_open.specs.Reaching.{all_reaching}
 use Rattle.rma_epoch.specs.Fault.{fault_of}

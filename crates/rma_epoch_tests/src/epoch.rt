@@ -10,7 +10,7 @@ use rma_base::EpochReason::{
 };
 use rma_base::{AccOps, EpochReason, LineNo, Name, Rank, WinModel};
 use rma_call::{CallRef, WhatRef, WindowCall};
-use rma_epoch::{EpochFault, LiveEpochs, epoch_fault};
+use rma_epoch::{EpochFault, LiveEpochs, place_calls};
 use rma_window::Windows;
 use std::alloc::Global;
 use std::process::Abort;
@@ -277,7 +277,7 @@ pub fn windows(alloc: Global) -> Result<Windows, Fail> {
 fn check(rt: &impl Abort, alloc: Global, windows: &Windows, case: &Case) -> Result<(), Fail> {
     let shows = case.shows;
     let own = calls_of(alloc, case.calls)?;
-    let found = epoch_fault(alloc, &own, windows)?;
+    let found = place_calls(alloc, own.calls(), own.end(), windows)?.fault;
     let wanted = match case.fault {
         Some((line, reason)) => Some(EpochFault {
             line: LineNo(line),
@@ -307,7 +307,7 @@ fn a_call_that_has_a_reason_is_not_taken(rt: HostRuntime) -> Result<(), Fail> {
     let mut live = LiveEpochs::new(alloc);
     let mut last = None;
     for i in 0..own.calls().len() {
-        last = live.take(&windows, own.calls().get(i))?;
+        last = live.take(&windows, own.calls().get(i))?.reason;
     }
     assert!(&rt; last == Some(AccessOverlap));
     assert!(&rt; live.taken() == 1);

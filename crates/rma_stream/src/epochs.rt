@@ -7,7 +7,7 @@ ghost use Rattle.rma_stream.specs.Findings.{epoch_finding};
 
 use rma_base::{Memory, Sequence};
 use rma_call::RankCalls;
-use rma_epoch::epoch_fault;
+use rma_epoch::place_calls;
 use rma_report::{Finding, FindingList};
 use rma_window::Windows;
 use std::alloc::Global;
@@ -44,7 +44,7 @@ fn push_fault(
 ) -> Result<(), Memory>
     ensures { OnOk result (list.new ≡ list.old ++ cons_option (epoch_finding windows.now own.now) []) }
 {
-    match epoch_fault(alloc, own, windows)? {
+    match place_calls(alloc, own.calls(), own.end(), windows)?.fault {
         Some(fault) => list.push(Finding::Epoch {
             rank: own.rank(),
             line: fault.line,

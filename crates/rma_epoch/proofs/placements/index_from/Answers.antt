@@ -1,5 +1,4 @@
-use Rattle.std.proofs.Common.{◌≡◌, Some, None, Option, true, slice_get, sym, ap, ◌∙◌, rules}
-use Rattle.std.specs.Option.{option_map_or}
+use Rattle.std.proofs.Common.{sym, ◌∙◌, rules}
 use Rattle.std.proofs.lemmas.List.Sorted.{answers_always}
 use Rattle.rma_epoch.specs.declared.epoch.Epoch.{Epoch}
 use Rattle.rma_epoch.proofs.EpochLemmas.{opened_at, search_is}

@@ -1,4 +1,4 @@
-use Rattle.std.proofs.Common.{List, map, sym, ap, ◌∙◌}
+use Rattle.std.proofs.Common.{List, map, ap, ◌∙◌}
 use Rattle.rma_epoch.specs.declared.parts.Entry.{Entry}
 use Rattle.rma_epoch.specs.Table.{Epochs}
 use Rattle.rma_epoch.specs.inside.Parts.{shown}

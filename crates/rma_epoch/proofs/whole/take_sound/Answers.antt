@@ -1,4 +1,4 @@
-use Rattle.std.proofs.Common.{◌≡◌, ◌+◌, Some, None, take, sym, subst, ◌∙◌, arith}
+use Rattle.std.proofs.Common.{◌≡◌, Some, None, take, sym, subst, ◌∙◌, arith}
 use Rattle.rma_call.specs.Call.{call_of}
 use Rattle.rma_open.specs.Reason.{reason_at}
 use Rattle.rma_epoch.specs.Table.{taken_with}

@@ -1,11 +1,10 @@
-use Rattle.std.proofs.Common.{◌≡◌, ◌+◌, ◌∷◌, ◌++◌, [], length, length-append, None, sym, ap, subst, ◌∙◌}
-use Rattle.rma_base.specs.declared.epoch_reason.EpochReason.{EpochReason}
+use Rattle.std.proofs.Common.{◌≡◌, ◌+◌, ◌∷◌, [], length, length-append, None, sym, ap, subst, ◌∙◌}
 use Rattle.rma_call.specs.Call.{call_of}
 use Rattle.rma_open.specs.Reason.{reason_at}
 use Rattle.rma_open.proofs.TestLemmas.{is_nothing}
 use Rattle.rma_epoch.specs.declared.live.Taken.{Taken}
-use Rattle.rma_epoch.specs.Table.{Ascend, epochs_of, taken_with}
-use Rattle.rma_epoch.specs.inside.Live.{HasEpochs, Represents}
+use Rattle.rma_epoch.specs.Table.{Ascend, taken_with}
+use Rattle.rma_epoch.specs.inside.Live.{HasEpochs}
 use Rattle.rma_epoch.specs.inside.Windows.{IsOpenAfter, names_in}
 use Rattle.rma_epoch.proofs.PlaceLemmas.{taken_none}
 use Rattle.rma_epoch.proofs.StepLemmas.{next_epochs, next_placed, next_taken, not_taken, place_window}
