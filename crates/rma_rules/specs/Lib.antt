@@ -1,0 +1,10 @@
+pub mod Words
+pub mod Kind
+pub mod Access
+pub mod Share
+pub mod Element
+pub mod Conflict
+pub mod Lock
+pub mod Spans
+pub mod Before
+pub mod inside
