@@ -27,7 +27,7 @@ impl<'a> Model for Bytes<'a> {
 
     ghost view = { λ own. map (moved own.by) own.layout.runs };
 
-    ghost invariant = { λ own. IsCanonical (map (moved own.by) own.layout.runs) };
+    ghost invariant = { λ own. IsCanonical own.layout.runs × IsCanonical (map (moved own.by) own.layout.runs) };
 }
 
 impl<'a> Bytes<'a> {
@@ -48,6 +48,7 @@ impl<'a> Bytes<'a> {
         requires { IsCanonical (map (moved by) layout.now.runs) }
         ensures { result ≡ map (moved by) layout.now.runs }
     {
+        let _in_order = layout.is_empty();
         Bytes {
             layout: MovedLayout::unmoved(layout),
             by,

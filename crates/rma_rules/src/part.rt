@@ -1,14 +1,15 @@
 //! What the window of an access says of it.
-ghost use Rattle.std.specs.Prelude.{◌≡◌, ◌↔◌, IsTrue, Some};
+ghost use Rattle.std.specs.Prelude.{◌≡◌, ◌≤◌, ◌↔◌, IsTrue, Some};
+ghost use Rattle.rma_base.specs.Limits.{address_limit};
 ghost use Rattle.rma_window.specs.declared.window_id.WindowId.{WindowId};
 ghost use Rattle.rma_rules.specs.Access.{IsOnWindowOf};
 ghost use Rattle.rma_rules.specs.Element.{AllowsNoOp};
-ghost use Rattle.rma_rules.specs.Share.{IsSeparateAt, IsThroughSeparate, MeetsPart};
+ghost use Rattle.rma_rules.specs.Share.{IsSeparateAt, IsThroughSeparate, MeetsPart, run_of_part};
 
 use crate::access::Access;
 use rma_base::{AccOps, WinModel};
 use rma_bytes::Run;
-use rma_window::{WindowId, Windows};
+use rma_window::{Part, WindowId, Windows};
 
 /// The window through which an access is made, if that has the separate memory model.
 pub(crate) fn separate_window(a: &Access<'_>, windows: &Windows) -> Option<WindowId>
@@ -49,10 +50,18 @@ pub(crate) fn meets_part(a: &Access<'_>, window: Option<WindowId>, windows: &Win
         return false;
     };
     match windows.part(window, a.memory) {
-        Some(part) => a.bytes.meets_run(Run {
-            start: part.base as i64,
-            len: part.size,
-        }),
+        Some(part) => a.bytes.meets_run(run_of_part(part)),
         None => false,
+    }
+}
+
+/// The bytes of a part.
+fn run_of_part(part: Part) -> Run
+    requires { part.base ≤ address_limit }
+    ensures { result ≡ run_of_part part }
+{
+    Run {
+        start: part.base as i64,
+        len: part.size,
     }
 }

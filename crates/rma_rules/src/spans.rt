@@ -2,6 +2,7 @@
 ghost use Rattle.std.specs.Prelude.{◌≡◌, ◌<◌, ◌^◌, ◌++◌, [], ◌∷◌, All, OnOk, OnErr};
 ghost use Rattle.std.specs.List.Sorted.{IsStrictlyIncreasing};
 ghost use Rattle.rma_rules.specs.Spans.{AreCalls, AreLists, calls_under, publishing_of, visible_of, with_call};
+ghost use Rattle.rma_rules.specs.inside.Lists.{with_call_at};
 
 use crate::span::{Exposure, LockSpan, Owner, Post};
 use indexmap::IndexMap;
@@ -173,15 +174,34 @@ fn add_call(
     window: WindowId,
     call: u32,
 ) -> Result<(), Memory>
+    requires lists { AreLists lists.old.entries }
+    requires after { All (λ earlier. earlier < call) (calls_under lists.old.entries rank window) }
+    requires small { call < 2 ^ 31 }
+    ensures lists { AreLists lists.new.entries }
     ensures ok { OnOk result (lists.new.entries ≡ with_call lists.old.entries rank window call) }
     ensures err { OnErr result (lists.new.entries ≡ lists.old.entries) }
 {
     let owner = Owner { rank, window };
-    if let Some(calls) = lists.get_mut(&owner) {
-        return calls.push(call);
+    if let Some(place) = lists.get_index_of(&owner) {
+        return push_at(lists, place, call);
     }
     let mut calls = Sequence::new(alloc);
     calls.push(call)?;
     lists.insert(owner, calls)?;
     Ok(())
+}
+
+/// Puts a call at the end of the list at a place, if there is one.
+fn push_at(
+    lists: &mut IndexMap<Owner, Sequence<u32>>,
+    place: usize,
+    call: u32,
+) -> Result<(), Memory>
+    ensures ok { OnOk result (lists.new.entries ≡ with_call_at lists.old.entries place call) }
+    ensures err { OnErr result (lists.new.entries ≡ lists.old.entries) }
+{
+    match lists.get_index_mut(place) {
+        Some(calls) => calls.push(call),
+        None => Ok(()),
+    }
 }

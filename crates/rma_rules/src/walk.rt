@@ -1,5 +1,5 @@
 //! A walk over the runs of two accesses at once.
-ghost use Rattle.std.specs.Prelude.{◌≡◌, ◌<◌, ◌↔◌, IsTrue, IfSome};
+ghost use Rattle.std.specs.Prelude.{◌≡◌, ◌<◌, ◌↔◌, ◌⊎◌, pos, ◌+ℤ◌, IsTrue, IfSome};
 ghost use Rattle.rma_bytes.specs.Runs.{end_of, IsInBounds};
 ghost use Rattle.rma_rules.specs.inside.Step.{AreInStep, Clash, RunsClash, RunsMeet};
 
@@ -35,11 +35,19 @@ fn runs_clash(x: Run, y: Run, size: Option<u64>) -> bool
     requires y { IsInBounds y × (0 < y.len) }
     ensures { IsTrue result ↔ RunsClash size x y }
 {
-    let share = x.start < end(y) && y.start < end(x);
     match size {
-        Some(size) => share && !are_in_step(x, y, size),
-        None => share,
+        Some(size) => runs_meet(x, y) && !are_in_step(x, y, size),
+        None => runs_meet(x, y),
     }
+}
+
+/// Whether two runs share a byte.
+fn runs_meet(x: Run, y: Run) -> bool
+    requires x { IsInBounds x × (0 < x.len) }
+    requires y { IsInBounds y × (0 < y.len) }
+    ensures { IsTrue result ↔ RunsMeet x y }
+{
+    x.start < end(y) && y.start < end(x)
 }
 
 /// Whether one run starts a number of elements of the size after the other.
@@ -49,12 +57,14 @@ fn are_in_step(x: Run, y: Run, size: u64) -> bool
     requires y { IsInBounds y }
     ensures { IsTrue result ↔ AreInStep size x y }
 {
-    let apart = if x.start < y.start {
-        y.start - x.start
-    } else {
-        x.start - y.start
-    };
-    apart as u64 % size == 0
+    distance(x.start, y.start) % size == 0
+}
+
+/// How far it is from one address to another, whichever is lower.
+fn distance(x: i64, y: i64) -> u64
+    ensures { (x ≡ y +ℤ pos result) ⊎ (y ≡ x +ℤ pos result) }
+{
+    x.abs_diff(y)
 }
 
 /// The first number after the bytes of the run.
