@@ -1,16 +1,17 @@
 -- What the windows of accesses are.
-use Rattle.std.proofs.Common.{◌≡◌, ◌↔◌, List, Option, Some, None, option_map, true, is_some, refl, sym, ap, ◌∙◌}
+use Rattle.std.proofs.Common.{◌≡◌, ◌↔◌, List, Option, Some, None, option_map, true, is_some, refl, sym, ap, subst, ◌∙◌}
 use Rattle.rma_base.specs.declared.window.WinModel.{WinModel}
 use Rattle.rma_base.specs.declared.window.WinModel.TheVariants.{Separate, Unified}
 use Rattle.rma_base.specs.declared.window.AccOps.{AccOps}
 use Rattle.rma_base.specs.declared.window.AccOps.TheVariants.{SameOpNoOp}
 use Rattle.rma_window.specs.declared.window_id.WindowId.{WindowId}
-use Rattle.rma_window.specs.Windows.{Window, window_of}
+use Rattle.rma_window.specs.Windows.{Window, part_of, window_of}
+use Rattle.rma_window.specs.declared.part.Part.{Part}
 use Rattle.rma_rules.specs.Access.{Access}
 use Rattle.rma_rules.specs.Element.{AllowsNoOp}
-use Rattle.rma_rules.specs.Share.{IsSeparateAt, IsThroughSeparate}
+use Rattle.rma_rules.specs.Share.{IsSeparateAt, IsThroughSeparate, MeetsPart, MeetsRun, run_of_part}
 
-same_some : {X : Type 0} (x y : X) → Some x ≡ Some y → x ≡ y
+pub same_some : {X : Type 0} (x y : X) → Some x ≡ Some y → x ≡ y
 same_some x y e = cc
 
 -- a value that is mapped comes of one
@@ -61,3 +62,23 @@ pub some_separate : (windows : List Window) (a : Access) (found : Option WindowI
 unfolding IsSeparateAt
 some_separate windows a None told = (λ test. absurd (cc), λ is. let found = (told is.0).1 is.1 in absurd (cc))
 some_separate windows a (Some id) told = (λ test. (id, (told id).0 refl), λ is. refl)
+
+-- an access meets the part of the window where there is one
+pub part_met : (windows : List Window) (a : Access) (through : Option WindowId) (window : WindowId) (part : Part) → through ≡ Some window → part_of windows window a.memory ≡ Some part
+    → MeetsRun a.runs (run_of_part part) ↔ MeetsPart windows a through
+unfolding MeetsPart
+part_met windows a through window part is there = (
+  λ meets. (window, part, is, there, meets),
+  λ all.
+      let same : window ≡ all.0 = same_some window all.0 (sym is ∙ all.2) in
+      let found : Some part ≡ Some all.1 = sym there ∙ ap (λ w. part_of windows w a.memory) same ∙ all.3 in
+      subst (λ p. MeetsRun a.runs (run_of_part p)) (sym (same_some part all.1 found)) all.4,
+)
+
+-- and else it meets none
+pub none_met : (windows : List Window) (a : Access) (through : Option WindowId) (window : WindowId) → through ≡ Some window → part_of windows window a.memory ≡ None → MeetsPart windows a through → ⊥
+unfolding MeetsPart
+none_met windows a through window is none all =
+    let same : window ≡ all.0 = same_some window all.0 (sym is ∙ all.2) in
+    let found : None ≡ Some all.1 = sym none ∙ ap (λ w. part_of windows w a.memory) same ∙ all.3 in
+    cc

@@ -82,7 +82,7 @@ pub is_good : (xs : List Run) (i : ℕ) (x : Run) → IsCanonical xs → slice_g
 is_good xs i x good at = rw (sym (get_or_from_slice_get xs i x no_run at)) (canonical_at xs i no_run good (slice_get_within xs i x at))
 
 -- a run of a list, by its index
-at_index : (xs : List Run) (x : Run) → Contains xs x → (k : ℕ) × (k < length xs) × (get_or xs k no_run ≡ x)
+pub at_index : (xs : List Run) (x : Run) → Contains xs x → (k : ℕ) × (k < length xs) × (get_or xs k no_run ≡ x)
 at_index xs x there = (there.0, there.1, get_or_default xs there.0 no_run x there.1 ∙ there.2)
 
 -- none clash up to the ends of both lists

@@ -6,11 +6,11 @@ ghost use Rattle.rma_rules.specs.declared.rule.Rule.{Rule};
 ghost use Rattle.rma_rules.specs.Access.{IsOnWindowOf};
 ghost use Rattle.rma_rules.specs.Conflict.{AreThroughOne, ConflictAtTarget};
 ghost use Rattle.rma_rules.specs.Element.{Disagree, MayMeet, OperationsAgree};
-ghost use Rattle.rma_rules.specs.Kind.{is_accumulate};
+ghost use Rattle.rma_rules.specs.Kind.{has_no_op, is_accumulate, is_no_op};
 
 use crate::access::Access;
 use crate::kind::{Kind, Operation};
-use crate::part::allows_no_op;
+use crate::part::{allows_no_op, share_byte};
 use crate::rule::Rule;
 use crate::walk::clash;
 use rma_datatype::Basic;
@@ -28,12 +28,21 @@ pub(crate) fn conflict_of_accumulates(
     requires window { IsOnWindowOf windows.now a.now }
     ensures { (rule : Rule) → (result ≡ Some rule) ↔ ConflictAtTarget windows.now a.now b.now rule }
 {
-    let neither = a.kind.has_no_op() && b.kind.has_no_op();
-    if !neither && disagree(a, b, windows) {
+    if neither_combines(a, b) {
+        return None;
+    }
+    if disagree(a, b, windows) {
         Some(Rule::Accumulate)
     } else {
         None
     }
+}
+
+/// Whether neither of them has an operation.
+fn neither_combines(a: &Access<'_>, b: &Access<'_>) -> bool
+    ensures { IsTrue result ↔ ((has_no_op a.now.kind ≡ true) × (has_no_op b.now.kind ≡ true)) }
+{
+    a.kind.has_no_op() && b.kind.has_no_op()
 }
 
 /// Whether two accumulates have a byte in common at which they do not agree.
@@ -41,9 +50,11 @@ fn disagree(a: &Access<'_>, b: &Access<'_>, windows: &Windows) -> bool
     requires { IsOnWindowOf windows.now a.now }
     ensures { IsTrue result ↔ Disagree windows.now a.now b.now }
 {
+    let _first_in_order = a.bytes.len();
+    let _second_in_order = b.bytes.len();
     match element_of_both(a, b, windows) {
         Some(element) => clash(&a.bytes, &b.bytes, Some(element.size())),
-        None => a.bytes.meets(&b.bytes),
+        None => share_byte(a, b),
     }
 }
 
@@ -70,7 +81,7 @@ fn operations_agree(a: &Access<'_>, b: &Access<'_>, windows: &Windows) -> bool
     let Kind::Accumulate(two) = b.kind else {
         return false;
     };
-    may_meet(one, two) || (one.is_no_op() || two.is_no_op()) && allows_no_op(a, windows)
+    may_meet(one, two) || has_one_no_op(one, two) && allows_no_op(a, windows)
 }
 
 /// Whether two operations may meet in every window: they are equal, or one compares and swaps.
@@ -78,4 +89,11 @@ fn may_meet(one: Operation, two: Operation) -> bool
     ensures { IsTrue result ↔ ((one ≡ two) ⊎ ((one ≡ Operation.CompareAndSwap) ⊎ (two ≡ Operation.CompareAndSwap))) }
 {
     one == two || one.is_swap() || two.is_swap()
+}
+
+/// Whether one of two operations leaves the target as it is.
+fn has_one_no_op(one: Operation, two: Operation) -> bool
+    ensures { IsTrue result ↔ ((is_no_op one ≡ true) ⊎ (is_no_op two ≡ true)) }
+{
+    one.is_no_op() || two.is_no_op()
 }

@@ -26,8 +26,15 @@ pub struct LockKey {
 pub fn separated(a: &Access<'_>, b: &Access<'_>) -> bool
     ensures { IsTrue result ↔ Separated a.now b.now }
 {
-    for key in a.locks {
-        if excludes_any(*key, b.locks) {
+    any_exclude(a.locks, b.locks)
+}
+
+/// Whether one of some lock epochs and one of others are never open at once.
+fn any_exclude(keys: &[LockKey], others: &[LockKey]) -> bool
+    ensures { IsTrue result ↔ ((key : LockKey) × (other : LockKey) × Contains keys.now key × Contains others.now other × AreExclusive key other) }
+{
+    for key in keys {
+        if excludes_any(*key, others) {
             return true;
         }
     }

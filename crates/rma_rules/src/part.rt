@@ -4,7 +4,7 @@ ghost use Rattle.rma_base.specs.Limits.{address_limit};
 ghost use Rattle.rma_window.specs.declared.window_id.WindowId.{WindowId};
 ghost use Rattle.rma_rules.specs.Access.{IsOnWindowOf};
 ghost use Rattle.rma_rules.specs.Element.{AllowsNoOp};
-ghost use Rattle.rma_rules.specs.Share.{IsSeparateAt, IsThroughSeparate, MeetsPart, run_of_part};
+ghost use Rattle.rma_rules.specs.Share.{IsSeparateAt, IsThroughSeparate, MeetsPart, ShareByte, run_of_part};
 
 use crate::access::Access;
 use rma_base::{AccOps, WinModel};
@@ -36,9 +36,12 @@ pub(crate) fn allows_no_op(a: &Access<'_>, windows: &Windows) -> bool
     requires { IsOnWindowOf windows.now a.now }
     ensures { IsTrue result ↔ AllowsNoOp windows.now a.now }
 {
-    match a.window {
-        Some(window) => windows.ops(window) == AccOps::SameOpNoOp,
-        None => false,
+    let Some(window) = a.window else {
+        return false;
+    };
+    match windows.ops(window) {
+        AccOps::SameOpNoOp => true,
+        AccOps::SameOp => false,
     }
 }
 
@@ -64,4 +67,11 @@ fn run_of_part(part: Part) -> Run
         start: part.base as i64,
         len: part.size,
     }
+}
+
+/// Whether two accesses touch the same byte.
+pub(crate) fn share_byte(a: &Access<'_>, b: &Access<'_>) -> bool
+    ensures { IsTrue result ↔ ShareByte a.now.runs b.now.runs }
+{
+    a.bytes.meets(&b.bytes)
 }

@@ -8,7 +8,7 @@ ghost use Rattle.rma_rules.specs.Share.{IsSeparateAt, MeetsPart};
 
 use crate::access::Access;
 use crate::accumulate::conflict_of_accumulates;
-use crate::part::{is_separate_at, meets_part};
+use crate::part::{is_separate_at, meets_part, share_byte};
 use crate::rule::Rule;
 use rma_window::Windows;
 
@@ -23,7 +23,10 @@ pub(crate) fn conflict_with_target(
     requires window { IsOnWindowOf windows.now target.now }
     ensures { (rule : Rule) → (result ≡ Some rule) ↔ ConflictsWithTarget windows.now own.now target.now rule }
 {
-    if may_not_share(own, target, windows) && own.bytes.meets(&target.bytes) {
+    if !may_not_share(own, target, windows) {
+        return None;
+    }
+    if share_byte(own, target) {
         return Some(Rule::Overlap);
     }
     if is_store_beside(own, target, windows) {
@@ -67,7 +70,10 @@ pub(crate) fn conflict_at_target(a: &Access<'_>, b: &Access<'_>, windows: &Windo
     if are_accumulates_on_one(a, b) {
         return conflict_of_accumulates(a, b, windows);
     }
-    if (a.kind.is_update() || b.kind.is_update()) && a.bytes.meets(&b.bytes) {
+    if !is_one_update(a, b) {
+        return None;
+    }
+    if share_byte(a, b) {
         return Some(Rule::Overlap);
     }
     if are_updates_beside(a, b, windows) {
@@ -75,6 +81,13 @@ pub(crate) fn conflict_at_target(a: &Access<'_>, b: &Access<'_>, windows: &Windo
     } else {
         None
     }
+}
+
+/// Whether one of them writes.
+fn is_one_update(a: &Access<'_>, b: &Access<'_>) -> bool
+    ensures { IsTrue result ↔ ((is_update a.now.kind ≡ true) ⊎ (is_update b.now.kind ≡ true)) }
+{
+    a.kind.is_update() || b.kind.is_update()
 }
 
 /// Whether both are accumulates through one window.
