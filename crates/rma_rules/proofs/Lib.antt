@@ -1,4 +1,6 @@
 pub mod AccumulateLemmas
+pub mod ForbidsLemmas
+pub mod BeforeLemmas
 pub mod BytesLemmas
 pub mod ElementLemmas
 pub mod ConflictLemmas

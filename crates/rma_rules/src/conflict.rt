@@ -18,9 +18,20 @@ pub fn forbids(a: &Access<'_>, b: &Access<'_>, windows: &Windows) -> Option<Rule
     ensures some { (rule : Rule) → (result ≡ Some rule) ↔ Forbids windows.now a.now b.now rule }
     ensures none { (result ≡ None) ↔ ((rule : Rule) → ¬ Forbids windows.now a.now b.now rule) }
 {
-    if a.memory != b.memory {
-        return None;
+    if a.memory == b.memory {
+        conflict(a, b, windows)
+    } else {
+        None
     }
+}
+
+/// The rule by which two accesses to the memory of one rank conflict, if they do.
+fn conflict(a: &Access<'_>, b: &Access<'_>, windows: &Windows) -> Option<Rule>
+    requires a { IsOnWindowOf windows.now a.now }
+    requires b { IsOnWindowOf windows.now b.now }
+    requires memory { a.now.memory ≡ b.now.memory }
+    ensures { (rule : Rule) → (result ≡ Some rule) ↔ Forbids windows.now a.now b.now rule }
+{
     if a.kind.is_target() {
         if b.kind.is_target() {
             conflict_at_target(a, b, windows)

@@ -7,6 +7,7 @@ ghost use Rattle.rma_link.specs.Order.{IsAtOrBefore};
 ghost use Rattle.rma_clock.specs.Reached.{IsReached};
 ghost use Rattle.rma_window.specs.declared.window_id.WindowId.{WindowId};
 ghost use Rattle.rma_rules.specs.Access.{IsOnWindowOf};
+ghost use Rattle.rma_rules.specs.Kind.{is_own, is_store, is_target, is_update};
 ghost use Rattle.rma_rules.specs.Spans.{AreCalls, publishing_of, visible_of};
 ghost use Rattle.rma_rules.specs.Before.{AreReached, Before, IsBeforeStart, IsMadeVisible, IsPublished, NeedsPublished, NeedsVisible};
 
@@ -47,11 +48,18 @@ fn needs_visible(a: &Access<'_>, b: &Access<'_>, windows: &Windows) -> Option<Wi
     requires { IsOnWindowOf windows.now a.now }
     ensures { (window : WindowId) → (result ≡ Some window) ↔ NeedsVisible windows.now a.now b.now window }
 {
-    if a.kind.is_update() && !b.kind.is_target() {
+    if is_update_seen(a, b) {
         separate_window(a, windows)
     } else {
         None
     }
+}
+
+/// Whether the first is an update, and the second an access of the rank's own.
+fn is_update_seen(a: &Access<'_>, b: &Access<'_>) -> bool
+    ensures { IsTrue result ↔ ((is_update a.now.kind ≡ true) × (is_own b.now.kind ≡ true)) }
+{
+    a.kind.is_update() && !b.kind.is_target()
 }
 
 /// The window of the separate model through which the second accesses a target, where the first is a store.
@@ -59,11 +67,18 @@ fn needs_published(a: &Access<'_>, b: &Access<'_>, windows: &Windows) -> Option<
     requires { IsOnWindowOf windows.now b.now }
     ensures { (window : WindowId) → (result ≡ Some window) ↔ NeedsPublished windows.now a.now b.now window }
 {
-    if a.kind.is_store() && b.kind.is_target() {
+    if is_store_seen(a, b) {
         separate_window(b, windows)
     } else {
         None
     }
+}
+
+/// Whether the first is a store, and the second an access of a target.
+fn is_store_seen(a: &Access<'_>, b: &Access<'_>) -> bool
+    ensures { IsTrue result ↔ ((is_store a.now.kind ≡ true) × (is_target b.now.kind ≡ true)) }
+{
+    a.kind.is_store() && b.kind.is_target()
 }
 
 /// Whether a call of the rank before this one makes visible to it what was done by this point through the window. The last such
@@ -80,15 +95,21 @@ fn is_made_visible<C: Clocks>(
     ensures { (points : List ℕ) (links : Links) → C.are_of clocks.now points links → IsReached points done → ((v : ℕ) → Contains (visible_of spans.now rank window) v → v < call → IsReached points (return_of rank v)) → IsTrue result ↔ IsMadeVisible links spans.now rank window done call }
 {
     let calls = spans.visible(rank, window);
-    let n = calls.partition_point(|v| *v < call);
+    let n = count_before(calls, call);
     if n == 0 {
         return false;
     }
-    let last = Point {
-        rank,
-        pos: 2 * calls[n - 1] + 1,
-    };
-    clocks.leq(done, last)
+    clocks.leq(done, return_from(rank, calls[n - 1]))
+}
+
+/// How many of these calls come before a call of the same rank.
+fn count_before(calls: &[u32], call: u32) -> usize
+    requires { AreCalls calls.now }
+    ensures bound { result ≤ length calls.now }
+    ensures before { (k : ℕ) → k < result → slice_index calls.now k < call }
+    ensures after { (k : ℕ) → result ≤ k → k < length calls.now → call ≤ slice_index calls.now k }
+{
+    calls.partition_point(|v| *v < call)
 }
 
 /// Whether a call of the rank publishes what was done by this point to the window, before an access starts. The first such call
@@ -135,6 +156,17 @@ fn entry_of(rank: Rank, call: u32) -> Point
     Point {
         rank,
         pos: 2 * call,
+    }
+}
+
+/// Where a rank returns from a call.
+fn return_from(rank: Rank, call: u32) -> Point
+    requires { call < 2 ^ 31 }
+    ensures { result ≡ return_of rank call }
+{
+    Point {
+        rank,
+        pos: 2 * call + 1,
     }
 }
 
