@@ -1,6 +1,7 @@
 -- Where accesses start, and which of a rank's calls stand before which points.
-use Rattle.std.proofs.Common.{◌≡◌, ℕ, zero, suc, ◌+◌, ◌-◌, ◌*◌, ◌<◌, ◌≤◌, ◌⊎◌, Bool, true, List, [], ◌∷◌, length, get_or, Contains, All, Some, None, Option, inl, inr, refl, sym, ap, subst, ◌∙◌, arith, lit<}
-use Rattle.std.specs.List.Sorted.{IsStrictlyIncreasing}
+use Rattle.std.proofs.Common.{◌≡◌, ℕ, zero, suc, ◌+◌, ◌-◌, ◌*◌, ◌<◌, ◌≤◌, ◌⊎◌, Bool, true, false, nat_lt, List, [], ◌∷◌, length, get_or, Contains, All, Some, None, Option, inl, inr, refl, sym, ap, subst, ◌∙◌, arith, lit<}
+use Rattle.std.specs.List.Sorted.{IsPartitionedBy, IsPartitionPoint, IsStrictlyIncreasing}
+use Rattle.std.proofs.lemmas.Bool.Decides.{nat_tests}
 use Rattle.std.proofs.lemmas.List.{get_or_default}
 use Rattle.std.proofs.lemmas.List.Elements.{All-contains, Contains-get_or}
 use Rattle.rma_base.specs.declared.rank.Rank.{Rank}
@@ -51,7 +52,24 @@ call_at calls v there = (there.0, there.1, get_or_default calls there.0 0 v ther
 
 module _ (links : Links) (rank : Rank) (calls : List ℕ) (up : IsStrictlyIncreasing calls) (done : Point) (i k : ℕ) (le : i ≤ k) (k_in : k < length calls) where
   pub entered_later : IsAtOrBefore links done (entry rank (get_or calls i 0)) → IsAtOrBefore links done (entry rank (get_or calls k 0))
-  entered_later before = at_or_before_trans links before (entries_rise links rank (get_or calls i 0) (get_or calls k 0) (rises_to calls up i k le k_in))
+  entered_later order = at_or_before_trans links order (entries_rise links rank (get_or calls i 0) (get_or calls k 0) (rises_to calls up i k le k_in))
 
   pub returned_later : IsAtOrBefore links done (return_of rank (get_or calls i 0)) → IsAtOrBefore links done (return_of rank (get_or calls k 0))
-  returned_later before = at_or_before_trans links before (returns_rise links rank (get_or calls i 0) (get_or calls k 0) (rises_to calls up i k le k_in))
+  returned_later order = at_or_before_trans links order (returns_rise links rank (get_or calls i 0) (get_or calls k 0) (rises_to calls up i k le k_in))
+
+-- ---- where a search for a number stops
+
+abbrev pub is_less : ℕ → ℕ → Bool
+is_less call v = nat_lt v call
+
+module _ (calls : List ℕ) (call : ℕ) (up : IsStrictlyIncreasing calls) where
+  pub calls_partitioned : IsPartitionedBy (is_less call) calls
+  calls_partitioned i j d le lt test =
+      let first = get_or_default calls i d 0 (omega arith) in
+      let second = get_or_default calls j d 0 lt in
+      let rise = rises_to calls up i j le lt in
+      grind (arith, nat_tests)
+
+  pub calls_split : (n : ℕ) → IsPartitionPoint (λ v. is_less call v ≡ true) (λ v. is_less call v ≡ false) calls n → n ≤ length calls
+      → ((k : ℕ) → k < n → get_or calls k 0 < call) × ((k : ℕ) → n ≤ k → k < length calls → call ≤ get_or calls k 0)
+  calls_split n point in_list = (λ k lt. let less = point.0 k 0 (omega arith) lt in grind (arith, nat_tests), λ k le lt. let more = point.1 k 0 le lt in grind (arith, nat_tests))
