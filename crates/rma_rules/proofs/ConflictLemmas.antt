@@ -1,5 +1,5 @@
 -- Which rows of the table hold of two accesses.
-use Rattle.std.proofs.Common.{◌≡◌, ◌⊎◌, ◌↔◌, ℕ, ◌<◌, ◌≤◌, arith, Bool, true, false, List, Option, Some, None, inl, inr, refl, sym, ap, subst, ◌∙◌, ⊎_elim}
+use Rattle.std.proofs.Common.{◌≡◌, ◌⊎◌, ◌↔◌, ℕ, ℤ, ◌<◌, ◌≤◌, arith, Bool, true, false, List, Option, Some, None, inl, inr, refl, sym, ap, subst, ◌∙◌, ⊎_elim}
 use Rattle.rma_datatype.specs.declared.operation.Op.TheVariants.{NoOp}
 use Rattle.rma_bytes.specs.declared.run.Run.{Run}
 use Rattle.rma_window.specs.Windows.{Window}
@@ -15,7 +15,9 @@ use Rattle.rma_rules.specs.declared.rule.Rule.TheVariants as rule
 use Rattle.rma_rules.specs.Access.{Access}
 use Rattle.rma_rules.specs.Kind.{has_no_op, is_accumulate, is_get, is_load, is_no_op, is_own, is_poll, is_put, is_store, is_target, is_update}
 use Rattle.rma_rules.specs.Share.{IsSeparateAt, MeetsPart, ShareByte}
-use Rattle.rma_rules.specs.Conflict.{AccumulatesDisagree, AreThroughOne, BufferInUse, CountsAsGet, UpdateBesideUpdate, ConflictAtCaller, ConflictAtTarget, ConflictsWithTarget}
+use Rattle.rma_rules.specs.Element.{AllowsNoOp, Disagree, ElementsAgree, MayMeet, OperationsAgree}
+use Rattle.rma_rules.specs.Lock.{Separated}
+use Rattle.rma_rules.specs.Conflict.{AccumulatesDisagree, AreThroughOne, AreUpdatesApart, BufferInUse, CountsAsGet, UpdateBesideUpdate, ConflictAtCaller, ConflictAtTarget, ConflictsWithTarget}
 use Rattle.rma_rules.proofs.PartLemmas.{same_some}
 
 -- ---- bytes
@@ -276,3 +278,59 @@ module _ (a b : Access) where
   pub buffer_in_use : BufferInUse a b → ConflictAtCaller a b Buffer
   unfolding ConflictAtCaller
   buffer_in_use row = row
+
+  pub caller_turned : (r : Rule) → ConflictAtCaller a b r → ConflictAtCaller b a r
+  unfolding ConflictAtCaller
+  caller_turned Overlap row = row
+  caller_turned StoreInWindow row = row
+  caller_turned OtherWindow row = row
+  caller_turned rule.Accumulate row = row
+  caller_turned Buffer row = (⊎_elim inr inl row.0, (λ local. row.1 (local.1, local.0)), share_turned a.runs b.runs row.2)
+
+-- ---- rows of targets, turned
+
+apart_turned : (a b : Access) → AreUpdatesApart a b → AreUpdatesApart b a
+apart_turned a b row = (row.1, row.0, λ one. row.2 (sym one))
+
+allows_turned : (windows : List Window) (a b : Access) → AreThroughOne a b → AllowsNoOp windows a → AllowsNoOp windows b
+unfolding AllowsNoOp
+allows_turned windows a b one all = (all.0, all.1, sym one ∙ all.2, all.3, all.4)
+
+meet_turned : (windows : List Window) (a b : Access) (o p : Operation) → AreThroughOne a b → MayMeet windows a o p → MayMeet windows b p o
+meet_turned windows a b o p one (inl same) = inl (sym same)
+meet_turned windows a b o p one (inr (inl swap)) = inr (inr (inl swap))
+meet_turned windows a b o p one (inr (inr (inl swap))) = inr (inl swap)
+meet_turned windows a b o p one (inr (inr (inr here))) = inr (inr (inr (allows_turned windows a b one here.0, ⊎_elim inr inl here.1)))
+
+agree_turned : (windows : List Window) (a b : Access) → AreThroughOne a b → OperationsAgree windows a b → OperationsAgree windows b a
+unfolding OperationsAgree
+agree_turned windows a b one agree = (agree.1, agree.0, agree.3, agree.2, meet_turned windows a b agree.0 agree.1 one agree.4)
+
+elements_turned : (a b : Access) (byte : ℤ) → ElementsAgree a b byte → ElementsAgree b a byte
+elements_turned a b byte agree = (agree.0, agree.1, agree.3, agree.2, agree.5, agree.4)
+
+disagree_turned : (windows : List Window) (a b : Access) → AreThroughOne a b → Disagree windows a b → Disagree windows b a
+unfolding Disagree
+disagree_turned windows a b one all = (all.0, all.2, all.1, λ both. all.3 (elements_turned b a all.0 both.0, agree_turned windows b a (sym one) both.1))
+
+pub at_target_turned : (windows : List Window) (a b : Access) (r : Rule) → ConflictAtTarget windows a b r → ConflictAtTarget windows b a r
+unfolding ConflictAtTarget
+at_target_turned windows a b Overlap (inl row) = inr (inl row)
+at_target_turned windows a b Overlap (inr (inl row)) = inl row
+at_target_turned windows a b Overlap (inr (inr (inl row))) = inr (inr (inr (inl row)))
+at_target_turned windows a b Overlap (inr (inr (inr (inl row)))) = inr (inr (inl row))
+at_target_turned windows a b Overlap (inr (inr (inr (inr row)))) = inr (inr (inr (inr (apart_turned a b row.0, share_turned a.runs b.runs row.1))))
+at_target_turned windows a b StoreInWindow row = row
+at_target_turned windows a b OtherWindow row = (apart_turned a b row.0, ⊎_elim inr inl row.1, (λ share. row.2 (share_turned b.runs a.runs share)), ⊎_elim inr inl row.3)
+at_target_turned windows a b rule.Accumulate row = (row.1, row.0, (λ none. row.2 (none.1, none.0)), sym row.3, disagree_turned windows a b row.3 row.4)
+at_target_turned windows a b Buffer row = row
+
+pub separated_turned : (a b : Access) → Separated a b → Separated b a
+unfolding Separated
+separated_turned a b all = (
+  all.1,
+  all.0,
+  all.3,
+  all.2,
+  (sym all.4.0, sym all.4.1, ⊎_elim (λ ranks. inl (λ same. ranks (sym same))) (λ calls. inr (λ same. calls (sym same))) all.4.2, ⊎_elim inr inl all.4.3),
+)

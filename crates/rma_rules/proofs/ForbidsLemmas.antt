@@ -6,7 +6,7 @@ use Rattle.rma_rules.specs.declared.rule.Rule.{Rule}
 use Rattle.rma_rules.specs.Access.{Access}
 use Rattle.rma_rules.specs.Kind.{is_own, is_target}
 use Rattle.rma_rules.specs.Conflict.{ConflictAtCaller, ConflictAtTarget, ConflictsWithTarget, Forbids, OfCallerAndTarget}
-use Rattle.rma_rules.proofs.ConflictLemmas.{own_not_target, tell_caller, unique_at, unique_with}
+use Rattle.rma_rules.proofs.ConflictLemmas.{at_target_turned, caller_turned, own_not_target, tell_caller, unique_at, unique_with}
 
 -- what is known of each answer, if no rule holds
 pub none_from : (P : Rule → Type 0) (found : Option Rule) → ((r : Rule) → (found ≡ Some r) ↔ P r) → (found ≡ None) ↔ ((r : Rule) → P r → ⊥)
@@ -68,3 +68,47 @@ module _ (windows : List Window) (a b : Access) (one : a.memory ≡ b.memory) (r
 pub one_memory : (windows : List Window) (a b : Access) (r : Rule) → Forbids windows a b r → a.memory ≡ b.memory
 unfolding Forbids
 one_memory windows a b r all = all.0
+
+-- ---- laws
+
+caller_unique : (a b : Access) (r s : Rule) → ConflictAtCaller a b r → ConflictAtCaller a b s → r ≡ s
+caller_unique a b r s one two = (tell_caller a b r one).0 ∙ sym (tell_caller a b s two).0
+
+pub forbids_once : (windows : List Window) (a b : Access) (r s : Rule) → Forbids windows a b r → Forbids windows a b s → r ≡ s
+unfolding Forbids
+forbids_once windows a b r s one two = by one.1 two.1
+  where
+    by : OfCallerAndTarget windows a b r ⊎ (OfCallerAndTarget windows b a r
+        ⊎ (((is_target a.kind ≡ true) × (is_target b.kind ≡ true) × ConflictAtTarget windows a b r) ⊎ ((is_own a.kind ≡ true) × (is_own b.kind ≡ true) × ConflictAtCaller a b r)))
+        → OfCallerAndTarget windows a b s ⊎ (OfCallerAndTarget windows b a s
+        ⊎ (((is_target a.kind ≡ true) × (is_target b.kind ≡ true) × ConflictAtTarget windows a b s) ⊎ ((is_own a.kind ≡ true) × (is_own b.kind ≡ true) × ConflictAtCaller a b s)))
+        → r ≡ s
+    by (inl p) (inl q) = unique_with windows a b r s p.2 q.2
+    by (inl p) (inr (inl q)) = absurd (own_not_target a.kind p.0 q.1)
+    by (inl p) (inr (inr (inl q))) = absurd (own_not_target a.kind p.0 q.0)
+    by (inl p) (inr (inr (inr q))) = absurd (own_not_target b.kind q.1 p.1)
+    by (inr (inl p)) (inl q) = absurd (own_not_target a.kind q.0 p.1)
+    by (inr (inl p)) (inr (inl q)) = unique_with windows b a r s p.2 q.2
+    by (inr (inl p)) (inr (inr (inl q))) = absurd (own_not_target b.kind p.0 q.1)
+    by (inr (inl p)) (inr (inr (inr q))) = absurd (own_not_target a.kind q.0 p.1)
+    by (inr (inr (inl p))) (inl q) = absurd (own_not_target a.kind q.0 p.0)
+    by (inr (inr (inl p))) (inr (inl q)) = absurd (own_not_target b.kind q.0 p.1)
+    by (inr (inr (inl p))) (inr (inr (inl q))) = unique_at windows a b r s p.2 q.2
+    by (inr (inr (inl p))) (inr (inr (inr q))) = absurd (own_not_target a.kind q.0 p.0)
+    by (inr (inr (inr p))) (inl q) = absurd (own_not_target b.kind p.1 q.1)
+    by (inr (inr (inr p))) (inr (inl q)) = absurd (own_not_target a.kind p.0 q.1)
+    by (inr (inr (inr p))) (inr (inr (inl q))) = absurd (own_not_target a.kind p.0 q.0)
+    by (inr (inr (inr p))) (inr (inr (inr q))) = caller_unique a b r s p.2 q.2
+
+pub forbids_turned : (windows : List Window) (a b : Access) (r : Rule) → Forbids windows a b r → Forbids windows b a r
+unfolding Forbids
+forbids_turned windows a b r all = (sym all.0, by all.1)
+  where
+    by : OfCallerAndTarget windows a b r ⊎ (OfCallerAndTarget windows b a r
+        ⊎ (((is_target a.kind ≡ true) × (is_target b.kind ≡ true) × ConflictAtTarget windows a b r) ⊎ ((is_own a.kind ≡ true) × (is_own b.kind ≡ true) × ConflictAtCaller a b r)))
+        → OfCallerAndTarget windows b a r ⊎ (OfCallerAndTarget windows a b r
+        ⊎ (((is_target b.kind ≡ true) × (is_target a.kind ≡ true) × ConflictAtTarget windows b a r) ⊎ ((is_own b.kind ≡ true) × (is_own a.kind ≡ true) × ConflictAtCaller b a r)))
+    by (inl p) = inr (inl p)
+    by (inr (inl p)) = inl p
+    by (inr (inr (inl p))) = inr (inr (inl (p.1, p.0, at_target_turned windows a b r p.2)))
+    by (inr (inr (inr p))) = inr (inr (inr (p.1, p.0, caller_turned a b r p.2)))

@@ -1,6 +1,7 @@
 pub mod AccumulateLemmas
 pub mod ForbidsLemmas
 pub mod BeforeLemmas
+pub mod CaseLemmas
 pub mod BytesLemmas
 pub mod ElementLemmas
 pub mod ConflictLemmas
