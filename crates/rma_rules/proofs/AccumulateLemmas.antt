@@ -1,10 +1,8 @@
 -- Where the operations of accumulates agree.
-use Rattle.std.proofs.Common.{◌≡◌, ◌⊎◌, ◌↔◌, true, List, Some, Option, inl, inr, sym, subst, ◌∙◌}
-use Rattle.rma_datatype.specs.declared.basic.Basic.{Basic}
+use Rattle.std.proofs.Common.{◌≡◌, ◌⊎◌, ◌↔◌, true, List, inl, inr, sym, subst, ◌∙◌}
 use Rattle.rma_window.specs.Windows.{Window}
 use Rattle.rma_rules.specs.declared.kind.Operation.{Operation}
 use Rattle.rma_rules.specs.declared.kind.Operation.TheVariants.{CompareAndSwap}
-use Rattle.rma_rules.specs.declared.kind.Kind.{Kind}
 use Rattle.rma_rules.specs.declared.kind.Kind.TheVariants.{Accumulate}
 use Rattle.rma_rules.specs.Access.{Access}
 use Rattle.rma_rules.specs.Kind.{is_no_op}

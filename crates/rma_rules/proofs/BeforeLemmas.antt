@@ -1,9 +1,8 @@
 -- Where accesses start, and which of a rank's calls stand before which points.
-use Rattle.std.proofs.Common.{◌≡◌, ℕ, zero, suc, ◌+◌, ◌-◌, ◌*◌, ◌<◌, ◌≤◌, ◌⊎◌, Bool, true, false, nat_lt, List, [], ◌∷◌, length, get_or, Contains, All, Some, None, Option, inl, inr, refl, sym, ap, subst, ◌∙◌, arith, lit<}
+use Rattle.std.proofs.Common.{◌≡◌, ℕ, zero, suc, ◌<◌, ◌≤◌, ◌⊎◌, Bool, true, false, nat_lt, List, length, get_or, Contains, Some, None, Option, inl, inr, refl, sym, ap, ◌∙◌, arith, lit<}
 use Rattle.std.specs.List.Sorted.{IsPartitionedBy, IsPartitionPoint, IsStrictlyIncreasing}
 use Rattle.std.proofs.lemmas.Bool.Decides.{nat_tests}
 use Rattle.std.proofs.lemmas.List.{get_or_default}
-use Rattle.std.proofs.lemmas.List.Elements.{All-contains, Contains-get_or}
 use Rattle.rma_base.specs.declared.rank.Rank.{Rank}
 use Rattle.rma_base.specs.declared.point.Point.{Point}
 use Rattle.rma_base.proofs.RankSetLemmas.{rises_to}
@@ -11,7 +10,6 @@ use Rattle.rma_link.specs.declared.links.Links.{Links}
 use Rattle.rma_link.specs.Point.{entry, return_of}
 use Rattle.rma_link.specs.Order.{IsAtOrBefore}
 use Rattle.rma_link.proofs.OrderLemmas.{at_or_before_trans, later_position}
-use Rattle.rma_clock.specs.Reached.{IsReached}
 use Rattle.rma_rules.specs.Access.{Access, starts_of}
 use Rattle.rma_rules.specs.Before.{IsBeforeStart}
 

@@ -1,5 +1,5 @@
 -- The three cases of what is before an access.
-use Rattle.std.proofs.Common.{◌≡◌, ◌⊎◌, ◌↔◌, ℕ, List, Option, Some, None, inl, inr, sym, subst, ◌∙◌}
+use Rattle.std.proofs.Common.{◌≡◌, ◌⊎◌, ◌↔◌, List, Some, None, inl, inr, sym, subst, ◌∙◌}
 use Rattle.rma_base.specs.declared.point.Point.{Point}
 use Rattle.rma_link.specs.declared.links.Links.{Links}
 use Rattle.rma_window.specs.Windows.{Window}

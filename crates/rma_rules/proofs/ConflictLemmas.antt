@@ -1,12 +1,10 @@
 -- Which rows of the table hold of two accesses.
 use Rattle.std.proofs.Common.{◌≡◌, ◌⊎◌, ◌↔◌, ℕ, ℤ, ◌<◌, ◌≤◌, arith, Bool, true, false, List, Option, Some, None, inl, inr, refl, sym, ap, subst, ◌∙◌, ⊎_elim}
-use Rattle.rma_datatype.specs.declared.operation.Op.TheVariants.{NoOp}
 use Rattle.rma_bytes.specs.declared.run.Run.{Run}
 use Rattle.rma_window.specs.Windows.{Window}
 use Rattle.rma_window.specs.declared.window_id.WindowId.{WindowId}
 use Rattle.std.proofs.lemmas.Bool.{cases_lt}
 use Rattle.rma_rules.specs.declared.kind.Operation.{Operation}
-use Rattle.rma_rules.specs.declared.kind.Operation.TheVariants.{Combine, CompareAndSwap}
 use Rattle.rma_rules.specs.declared.kind.Kind.{Kind}
 use Rattle.rma_rules.specs.declared.kind.Kind.TheVariants.{Load, Store, Poll, BufferRead, BufferWrite, Get, Put, Accumulate}
 use Rattle.rma_rules.specs.declared.rule.Rule.{Rule}

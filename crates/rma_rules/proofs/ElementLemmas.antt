@@ -1,16 +1,16 @@
 -- Elements of accumulates, and runs that are in step.
-use Rattle.std.proofs.Common.{◌≡◌, ℕ, ◌+◌, ◌-◌, ◌*◌, ◌/◌, ◌%◌, ◌<◌, ◌≤◌, ◌⊎◌, ◌↔◌, List, length, get_or, Contains, Some, None, Option, inl, inr, refl, sym, ap, subst, ◌∙◌, arith, nat_abs, lit<}
+use Rattle.std.proofs.Common.{◌≡◌, ℕ, ◌+◌, ◌-◌, ◌*◌, ◌/◌, ◌<◌, ◌≤◌, ◌⊎◌, ◌↔◌, List, length, get_or, Some, inl, inr, refl, sym, ap, subst, ◌∙◌, arith, nat_abs, lit<}
 use Rattle.std.specs.Prelude.{ℤ, pos, ◌+ℤ◌, ◌-ℤ◌, ◌≤ℤ◌, ◌<ℤ◌}
 use Rattle.std.proofs.Math.Nat.{add-mul}
 use Rattle.std.proofs.lemmas.Int.{ints}
 use Rattle.std.proofs.lemmas.Bool.{cases_lt}
 use Rattle.std.proofs.lemmas.List.Elements.{Contains-get_or}
-use Rattle.std.proofs.lemmas.Nat.{div-add-mod', le-div, mod_below}
+use Rattle.std.proofs.lemmas.Nat.{div-add-mod', mod_below}
 use Rattle.rma_datatype.specs.declared.basic.Basic.{Basic}
 use Rattle.rma_datatype.specs.declared.basic.Basic.TheVariants.{SignedChar, UnsignedChar, Short, UnsignedShort, Int, Unsigned, Long, UnsignedLong, LongLong, UnsignedLongLong, Int8, Int16, Int32, Int64, Uint8, Uint16, Uint32, Uint64, Aint, Offset, Count, Float, Double, CBool, Byte, Char}
 use Rattle.rma_datatype.specs.Basic.{basic_size}
 use Rattle.rma_bytes.specs.declared.run.Run.{Run}
-use Rattle.rma_bytes.specs.Runs.{end_of, IsByteOf, HasByte, IsCanonical}
+use Rattle.rma_bytes.specs.Runs.{IsByteOf, IsCanonical}
 use Rattle.rma_bytes.proofs.RunLemmas.{has_at, index_of, no_run}
 use Rattle.rma_window.specs.Windows.{Window}
 use Rattle.rma_rules.specs.Access.{Access}

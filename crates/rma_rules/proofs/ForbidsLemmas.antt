@@ -1,5 +1,5 @@
 -- What forbids two accesses, by whether each is of a target; and the laws of it.
-use Rattle.std.proofs.Common.{◌≡◌, ◌⊎◌, ◌↔◌, Bool, true, false, not, List, Option, Some, None, inl, inr, refl, sym, ap, subst, ◌∙◌}
+use Rattle.std.proofs.Common.{◌≡◌, ◌⊎◌, ◌↔◌, true, false, not, List, Option, Some, None, inl, inr, refl, sym, ap, ◌∙◌}
 use Rattle.rma_window.specs.Windows.{Window}
 use Rattle.rma_rules.specs.declared.kind.Kind.{Kind}
 use Rattle.rma_rules.specs.declared.rule.Rule.{Rule}

@@ -1,5 +1,5 @@
 -- Lists of calls by rank and window, with one more call.
-use Rattle.std.proofs.Common.{◌≡◌, ℕ, zero, suc, ◌<◌, Bool, true, false, cond, List, [], ◌∷◌, ◌++◌, length, get_or, Some, None, Result, Ok, Err, OnOk, OnErr, All, slice_get, is_some, nat_lt, position, refl, sym, ap, subst, ◌⊎◌, inl, inr, ◌+◌, ◌≤◌, ◌^◌, ◌∙◌, arith, unwrap_or}
+use Rattle.std.proofs.Common.{◌≡◌, ℕ, zero, suc, ◌<◌, Bool, true, false, cond, List, [], ◌∷◌, ◌++◌, length, get_or, Some, None, Result, Ok, Err, OnOk, OnErr, All, slice_get, is_some, nat_lt, position, refl, sym, ap, subst, ◌⊎◌, inl, inr, ◌+◌, ◌≤◌, ◌^◌, ◌∙◌, arith}
 use Rattle.std.specs.List.{position_or_len}
 use Rattle.std.specs.List.Sorted.{IsStrictlyIncreasing}
 use Rattle.std.specs.Map.{lookup, keys_of, values_of}

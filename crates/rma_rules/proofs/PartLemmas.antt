@@ -1,6 +1,5 @@
 -- What the windows of accesses are.
 use Rattle.std.proofs.Common.{◌≡◌, ◌↔◌, List, Option, Some, None, option_map, true, is_some, refl, sym, ap, subst, ◌∙◌}
-use Rattle.rma_base.specs.declared.window.WinModel.{WinModel}
 use Rattle.rma_base.specs.declared.window.WinModel.TheVariants.{Separate, Unified}
 use Rattle.rma_base.specs.declared.window.AccOps.{AccOps}
 use Rattle.rma_base.specs.declared.window.AccOps.TheVariants.{SameOpNoOp}

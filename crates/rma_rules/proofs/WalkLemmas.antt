@@ -7,7 +7,7 @@ use Rattle.std.proofs.lemmas.List.{get_or_default}
 use Rattle.std.proofs.lemmas.Option.{get_or_from_slice_get, slice_get_within}
 use Rattle.std.proofs.lemmas.List.Elements.{Contains-get_or}
 use Rattle.rma_bytes.specs.declared.run.Run.{Run}
-use Rattle.rma_bytes.specs.Runs.{end_of, IsByteOf, HasByte, IsCanonical, IsInBounds}
+use Rattle.rma_bytes.specs.Runs.{end_of, IsByteOf, IsCanonical, IsInBounds}
 use Rattle.rma_bytes.proofs.RunLemmas.{byte_after, canonical_at, has_at, index_of, no_run, start_is_byte}
 use Rattle.rma_rules.specs.Share.{ShareByte}
 use Rattle.rma_rules.specs.inside.Step.{Clash, RunsClash, RunsMeet}

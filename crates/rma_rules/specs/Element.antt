@@ -1,5 +1,5 @@
 -- The elements of accumulates, and where two accumulates agree (MPI 4.0, "One-Sided Communications", accumulate functions).
-use Rattle.std.specs.Prelude.{◌≡◌, ◌*◌, ◌⊎◌, ℕ, ℤ, pos, ◌+ℤ◌, ◌≤ℤ◌, ◌<ℤ◌, List, Option, Some, Contains, true}
+use Rattle.std.specs.Prelude.{◌≡◌, ◌*◌, ◌⊎◌, ℕ, ℤ, pos, ◌+ℤ◌, ◌≤ℤ◌, ◌<ℤ◌, List, Some, Contains, true}
 use Rattle.rma_base.specs.declared.window.AccOps.TheVariants.{SameOpNoOp}
 use Rattle.rma_datatype.specs.declared.basic.Basic.{Basic}
 use Rattle.rma_datatype.specs.Basic.{basic_size}

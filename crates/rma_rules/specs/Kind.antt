@@ -2,7 +2,7 @@
 use Rattle.std.specs.Prelude.{Bool, true, false, not}
 use Rattle.rma_datatype.specs.declared.operation.Op.TheVariants.{NoOp}
 use Rattle.rma_rules.specs.declared.kind.Operation.{Operation}
-use Rattle.rma_rules.specs.declared.kind.Operation.TheVariants.{Combine, CompareAndSwap}
+use Rattle.rma_rules.specs.declared.kind.Operation.TheVariants.{Combine}
 use Rattle.rma_rules.specs.declared.kind.Kind.{Kind}
 use Rattle.rma_rules.specs.declared.kind.Kind.TheVariants.{Load, Store, Poll, BufferRead, BufferWrite, Get, Put, Accumulate}
 

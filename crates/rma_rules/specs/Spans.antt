@@ -1,6 +1,6 @@
 -- The lists beside accesses: calls that make stores and updates visible, and the epochs in which accesses lie
 -- (MPI 4.0, "One-Sided Communications").
-use Rattle.std.specs.Prelude.{◌≡◌, ◌<◌, ◌^◌, ◌==◌, ◌&&◌, ℕ, List, [], ◌∷◌, ◌++◌, Bool, All, unwrap_or, if◌then◌else◌}
+use Rattle.std.specs.Prelude.{◌<◌, ◌^◌, ◌==◌, ◌&&◌, ℕ, List, [], ◌∷◌, ◌++◌, Bool, All, unwrap_or, if◌then◌else◌}
 use Rattle.std.specs.Map.{lookup}
 use Rattle.std.specs.List.Sorted.{IsStrictlyIncreasing}
 use Rattle.rma_base.specs.declared.rank.Rank.{Rank}

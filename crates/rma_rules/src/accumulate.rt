@@ -1,11 +1,10 @@
 //! Two accumulates through one window.
-ghost use Rattle.std.specs.Prelude.{◌≡◌, ◌↔◌, ◌⊎◌, IsTrue, Some, MatchOption, true};
+ghost use Rattle.std.specs.Prelude.{◌≡◌, ◌↔◌, ◌⊎◌, IsTrue, Some, true};
 ghost use Rattle.rma_datatype.specs.declared.basic.Basic.{Basic};
-ghost use Rattle.rma_datatype.specs.Basic.{basic_size};
 ghost use Rattle.rma_rules.specs.declared.rule.Rule.{Rule};
 ghost use Rattle.rma_rules.specs.Access.{IsOnWindowOf};
 ghost use Rattle.rma_rules.specs.Conflict.{AreThroughOne, ConflictAtTarget};
-ghost use Rattle.rma_rules.specs.Element.{Disagree, MayMeet, OperationsAgree};
+ghost use Rattle.rma_rules.specs.Element.{Disagree, OperationsAgree};
 ghost use Rattle.rma_rules.specs.Kind.{has_no_op, is_accumulate, is_no_op};
 
 use crate::access::Access;

@@ -1,7 +1,7 @@
 //! The bytes of accesses.
-ghost use Rattle.std.specs.Prelude.{◌≡◌, ◌<◌, ◌≤◌, ◌≤ℤ◌, ◌<ℤ◌, ℕ, length, map, [], IsTrue, ◌↔◌, slice_get, slice_index_or, Some};
+ghost use Rattle.std.specs.Prelude.{◌≡◌, ◌<◌, ◌≤◌, ◌≤ℤ◌, ◌<ℤ◌, ℕ, length, map, [], IfSome, IsSome, IsTrue, ◌↔◌, slice_get, slice_index_or, Some};
 ghost use Rattle.rma_bytes.specs.declared.run.Run.{Run};
-ghost use Rattle.rma_bytes.specs.Runs.{end_of, IsCanonical, moved};
+ghost use Rattle.rma_bytes.specs.Runs.{end_of, IsCanonical, IsInBounds, moved};
 ghost use Rattle.rma_rules.specs.Share.{LiesIn, MeetsRun, ShareByte};
 
 use crate::walk::{clash, end};
@@ -31,6 +31,19 @@ impl<'a> Model for Bytes<'a> {
 }
 
 impl<'a> Bytes<'a> {
+    /// The bytes of a buffer, where it stands, if its runs ascend apart, have bytes, and lie within the bounds of a run: those of a
+    /// buffer in the space of addresses do. One walk over the runs tells.
+    pub fn checked(buffer: MovedLayout<'a>) -> Option<Bytes<'a>>
+        ensures value { IfSome result (λ bytes. bytes ≡ buffer.entry.runs) }
+        ensures found { IsSome result ↔ IsCanonical buffer.entry.runs }
+    {
+        if are_canonical(&buffer) {
+            Some(Bytes::of_buffer(buffer))
+        } else {
+            None
+        }
+    }
+
     /// The bytes of a buffer, where it stands.
     pub fn of_buffer(buffer: MovedLayout<'a>) -> Bytes<'a>
         requires { IsCanonical buffer.runs }
@@ -130,4 +143,39 @@ impl<'a> Bytes<'a> {
         }
         low
     }
+}
+
+/// No run within the bounds starts before this number or at it.
+const BELOW: i64 = -562_949_953_421_313;
+
+/// No run within the bounds ends after this number.
+const HIGHEST: i64 = 562_949_953_421_312;
+
+/// Whether the runs of a buffer ascend apart, have bytes, and lie within the bounds.
+fn are_canonical(buffer: &MovedLayout<'_>) -> bool
+    ensures { IsTrue result ↔ IsCanonical buffer.now.runs }
+{
+    let mut last = BELOW;
+    'runs: for i in 0..buffer.len() {
+        let run = buffer.get(i);
+        if !may_follow(last, run) {
+            return false;
+        }
+        last = end(run);
+    }
+    true
+}
+
+/// Whether a run has bytes, lies within the bounds and begins after this number.
+fn may_follow(last: i64, run: Run) -> bool
+    requires { BELOW ≤ℤ last }
+    ensures { IsTrue result ↔ ((last <ℤ run.start) × IsInBounds run × (0 < run.len)) }
+{
+    if run.start <= last {
+        return false;
+    }
+    if HIGHEST <= run.start {
+        return false;
+    }
+    0 < run.len && run.len <= (HIGHEST - run.start) as u64
 }

@@ -1,5 +1,5 @@
 //! What the definitions of this crate come to.
-ghost use Rattle.std.specs.Prelude.{◌≡◌, ◌↔◌, ◌++◌, ◌∷◌, [], ℕ, List};
+ghost use Rattle.std.specs.Prelude.{◌≡◌, ◌++◌, ◌∷◌, [], ℕ, List};
 ghost use Rattle.rma_base.specs.declared.rank.Rank.{Rank};
 ghost use Rattle.rma_window.specs.Windows.{Window};
 ghost use Rattle.rma_window.specs.declared.window_id.WindowId.{WindowId};

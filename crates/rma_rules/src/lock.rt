@@ -1,5 +1,5 @@
 //! Locks that keep accesses apart (MPI 4.0, "One-Sided Communications").
-ghost use Rattle.std.specs.Prelude.{◌≡◌, ◌↔◌, IsTrue, Contains};
+ghost use Rattle.std.specs.Prelude.{◌↔◌, IsTrue, Contains};
 ghost use Rattle.rma_rules.specs.declared.lock.LockKey.{LockKey};
 ghost use Rattle.rma_rules.specs.Lock.{AreExclusive, Separated};
 

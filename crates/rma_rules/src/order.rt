@@ -1,6 +1,5 @@
 //! Which access is complete, and visible to another, before that starts (MPI 4.0, "One-Sided Communications").
 ghost use Rattle.std.specs.Prelude.{◌≡◌, ◌^◌, ◌≤◌, length, slice_index, ◌↔◌, ◌<◌, ℕ, List, Some, All, Contains, IsTrue, true};
-ghost use Rattle.rma_base.specs.declared.point.Point.{Point};
 ghost use Rattle.rma_link.specs.declared.links.Links.{Links};
 ghost use Rattle.rma_link.specs.Point.{entry, return_of};
 ghost use Rattle.rma_link.specs.Order.{IsAtOrBefore};

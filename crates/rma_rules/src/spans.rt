@@ -1,6 +1,5 @@
 //! The lists beside accesses (MPI 4.0, "One-Sided Communications").
 ghost use Rattle.std.specs.Prelude.{◌≡◌, ◌<◌, ◌^◌, ◌++◌, [], ◌∷◌, All, OnOk, OnErr};
-ghost use Rattle.std.specs.List.Sorted.{IsStrictlyIncreasing};
 ghost use Rattle.rma_rules.specs.Spans.{AreCalls, AreLists, calls_under, publishing_of, visible_of, with_call};
 ghost use Rattle.rma_rules.specs.inside.Lists.{with_call_at};
 

@@ -1,4 +1,4 @@
-use Rattle.std.proofs.Common.{◌≡◌, ⊎_elim}
+use Rattle.std.proofs.Common.{⊎_elim}
 use Rattle.rma_rules.specs.declared.rule.Rule.TheVariants.{Accumulate}
 use Rattle.rma_rules.specs.Conflict.{ConflictAtTarget}
 use Rattle.rma_rules.proofs.ConflictLemmas.{AreOnOne, disagree_at, exactly, none_of, tell_at, unique_at}

@@ -1,4 +1,4 @@
-use Rattle.std.proofs.Common.{◌≡◌, inl, inr, sym, ap, ◌∙◌}
+use Rattle.std.proofs.Common.{◌≡◌, inr, ap, ◌∙◌}
 use Rattle.rma_rules.specs.declared.kind.Kind.TheVariants.{Accumulate}
 use Rattle.rma_rules.specs.Access.{Access}
 use Rattle.rma_rules.proofs.AccumulateLemmas.{agree_is, first_agrees, may_anywhere, may_here, second_agrees}

@@ -1,4 +1,4 @@
-use Rattle.std.proofs.Common.{◌≡◌, ◌↔◌, Some, true, false, sym, ◌∙◌}
+use Rattle.std.proofs.Common.{◌≡◌, true, false, sym, ◌∙◌}
 use Rattle.rma_rules.specs.Kind.{is_target}
 use Rattle.rma_rules.proofs.ForbidsLemmas.{of_own, of_own_and_target, of_target_and_own, of_targets, own_is}
 use Rattle.rma_rules.proofs.conflict.conflict.Goals as goal

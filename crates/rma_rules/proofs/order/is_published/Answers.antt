@@ -1,11 +1,10 @@
-use Rattle.std.proofs.Common.{◌≡◌, ℕ, ◌<◌, ◌≤◌, List, length, get_or, Contains, sym, subst, ◌∙◌, arith, ⊎_elim}
+use Rattle.std.proofs.Common.{ℕ, ◌<◌, ◌≤◌, List, length, get_or, Contains, sym, subst, arith, ⊎_elim}
 use Rattle.std.proofs.lemmas.Bool.{cases_lt}
 use Rattle.std.proofs.lemmas.List.Elements.{Contains-get_or}
 use Rattle.rma_base.proofs.RankSetLemmas.{rises_to}
 use Rattle.rma_link.specs.Point.{entry}
 use Rattle.rma_link.specs.Order.{IsAtOrBefore}
 use Rattle.rma_rules.specs.Before.{IsPublished}
-use Rattle.rma_rules.specs.Spans.{publishing_of}
 use Rattle.rma_rules.proofs.BeforeLemmas.{before_start_trans, call_at, entries_rise}
 use Rattle.rma_rules.proofs.order.is_published.Goals as goal
 

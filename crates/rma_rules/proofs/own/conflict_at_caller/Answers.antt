@@ -1,4 +1,3 @@
-use Rattle.std.proofs.Common.{◌≡◌}
 use Rattle.rma_rules.specs.declared.rule.Rule.TheVariants.{Buffer}
 use Rattle.rma_rules.specs.Conflict.{ConflictAtCaller}
 use Rattle.rma_rules.proofs.ConflictLemmas.{buffer_in_use, exactly, none_of, tell_caller}

@@ -1,4 +1,4 @@
-use Rattle.std.proofs.Common.{◌≡◌, None, Some, sym, ◌∙◌}
+use Rattle.std.proofs.Common.{◌≡◌, None, Some}
 use Rattle.rma_rules.proofs.PartLemmas.{is_separate, is_unified, through_none}
 use Rattle.rma_rules.proofs.part.separate_window.Goals as goal
 

@@ -1,4 +1,4 @@
-use Rattle.std.proofs.Common.{◌≡◌, ◌++◌, ◌∷◌, [], ap, sym, ◌∙◌}
+use Rattle.std.proofs.Common.{ap, sym, ◌∙◌}
 use Rattle.indexmap.specs.IndexMap.{set_value_at}
 use Rattle.rma_rules.proofs.ListLemmas.{call_put, no_call_put, OnErr_map, OnOk_map, value_kept}
 use Rattle.rma_rules.proofs.spans.push_at.Goals as goal

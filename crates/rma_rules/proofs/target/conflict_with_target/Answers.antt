@@ -1,4 +1,4 @@
-use Rattle.std.proofs.Common.{◌≡◌, inl, ⊎_elim}
+use Rattle.std.proofs.Common.{inl, ⊎_elim}
 use Rattle.rma_rules.specs.declared.rule.Rule.TheVariants.{Overlap, StoreInWindow}
 use Rattle.rma_rules.specs.Conflict.{ConflictsWithTarget}
 use Rattle.rma_rules.proofs.ConflictLemmas.{beside_with, exactly, none_of, overlap_with, tell_with, unique_with}

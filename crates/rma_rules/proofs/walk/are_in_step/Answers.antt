@@ -1,4 +1,4 @@
-use Rattle.std.proofs.Common.{arith, w64}
+use Rattle.std.proofs.Common.{w64}
 use Rattle.std.proofs.lemmas.Int.{to_z-of_z}
 use Rattle.std.proofs.lemmas.Bool.{eqb-true, eq-eqb}
 use Rattle.rma_bytes.proofs.RegionLemmas.{start_fits}

@@ -4,7 +4,6 @@ use Rattle.std.proofs.lemmas.Int.{ints}
 use Rattle.std.proofs.lemmas.Option.{get_or_from_slice_get}
 use Rattle.rma_bytes.specs.Runs.{end_of}
 use Rattle.rma_bytes.proofs.RunLemmas.{no_run}
-use Rattle.rma_rules.specs.inside.Step.{RunsClash}
 use Rattle.rma_rules.proofs.WalkLemmas.{clash_at, is_good, no_clash_at_end, no_clash_left, no_clash_right}
 use Rattle.rma_rules.proofs.walk.clash.Goals as goal
 
