@@ -60,6 +60,19 @@ AreKept_out books i state there go_on goes_on out = record {
   go_on = All-set (λ (s : RankState). s.text.closed ≡ false) books i state goes_on go_on;
   out = λ _. RanOut_set books i state there out;
   in_memory = λ in_memory. absurd (false≢true (sym in_memory));
+  represent = λ in_memory. absurd (false≢true (sym in_memory));
+}
+
+-- one book was fed more, and none ran out
+pub AreKept_fed : (books : List RankState) (texts : List (List ℕ)) (i : ℕ) (state : RankState) (text : List ℕ) → i < length books → All (λ (s : RankState). s.text.closed ≡ false) books
+    → (false ≡ false → All (λ (s : RankState). s.ran_out ≡ false) books) → HaveBooks (length books) books texts → state.text.closed ≡ false → Represents i (length books) state text →
+    AreKept false (set books i state)
+AreKept_fed books texts i state text there go_on in_memory held goes_on own = record {
+  go_on = All-set (λ (s : RankState). s.text.closed ≡ false) books i state goes_on go_on;
+  out = λ ran. absurd (false≢true ran);
+  in_memory = λ _. All-set (λ (s : RankState). s.ran_out ≡ false) books i state own.in_memory (in_memory refl);
+  represent = λ _.
+      (set texts i text, subst (λ n. HaveBooks n (set books i state) (set texts i text)) (sym (length-set books i state)) (HaveBooks_set (length books) books texts i state text there held own));
 }
 
 -- books of which one ran out represent no logs

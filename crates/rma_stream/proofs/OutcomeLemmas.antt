@@ -56,6 +56,10 @@ length_AreEnds logs rank (text ∷ texts) (end ∷ ends) h = omega (arith, lengt
 
 -- ---- the first failing pass
 
+pub is_empty : (fs : List Finding) → eqb (length fs) 0 ≡ true → fs ≡ []
+is_empty [] none = refl
+is_empty (f ∷ fs) none = absurd (omega (arith, eqb-true (length (f ∷ fs)) 0 none))
+
 module _ (finds : Pass → List Finding → Type 0) (passes : List Pass) (i : ℕ) (d : Pass) (there : i < length passes) where
   -- the pass at an index fails
   pub fails_at : (found : List Finding) → finds (get_or passes i d) found → eqb (length found) 0 ≡ false → IsFirstFailing finds (drop i passes) found
@@ -66,10 +70,6 @@ module _ (finds : Pass → List Finding → Type 0) (passes : List Pass) (i : �
   pub passes_at : (none found : List Finding) → finds (get_or passes i d) none → eqb (length none) 0 ≡ true → IsFirstFailing finds (drop (i + 1) passes) found → IsFirstFailing finds (drop i passes) found
   passes_at none found has empty later =
       subst (λ left. IsFirstFailing finds left found) (sym (drop_more passes i d there)) (inr (subst (finds (get_or passes i d)) (is_empty none empty) has, later))
-    where
-      is_empty : (fs : List Finding) → eqb (length fs) 0 ≡ true → fs ≡ []
-      is_empty [] none = refl
-      is_empty (f ∷ fs) none = absurd (omega (arith, eqb-true (length (f ∷ fs)) 0 none))
 
 -- where each pass finds one list, so do they together
 pub one_first : (finds : Pass → List Finding → Type 0) → ((pass : Pass) (found others : List Finding) → finds pass found → finds pass others → found ≡ others)

@@ -1,11 +1,10 @@
 //! The audit of the logs of a run.
 ghost use Rattle.std.specs.Prelude.{◌≡◌, ℕ, ◌<◌, ◌≤◌, List, [], length, replicate, slice_index_or, IfOk, IsErr, OnOk, OnErr};
 ghost use Rattle.rma_book.specs.inside.RankState.{RankState};
-ghost use Rattle.rma_stream.specs.inside.Feeding.{HaveBooks, HasRoom, RanOut, with_piece};
+ghost use Rattle.rma_stream.specs.inside.Feeding.{HaveBooks, HaveFewLines, HasRoom, RanOut, with_piece};
 ghost use Rattle.rma_stream.specs.Findings.{AreFindings, count_of_lines};
 
 use crate::outcome::Outcomes;
-use crate::pass::{all_passes, first_failing};
 use crate::run::Run;
 use rma_base::limits::RANKS;
 use rma_base::{Memory, Rank};
@@ -105,8 +104,7 @@ impl Audit {
         let ranks = self.books.len() as u32;
         let lines = count_lines(&self.books);
         let outcomes = Outcomes::of(self.alloc, self.books)?;
-        let run = Run::of(self.alloc, outcomes)?;
-        let list = first_failing(self.alloc, &run, &all_passes())?;
+        let list = Run::of(self.alloc, outcomes)?.findings(self.alloc)?;
         Ok(Findings { ranks, lines, list })
     }
 }
@@ -114,7 +112,8 @@ impl Audit {
 /// How many lines the logs have together.
 fn count_lines(books: &[RankBook]) -> u64
     requires { length books.now ≤ RANKS }
-    ensures { (ranks : ℕ) (texts : List (List ℕ)) → HaveBooks ranks books.now texts → result ≡ count_of_lines texts }
+    ensures lines { (ranks : ℕ) (texts : List (List ℕ)) → HaveBooks ranks books.now texts → result ≡ count_of_lines texts }
+    ensures few { (ranks : ℕ) (texts : List (List ℕ)) → HaveBooks ranks books.now texts → HaveFewLines texts }
 {
     let mut lines = 0;
     for book in books {

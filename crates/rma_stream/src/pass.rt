@@ -2,15 +2,14 @@
 ghost use Rattle.std.specs.Prelude.{◌≡◌, List, IfOk};
 ghost use Rattle.rma_log.specs.declared.fault.BookEnd.{BookEnd};
 ghost use Rattle.rma_stream.specs.Findings.{passes, Finds, IsFirstFailing};
-ghost use Rattle.rma_stream.specs.inside.Outcome.{AreOutcomes};
-ghost use Rattle.rma_stream.specs.inside.Run.{IsMatched};
+ghost use Rattle.rma_stream.specs.inside.Run.{AreCallsOf, IsSound};
 
-use crate::run::Run;
+use crate::run::MatchedRun;
 use rma_base::{Memory, Sequence};
 use rma_report::FindingList;
 use std::alloc::Global;
 
-/// A pass over the outcomes of all logs.
+/// A pass over all logs.
 #[derive(Clone, Copy, Debug, PartialEq, Eq)]
 pub enum Pass {
     /// The first bad line of each log.
@@ -33,11 +32,11 @@ pub(crate) fn all_passes() -> [Pass; 4]
 /// The findings of the first of these passes that fails, and none where each succeeds.
 pub(crate) fn first_failing(
     alloc: Global,
-    run: &Run,
+    run: &MatchedRun,
     passes: &[Pass],
 ) -> Result<FindingList, Memory>
-    requires { IsMatched run.now }
-    ensures { IfOk result (λ found. (ends : List BookEnd) → AreOutcomes ends run.now.outcomes → IsFirstFailing (Finds ends) passes.now found) }
+    requires { IsSound run.now }
+    ensures { IfOk result (λ found. (ends : List BookEnd) → AreCallsOf ends run.now → IsFirstFailing (Finds ends) passes.now found) }
 {
     for pass in passes {
         let found = run.findings(alloc, *pass)?;

@@ -1,6 +1,7 @@
 -- What the books of an audit represent.
 use Rattle.std.specs.Prelude.{◌≡◌, ℕ, ◌+◌, ◌<◌, ◌≤◌, Bool, true, false, List, [], ◌++◌, All, Any, length, slice_index_or, slice_set}
 use Rattle.rma_base.specs.Limits.{fed_limit}
+use Rattle.rma_lex.specs.Line.{lines}
 use Rattle.rma_book.specs.inside.RankState.{RankState, Represents}
 use Rattle.rma_book.specs.inside.RankState as book
 
@@ -21,8 +22,13 @@ HasRoom books rank count = (d : RankState) → (slice_index_or books rank d).tex
 abbrev pub RanOut : List RankState → Type 0
 RanOut books = Any book.RanOut books
 
--- No log has ended, and it is known whether memory ran out.
+-- no text has more lines than there may be bytes
+abbrev pub HaveFewLines : List (List ℕ) → Type 0
+HaveFewLines texts = (k : ℕ) → k < length texts → length (lines (slice_index_or texts k [])) ≤ fed_limit
+
+-- No log has ended, the books represent some logs unless memory ran out, and it is known whether memory ran out.
 pub record AreKept (ran_out : Bool) (books : List RankState) : Type 0 where
   pub go_on : All (λ state. state.text.closed ≡ false) books
   pub out : ran_out ≡ true → RanOut books
   pub in_memory : ran_out ≡ false → All (λ state. state.ran_out ≡ false) books
+  pub represent : ran_out ≡ false → (texts : List (List ℕ)) × HaveBooks (length books) books texts

@@ -1,10 +1,19 @@
 use Rattle.std.proofs.Common.{List, length, sym, ◌∙◌, subst}
 use Rattle.rma_book.specs.inside.RankState.{RankState}
-use Rattle.rma_stream.specs.declared.pass.Pass.{Pass}
+use Rattle.rma_run.specs.Run.{IsRun}
 use Rattle.rma_stream.specs.inside.Feeding.{HaveBooks}
-use Rattle.rma_stream.specs.inside.Outcome.{AreOutcomes}
-use Rattle.rma_stream.specs.Findings.{Finds, IsFirstFailing}
+use Rattle.rma_stream.proofs.RunLemmas.{is_run}
 use Rattle.rma_stream.proofs.audit.Audit.finish.Goals as goal
+
+pub of-requires-2 : goal.of-requires-2
+of-requires-2 c = λ none.
+    let books = c.self.inside.books in
+    let kept = c.self.invariant.represent c.if-self.false in
+    let texts = kept.0 in
+    let held = subst (λ n. HaveBooks n books.items texts) kept.1.one_a_text kept.1 in
+    let few = c.count_lines-lines.ensures.few (length texts) texts (subst (λ (bs : List RankState). HaveBooks (length texts) bs texts) (sym c.deref.ensures.value) held) in
+    let ends = c.in_ok-outcomes.ensures texts held in
+    subst IsRun (sym ends.2.calls_are) (is_run (length texts) texts ends.0 ends.1 (sym ends.2.bad_are ∙ none) few)
 
 pub returns-clause-findings : goal.returns-clause-findings
 returns-clause-findings c = λ texts h.
@@ -13,6 +22,6 @@ returns-clause-findings c = λ texts h.
     let held = subst (λ (bs : List RankState). HaveBooks logs bs texts) (sym c.self.view_is) h in
     let ends = c.in_ok-outcomes.ensures texts held in (
       c.len-ranks.ensures ∙ books.ok.0 ∙ held.one_a_text,
-      c.count_lines-lines.ensures logs texts (subst (λ (bs : List RankState). HaveBooks logs bs texts) (sym c.deref.ensures.value) held),
-      (ends.0, ends.1, subst (λ (ps : List Pass). IsFirstFailing (Finds ends.0) ps c.in_ok-list.list) c.all_passes.ensures (c.in_ok-list.ensures ends.0 (subst (AreOutcomes ends.0) (sym c.in_ok-run.ensures.outcomes) ends.2))),
+      c.count_lines-lines.ensures.lines logs texts (subst (λ (bs : List RankState). HaveBooks logs bs texts) (sym c.deref.ensures.value) held),
+      (ends.0, ends.1, c.in_ok-list.ensures ends.0 (c.in_ok-of.ensures.run ends.0 ends.2)),
     )

@@ -1,39 +1,21 @@
-use Rattle.std.proofs.Common.{◌≡◌, List, map, IfOk, Result, Ok, Err, sym, subst, ◌∙◌}
-use Rattle.std.specs.List.{filter_map}
+use Rattle.std.proofs.Common.{◌≡◌, List, IfOk, Result, Ok, Err, subst}
 use Rattle.rma_base.specs.declared.memory.Memory.{Memory}
-use Rattle.rma_call.specs.Call.{RankCalls}
 use Rattle.rma_log.specs.declared.fault.BookEnd.{BookEnd}
 use Rattle.rma_report.specs.declared.finding.Finding.{Finding}
-use Rattle.rma_report.specs.declared.finding.Finding.TheVariants.{Mismatch}
-use Rattle.rma_sync.specs.Matching.{match_faults}
-use Rattle.rma_order.specs.declared.impossible.ImpossibleCall.{ImpossibleCall}
-use Rattle.rma_order.specs.Impossible.{AreImpossibleCalls}
-use Rattle.rma_window.specs.Creation.{creations}
-use Rattle.rma_window.specs.Windows.{windows_by}
-use Rattle.rma_stream.specs.Findings.{Finds, calls_in, epoch_finding, impossible}
-use Rattle.rma_stream.specs.declared.pass.Pass.TheVariants.{Matching, Order, Epochs}
 use Rattle.rma_stream.specs.declared.pass.Pass.{Pass}
-use Rattle.rma_stream.specs.declared.outcome.Outcomes.{Outcomes}
-use Rattle.rma_stream.specs.inside.Outcome.{AreOutcomes}
+use Rattle.rma_stream.specs.declared.run.MatchedRun.{MatchedRun}
+use Rattle.rma_stream.specs.declared.run.Run.{Run}
+use Rattle.rma_stream.specs.declared.run.Run.TheVariants.{Matched}
+use Rattle.rma_stream.specs.Findings.{Finds, IsFirstFailing, passes}
+use Rattle.rma_stream.specs.inside.Run.{AreCallsOf, IsRunOf}
 use Rattle.rma_stream.proofs.run.Run.findings.Goals as goal
 
--- what a pass finds in calls, where these are the calls of outcomes
-found_in : (pass own : Pass) (kept : Outcomes) (calls : List RankCalls) (answer : Result (List Finding) Memory) → calls ≡ kept.calls.items → pass ≡ own
-    → ((ends : List BookEnd) → calls ≡ calls_in ends → IfOk answer (Finds ends own)) → IfOk answer (λ found. (ends : List BookEnd) → AreOutcomes ends kept → Finds ends pass found)
-found_in pass own kept calls (Ok found) same is finds = λ ends are. subst (λ p. Finds ends p found) (sym is) (finds ends (same ∙ are.calls_are))
-found_in pass own kept calls (Err memory) same is finds = tt
+-- what the passes find in a run whose calls match or do not
+found_by : (ps : List Pass) (run : MatchedRun) (whole : Run) (answer : Result (List Finding) Memory) → ps ≡ passes → whole ≡ Matched run →
+    IfOk answer (λ found. (ends : List BookEnd) → AreCallsOf ends run → IsFirstFailing (Finds ends) ps found) → IfOk answer (λ found. (ends : List BookEnd) → IsRunOf ends whole → IsFirstFailing (Finds ends) passes found)
+found_by ps run whole (Ok found) all is finds = λ ends are.
+    subst (λ own. IsFirstFailing (Finds ends) own found) all (finds ends (let own : AreCallsOf ends run = subst (IsRunOf ends) is are in own))
+found_by ps run whole (Err memory) all is finds = finds
 
-pub returns-in_ok-matches-in-Matching : goal.returns-in_ok-matches-in-Matching
-returns-in_ok-matches-in-Matching c =
-    found_in c.args.pass Matching c.args.self.now.outcomes c.as_slice-calls.result.now c.mismatches.result c.as_slice-calls.ensures.value c.in-Matching.is
-    (λ ends same. subst (λ (calls : List RankCalls). IfOk c.mismatches.result (λ found. found ≡ map Mismatch (match_faults calls))) same c.mismatches.ensures)
-
-pub returns-in_ok-matches-in-Order : goal.returns-in_ok-matches-in-Order
-returns-in_ok-matches-in-Order c =
-    found_in c.args.pass Order c.args.self.now.outcomes c.as_slice-calls.result.now c.impossible_findings.result c.as_slice-calls.ensures.value c.in-Order.is
-    (λ ends same. subst (λ (calls : List RankCalls). IfOk c.impossible_findings.result (λ found. (told : List ImpossibleCall) × AreImpossibleCalls calls told × (found ≡ map impossible told))) same c.impossible_findings.ensures)
-
-pub returns-in-Epochs : goal.returns-in-Epochs
-returns-in-Epochs c =
-    found_in c.args.pass Epochs c.args.self.now.outcomes c.as_slice-calls.result.now c.epoch_findings.result c.as_slice-calls.ensures.value c.in-Epochs.is
-    (λ ends same. subst (λ (calls : List RankCalls). IfOk c.epoch_findings.result (λ found. found ≡ filter_map (epoch_finding (windows_by (creations calls))) calls)) same c.epoch_findings.ensures)
+pub returns-in-Matched : goal.returns-in-Matched
+returns-in-Matched c = found_by c.all_passes.result c.in-Matched.run' c.args.self c.first_failing.result c.all_passes.ensures c.in-Matched.is c.first_failing.ensures
