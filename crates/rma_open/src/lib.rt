@@ -22,4 +22,5 @@ pub use call::window_on;
 pub use member::part_on;
 pub use open_epochs::OpenEpochs;
 pub use opening::{EpochKind, FencePhase, HeldLock, OpenStart, Opening};
+pub use range::touches_outside;
 pub use settled::Settled;

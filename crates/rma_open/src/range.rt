@@ -6,7 +6,7 @@ use rma_bytes::{Layout, Run};
 use rma_window::Part;
 
 /// Whether a byte that is touched at the displacement lies outside the part. Runs ascend, so the first and the last tell.
-pub(crate) fn touches_outside(part: Part, displacement: u64, touched: &Layout) -> bool
+pub fn touches_outside(part: Part, displacement: u64, touched: &Layout) -> bool
     ensures { result ≡ touches_outside part displacement touched.now.runs }
 {
     if touched.is_empty() {

@@ -1,0 +1,3 @@
+pub use Rattle.rma_rules.specs.Access
+pub mod Touch
+pub mod Touches
