@@ -44,8 +44,8 @@ pub struct LockSpan {
     pub window: WindowId,
     /// The rank that locks.
     pub rank: Rank,
-    /// The target that is locked.
-    pub target: Rank,
+    /// The target that is locked; a lockall locks all that have a part of the window.
+    pub target: Option<Rank>,
     /// The number of the call that opens it, among the calls of the rank from 0.
     pub opener: u32,
     /// The number of the call that closes it, if one does.
