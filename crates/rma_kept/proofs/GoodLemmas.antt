@@ -32,6 +32,7 @@ pub record IsGood (rank logs : ℕ) (before : List Event) (event : Event) : Type
   pub wait : waits_wrongly before (attributes_of event) ≡ false
   pub space : leaves_space (attributes_of event) ≡ false
   pub completed : ends_early before event ≡ false
+  pub root : misses_root logs before (attributes_of event) ≡ false
   pub dynamic : attaches_wrongly before (attributes_of event) ≡ false
   pub typed : type_reason (types_after before) event ≡ None
 
@@ -91,6 +92,7 @@ good_from rank logs before event none =
       wait = uses.2;
       space = uses.3;
       completed = uses.4;
+      root = uses.5;
       dynamic = uses.6;
       typed = used.1;
     }

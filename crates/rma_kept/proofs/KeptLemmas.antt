@@ -12,17 +12,17 @@ use Rattle.rma_call.specs.Call.{Call}
 use Rattle.rma_form.specs.declared.event.Event.{Event}
 use Rattle.rma_judge.specs.Judging.{differ, is_far}
 use Rattle.rma_judge.specs.Naming.{Attributes, attributes_of, is_end}
-use Rattle.rma_judge.specs.Names.{had_window, has_comm, has_pending, is_fixed, is_same, is_there, members, pending, request_number, window_state, world, made_by, number_at, number_of}
+use Rattle.rma_judge.specs.Names.{had_window, has_comm, has_pending, is_fixed, is_same, is_there, members, pending, request_number, window_state, world, made_by, number_at, number_of, has_member}
 use Rattle.rma_judge.specs.declared.names.Pending.{Pending}
 use Rattle.rma_judge.specs.declared.names.WindowState.{WindowState}
 use Rattle.rma_kept.specs.Kept.{AreKept, IsKeptAfter}
-use Rattle.rma_kept.specs.Naming.{AreRanks, Attaches, Creates, CreatesAs, Declares, DeclaresWith, GivesMemory, NamesComm, NamesGroup, NamesRank, NamesWindow, NoCall, SomeCall, names_of}
+use Rattle.rma_kept.specs.Naming.{AreRanks, Attaches, Creates, CreatesAs, Declares, DeclaresWith, GivesMemory, NamesComm, NamesGroup, NamesRank, NamesWindow, NoCall, SomeCall, names_of, NamesRoot}
 use Rattle.rma_kept.specs.Requests.{Awaits, Makes, received_by, receives, has_request}
 use Rattle.rma_kept.proofs.AmongLemmas.{option_false, other_name}
 use Rattle.rma_kept.proofs.CommLemmas.{CommIs, declared_is, undeclared_is}
 use Rattle.rma_kept.proofs.GoodLemmas.{IsGood}
 use Rattle.rma_kept.proofs.MemoryLemmas.{TouchesGood}
-use Rattle.rma_kept.proofs.NamingLemmas.{attached_is, created_is, unnamed}
+use Rattle.rma_kept.proofs.NamingLemmas.{attached_is, created_is, unnamed, root_is}
 use Rattle.rma_kept.proofs.PendingLemmas.{RequestsAre, awaited_once, made_before, word_is}
 use Rattle.rma_kept.proofs.RequestLemmas.{awaits_pending, makes_next, number_is}
 use Rattle.rma_kept.proofs.RequestNameLemmas.{NamesRequest, SaysRequest, request_of}
@@ -164,6 +164,24 @@ module _ (rank logs lines : ℕ) (events : List Event) (event : Event) (calls : 
       not-false (has_number rank members)
       (option_false (λ (declared : List ℕ × List ℕ). not (has_number rank declared.1)) it.declared (comm, members) good.itself (sym (ap (λ (a : Attributes). a.declared) is.names) ∙ declares))
 
+  has_root : (comm : List ℕ) (root : ℕ) → NamesRoot comm root call → (comm ≡ world) ⊎ ((members : List ℕ) × SomeCall (DeclaresWith comm members) calls × IsTrue (has_number root members))
+  has_root comm root names =
+      by (members events comm) refl
+      (not-false (has_member logs events comm root)
+      (option_false (λ (own : List ℕ × ℕ). not (has_member logs events own.0 own.1)) it.root (comm, root) good.root (sym (ap (λ (a : Attributes). a.root) is.names) ∙ names)))
+      (h.comm comm)
+      (not-false (has_comm events comm)
+      (option_false (λ name. not (has_comm events name)) it.needed_comm comm good.comm (sym (ap (λ (a : Attributes). a.needed_comm) is.names) ∙ root_is call.what comm root names)))
+    where
+      by : (found : Option (List ℕ)) → members events comm ≡ found → option_map_or (has_number root) (members events comm) (nat_lt root logs) ≡ true → CommIs (members events comm) comm calls
+          → (is_same world comm || is_some (members events comm)) ≡ true → (comm ≡ world) ⊎ ((members : List ℕ) × SomeCall (DeclaresWith comm members) calls × IsTrue (has_number root members))
+      by None found is_member declared there = ⊎_elim
+          (λ (all : is_same world comm ≡ true). inl (sym (same_words world comm all)))
+          (λ (some : is_some (members events comm) ≡ true). let wrong : false ≡ true = ap is_some (sym found) ∙ some in cc wrong)
+          (or_cases (is_same world comm) (is_some (members events comm)) there)
+      by (Some numbers) found is_member declared there =
+          inr (numbers, rw found at declared, ap (λ (o : Option (List ℕ)). option_map_or (has_number root) o (nat_lt root logs)) (sym found) ∙ is_member)
+
   -- ---- all of it
 
   pub kept_after : call.line.0 ≡ lines + 1 → IsKeptAfter rank logs calls call
@@ -183,9 +201,11 @@ module _ (rank logs lines : ℕ) (events : List Event) (event : Event) (calls : 
     request_is_some = some_request;
     request_may_be = λ number makes. (makes_next events it call is.says is.number number makes).may;
     request_is_new = new_request;
+    request_is_next = λ number makes. (makes_next events it call is.says is.number number makes).is ∙ h.request.counted;
     request_is_there = known_request;
     message_came = came;
     comm_is_there = comm_there;
     comm_is_new = comm_new;
     comm_has_rank = has_itself;
+    root_is_member = has_root;
   }

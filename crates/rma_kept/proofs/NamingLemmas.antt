@@ -190,3 +190,45 @@ pub attached_is : (does : What) (window : List ℕ) → (names_of does).attached
 attached_is (what.Sync call) window h = sync_attached call window h
 attached_is (what.Rma call) window h = cc
 attached_is (what.Local call) window h = cc
+
+-- ---- roots
+
+-- a call that names a root names its communicator
+sync_root : (call : SyncCall) (comm : List ℕ) (root : ℕ) → (attributes_of (Call call None)).root ≡ Some (comm, root) → (attributes_of (Call call None)).needed_comm ≡ Some comm
+sync_root (Frame (Comm comm ranks)) name number h = cc
+sync_root (Frame (Barrier comm)) name number h = cc
+sync_root (Message (Send to tag comm)) name number h = cc
+sync_root (Message (Recv from tag comm)) name number h = cc
+sync_root (Message (Isend to tag comm)) name number h = cc
+sync_root (Message (Irecv comm)) name number h = cc
+sync_root (Message (Wait received)) name number h = cc
+sync_root (Window (Create own comm base bytes unit model operations is)) name number h = cc
+sync_root (Window (Free own)) name number h = cc
+sync_root (Window (Attach own address bytes)) name number h = cc
+sync_root (Window (Detach own address)) name number h = cc
+sync_root (Epoch (Fence own assertions)) name number h = cc
+sync_root (Epoch (Post own origins assertions)) name number h = cc
+sync_root (Epoch (Start own targets assertions)) name number h = cc
+sync_root (Epoch (Complete own)) name number h = cc
+sync_root (Epoch (Expwait own)) name number h = cc
+sync_root (Epoch (Lock own target kind assertions)) name number h = cc
+sync_root (Epoch (Unlock own target)) name number h = cc
+sync_root (Epoch (LockAll own assertions)) name number h = cc
+sync_root (Epoch (UnlockAll own)) name number h = cc
+sync_root (Epoch (Flush own target)) name number h = cc
+sync_root (Epoch (FlushAll own)) name number h = cc
+sync_root (Epoch (FlushLocal own target)) name number h = cc
+sync_root (Epoch (FlushLocalAll own)) name number h = cc
+sync_root (Epoch (epoch.Sync own)) name number h = cc
+sync_root (Moving (Bcast root bytes comm)) name number h = ap Some (some_pair_parts comm name root.0 number h).0
+sync_root (Moving (Scatter root bytes comm)) name number h = ap Some (some_pair_parts comm name root.0 number h).0
+sync_root (Moving (Gather root bytes comm)) name number h = ap Some (some_pair_parts comm name root.0 number h).0
+sync_root (Moving (Reduce root bytes comm)) name number h = ap Some (some_pair_parts comm name root.0 number h).0
+sync_root (Moving (Allreduce bytes comm)) name number h = cc
+sync_root (Moving (Allgather bytes comm)) name number h = cc
+sync_root (Moving (Alltoall bytes comm)) name number h = cc
+
+pub root_is : (does : What) (comm : List ℕ) (root : ℕ) → (names_of does).root ≡ Some (comm, root) → (names_of does).needed_comm ≡ Some comm
+root_is (what.Sync call) comm root h = sync_root call comm root h
+root_is (what.Rma call) comm root h = cc
+root_is (what.Local call) comm root h = cc

@@ -1,10 +1,11 @@
 -- The requests that are pending after some calls, with one call more.
-use Rattle.std.proofs.Common.{◌≡◌, ℕ, suc, ◌+◌, ◌<◌, ◌≤◌, Bool, true, false, List, [], ◌∷◌, ◌++◌, Option, Some, None, is_some, is_none, option_map, cond, refl, sym, ap, subst, ◌∙◌, ◌⊎◌, inl, inr, ⊎_elim, arith}
+use Rattle.std.proofs.Common.{◌≡◌, ℕ, suc, ◌+◌, ◌<◌, ◌≤◌, Bool, true, false, List, [], ◌∷◌, ◌++◌, Option, Some, None, is_some, is_none, option_map, cond, refl, sym, ap, subst, ◌∙◌, ◌⊎◌, inl, inr, ⊎_elim, arith, not, ◌&&◌}
 use Rattle.std.specs.List.{Contains}
 use Rattle.std.specs.Option.{option_and_then, option_or}
 use Rattle.std.specs.Prelude.{unwrap_or}
 use Rattle.std.proofs.lemmas.Option.{some_pair_parts}
 use Rattle.std.proofs.lemmas.List.Elements.{Contains-push_cases}
+use Rattle.std.proofs.lemmas.List.Sums.{sum_by-append, sum_by-cons}
 use Rattle.rma_buffer.proofs.BasicLemmas.{same_words}
 use Rattle.rma_call.specs.Call.{Call}
 use Rattle.rma_form.specs.declared.event.Event.{Event}
@@ -14,11 +15,21 @@ use Rattle.rma_judge.specs.Naming.{Attributes, attributes_of}
 use Rattle.rma_judge.specs.Names.{awaited_by, is_same, made_by, makes, number_at, number_of, of_name, pending, request_number}
 use Rattle.rma_judge.specs.declared.names.Pending.{Pending}
 use Rattle.rma_kept.specs.Naming.{NoCall, SomeCall}
-use Rattle.rma_kept.specs.Requests.{Awaits, Makes, received_by, receives}
+use Rattle.rma_kept.specs.Requests.{Awaits, Makes, received_by, receives, made_in, makes_one, waits}
 use Rattle.rma_kept.proofs.AmongLemmas.{none_more, none_of_none, option_false, same_itself, some_front, some_last}
 use Rattle.rma_kept.proofs.CountLemmas.{awaits_in, in_now, in_same, not_in_calls, open_below, open_less, open_same}
 use Rattle.rma_kept.proofs.RequestLemmas.{AwaitsPending, awaited_by_more, awaits_pending, makes_next, number_is, pending_more}
 use Rattle.rma_kept.proofs.RequestNameLemmas.{SaysRequest, request_of}
+
+-- 1 where it is so, and else 0
+abbrev one_if : Bool → ℕ
+one_if b = cond b 1 0
+
+-- how many requests some calls make, with one call more
+made_in_push : (calls : List Call) (call : Call) → made_in (calls ++ call ∷ []) ≡ made_in calls + cond (makes_one call) 1 0
+made_in_push calls call =
+    let one = λ (c : Call). cond (makes_one c) 1 0 in
+    sum_by-append one calls (call ∷ []) ∙ ap (λ n. made_in calls + n) (sum_by-cons one call [] ∙ omega arith)
 
 -- The calls made this request, and none waited for it.
 pub record IsPending (request : Pending) (calls : List Call) : Type 0 where
@@ -34,6 +45,7 @@ pub record RequestsAre (events : List Event) (calls : List Call) : Type 0 where
   pub awaited : (call : Call) (n : ℕ) → Contains calls call → Awaits n call → n < made_by events
   pub is_pending : (name : List ℕ) (request : Pending) → pending events name ≡ Some request → IsPending request calls
   pub unique : (name other : List ℕ) (request own : Pending) → pending events name ≡ Some request → pending events other ≡ Some own → request.ordinal ≡ own.ordinal → name ≡ other
+  pub counted : made_by events ≡ made_in calls
   pub count : open_below (awaits_in calls) (made_by events) + awaited_by events ≡ made_by events
 
 abbrev pub next_request : ℕ → Bool → Pending
@@ -252,12 +264,30 @@ module _ (before : List Event) (event : Event) (calls : List Call) (call : Call)
   count_new None (Some (name, word)) is_made is_awaited = count_awaited name word is_awaited
   count_new None None is_made is_awaited = count_neither is_made is_awaited
 
+  -- ---- how many are made
+
+  own_count : (made awaited : Option (List ℕ × Bool)) → it.made ≡ made → it.awaited ≡ awaited → one_if (makes_one call) ≡ one_if (is_some made)
+  own_count (Some (name, word)) awaited is_made is_awaited =
+      let said = says.made name word is_made in
+      rw (said.0, number_is before it call says number (request_of name word) awaited is_made is_awaited) refl
+  own_count None (Some (name, word)) is_made is_awaited = let said = says.awaited name word is_awaited in rw said.0 refl
+  own_count None None is_made is_awaited = rw (number_is before it call says number None None is_made is_awaited) (no_request (waits call.what))
+    where
+      no_request : (b : Bool) → one_if (not b && false) ≡ 0
+      no_request true = refl
+      no_request false = refl
+
+  counted_new : made_by events ≡ made_in new
+  counted_new =
+      made_by_more before event ∙ ap (λ n. n + cond (is_some it.made) 1 0) h.counted ∙ ap (λ n. made_in calls + n) (sym (own_count it.made it.awaited refl refl)) ∙ sym (made_in_push calls call)
+
   pub RequestsAre_call : RequestsAre events new
   RequestsAre_call = record {
     made = made_more;
     awaited = awaited_more;
     is_pending = pending_new;
     unique = unique_new;
+    counted = counted_new;
     count = count_new it.made it.awaited refl refl;
   }
 
@@ -276,6 +306,7 @@ RequestsAre_other before event calls no_made no_awaited h =
       awaited = λ call n among does. rw made (h.awaited call n among does);
       is_pending = λ name request is. h.is_pending name request (sym (same name) ∙ is);
       unique = λ name other request own is are. h.unique name other request own (sym (same name) ∙ is) (sym (same other) ∙ are);
+      counted = made ∙ h.counted;
       count = rw (made, awaited) h.count;
     }
 
@@ -285,5 +316,6 @@ RequestsAre_none = record {
   awaited = λ call n among does. absurd (none_of_none (Awaits n) call among does);
   is_pending = λ name request is. cc;
   unique = λ name other request own is are same. cc;
+  counted = refl;
   count = refl;
 }

@@ -8,8 +8,8 @@ use Rattle.rma_call.specs.declared.rma.RmaCall.{RmaCall}
 use Rattle.rma_call.specs.declared.what.What.TheVariants as what
 use Rattle.rma_datatype.specs.declared.basic.Basic.{Basic}
 use Rattle.rma_judge.specs.Names.{world}
-use Rattle.rma_kept.specs.Naming.{SomeCall, NoCall, NamesComm, DeclaresWith, Declares, NamesWindow, CreatesAs, Creates, Frees, Attaches, GivesMemory, NamesRank, NamesGroup, AreRanks}
-use Rattle.rma_kept.specs.Requests.{has_request, may_make, receives, received_by, Makes, Awaits}
+use Rattle.rma_kept.specs.Naming.{SomeCall, NoCall, NamesComm, NamesRoot, DeclaresWith, Declares, NamesWindow, CreatesAs, Creates, Frees, Attaches, GivesMemory, NamesRank, NamesGroup, AreRanks}
+use Rattle.rma_kept.specs.Requests.{has_request, may_make, receives, received_by, Makes, Awaits, made_in}
 use Rattle.rma_kept.specs.Touched.{own_layouts, buffers_of, IsInSpace, IsNearStart, writes_target, is_accumulate, IsFilledBy}
 
 -- A call of a rank, among so many logs, is as it may be after these earlier calls of the rank.
@@ -44,6 +44,8 @@ pub record IsKeptAfter (rank logs : ℕ) (earlier : List Call) (call : Call) : T
   pub request_may_be : (number : ℕ) → Makes number call → may_make call.what ≡ true
   -- the request that it makes was made by no earlier call
   pub request_is_new : (number : ℕ) → Makes number call → NoCall (Makes number) earlier
+  -- the number of the request that it makes is how many requests the earlier calls make
+  pub request_is_next : (number : ℕ) → Makes number call → number ≡ made_in earlier
   -- the request for which it waits was made by an earlier call, and none waited for it
   pub request_is_there : (number : ℕ) → Awaits number call → SomeCall (Makes number) earlier × NoCall (Awaits number) earlier
   -- a message came where it waits for a receive, and none where it waits for another request
@@ -54,6 +56,8 @@ pub record IsKeptAfter (rank logs : ℕ) (earlier : List Call) (call : Call) : T
   pub comm_is_new : (comm : List ℕ) → Declares comm call → (comm ≢ world) × NoCall (Declares comm) earlier
   -- the rank is a member of the communicator that it declares
   pub comm_has_rank : (comm members : List ℕ) → DeclaresWith comm members call → IsTrue (has_number rank members)
+  -- the root that it names is a member of its communicator: that of all ranks, or one that an earlier call declares with the root
+  pub root_is_member : (comm : List ℕ) (root : ℕ) → NamesRoot comm root call → (comm ≡ world) ⊎ ((members : List ℕ) × SomeCall (DeclaresWith comm members) earlier × IsTrue (has_number root members))
 
 -- The calls of a rank, among so many logs, are kept: each is as it may be after those before it.
 abbrev pub AreKept : ℕ → ℕ → List Call → Type 0

@@ -69,6 +69,10 @@ GivesMemory address bytes call = (names_of call.what).memory ≡ Some (address, 
 abbrev pub NamesRank : ℕ → Call → Type 0
 NamesRank rank call = (names_of call.what).rank ≡ Some rank
 
+-- the call names the rank as its root, in this communicator
+abbrev pub NamesRoot : List ℕ → ℕ → Call → Type 0
+NamesRoot comm rank call = (names_of call.what).root ≡ Some (comm, rank)
+
 -- the call names these ranks as a group: members, origins or targets
 abbrev pub NamesGroup : List ℕ → Call → Type 0
 NamesGroup ranks call = (names_of call.what).group ≡ Some ranks

@@ -1,5 +1,5 @@
 -- The requests of the calls of a rank, by their numbers (MPI 4.0, "Point-to-Point Communication").
-use Rattle.std.specs.Prelude.{◌≡◌, ℕ, Bool, true, false, Option, Some, None}
+use Rattle.std.specs.Prelude.{◌≡◌, ℕ, Bool, true, false, not, ◌&&◌, List, count_by, Option, Some, None, is_some}
 use Rattle.rma_call.specs.Call.{Call}
 use Rattle.rma_call.specs.declared.message.MessageCall.TheVariants.{Irecv, Isend, Wait}
 use Rattle.rma_call.specs.declared.message.Received.{Received}
@@ -43,3 +43,11 @@ Makes number call = (waits call.what ≡ false) × (call.request ≡ Some number
 -- the call waits for the request of this number
 abbrev pub Awaits : ℕ → Call → Type 0
 Awaits number call = (waits call.what ≡ true) × (call.request ≡ Some number)
+
+-- whether the call makes a request
+abbrev pub makes_one : Call → Bool
+makes_one call = not (waits call.what) && is_some call.request
+
+-- how many requests some calls make
+abbrev pub made_in : List Call → ℕ
+made_in calls = count_by makes_one calls
