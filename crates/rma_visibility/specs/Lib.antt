@@ -1,0 +1,2 @@
+pub mod Visibility
+pub mod inside
