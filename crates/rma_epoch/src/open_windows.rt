@@ -350,7 +350,9 @@ fn take_on(
         opening: own.opening(what),
         closes: own.closed_by(what),
     };
-    let reason = own.take_allowed(place.settled, number, CallRef { what, ..call })?;
+    let (opening, closes) = (placement.opening, placement.closes);
+    let call = CallRef { what, ..call };
+    let reason = own.take_allowed(place.settled, opening, closes, number, call)?;
     Ok(Step { reason, placement })
 }
 

@@ -10,7 +10,7 @@ ghost use Rattle.rma_call.specs.declared.epoch.EpochCall.TheVariants.{Fence};
 ghost use Rattle.rma_window.specs.Windows.{Window as RunWindow};
 ghost use Rattle.rma_open.specs.declared.settled.Settled.{Settled};
 ghost use Rattle.rma_open.specs.Open.{frees, is_exclusive, is_left, is_used, open_after, is_unclosed};
-ghost use Rattle.rma_open.specs.Reason.{reason_in, start_reaches};
+ghost use Rattle.rma_open.specs.Reason.{reason_in};
 ghost use Rattle.rma_open.specs.Reaching.{by_phase, by_start, closed_by, opening_in, reaching};
 ghost use Rattle.rma_open.specs.inside.Held.{open_of};
 ghost use Rattle.rma_open.specs.inside.Member.{member_reason};
@@ -60,7 +60,7 @@ impl OpenEpochs {
     }
 
     /// Takes the call of this number, which is the next one on the window, unless it stands in no epoch that allows it: then it
-    /// answers why, and nothing changes. This is settled of the call.
+    /// answers why, and nothing changes. This is settled of the call, and it stands in this epoch and closes what this call opened.
     ///
     /// # Errors
     ///
@@ -68,9 +68,13 @@ impl OpenEpochs {
     pub fn take_allowed(
         &mut self,
         settled: Settled,
+        opening: Option<Opening>,
+        closes: Option<u32>,
         number: u32,
         call: CallRef<'_>,
     ) -> Result<Option<EpochReason>, Memory>
+        requires opening { opening ≡ opening_in (open_of self.old) (call_of call).what }
+        requires closes { closes ≡ closed_by (open_of self.old) (call_of call).what }
         ensures reason { IfOk result (λ reason. (windows : List RunWindow) → settled ≡ settled_by windows (call_of call.entry).what
             → reason ≡ reason_in windows (open_of self.old) (call_of call.entry).what call.entry.request) }
         ensures taken { IfOk result (λ reason. (past : List (ℕ × What)) → open_of self.old ≡ open_after past
@@ -79,23 +83,27 @@ impl OpenEpochs {
         if settled.not_member {
             return Ok(Some(EpochReason::NotMember));
         }
-        self.take_among(settled, number, call)
+        self.take_among(settled, opening, closes, number, call)
     }
 
     /// The same where all ranks that the call names have a part of the window.
     fn take_among(
         &mut self,
         settled: Settled,
+        opening: Option<Opening>,
+        closes: Option<u32>,
         number: u32,
         call: CallRef<'_>,
     ) -> Result<Option<EpochReason>, Memory>
+        requires opening { opening ≡ opening_in (open_of self.old) (call_of call).what }
+        requires closes { closes ≡ closed_by (open_of self.old) (call_of call).what }
         ensures reason { IfOk result (λ reason. reason ≡ reason_among settled (open_of self.old) (call_of call.entry).what call.entry.request) }
         ensures taken { IfOk result (λ reason. (past : List (ℕ × What)) → open_of self.old ≡ open_after past
             → open_of self.new ≡ open_after (past_with reason (number, (call_of call.entry).what) past)) }
     {
         match call.what {
-            WhatRef::Epoch(epoch) => self.take_epoch(number, epoch),
-            WhatRef::Rma(access) => Ok(self.take_access(settled, access, call.request)),
+            WhatRef::Epoch(epoch) => self.take_epoch(closes, number, epoch),
+            WhatRef::Rma(access) => Ok(self.take_access(settled, opening, access, call.request)),
             WhatRef::Window(window) => Ok(self.take_window(window)),
             _ => Ok(None),
         }
@@ -105,14 +113,16 @@ impl OpenEpochs {
     fn take_access(
         &mut self,
         settled: Settled,
+        opening: Option<Opening>,
         access: RmaRef<'_>,
         request: Option<u32>,
     ) -> Option<EpochReason>
+        requires { opening ≡ opening_in (open_of self.old) (Rma (access_of access)) }
         ensures reason { result ≡ reason_among settled (open_of self.old) (Rma (access_of access.entry)) request }
         ensures taken { (number : ℕ) (past : List (ℕ × What)) → open_of self.old ≡ open_after past
             → open_of self.new ≡ open_after (past_with result (number, Rma (access_of access.entry)) past) }
     {
-        let reason = self.access_reason(settled, access, request);
+        let reason = self.access_reason(settled, opening, access, request);
         if reason.is_some() {
             return reason;
         }
@@ -134,7 +144,13 @@ impl OpenEpochs {
     }
 
     /// Takes a call that opens, completes or closes an epoch, unless it has a reason.
-    fn take_epoch(&mut self, number: u32, call: &EpochCall) -> Result<Option<EpochReason>, Memory>
+    fn take_epoch(
+        &mut self,
+        closes: Option<u32>,
+        number: u32,
+        call: &EpochCall,
+    ) -> Result<Option<EpochReason>, Memory>
+        requires { closes ≡ closed_by (open_of self.old) (Sync (Epoch call.now)) }
         ensures reason { IfOk result (λ reason. reason ≡ member_reason (open_of self.old) call.now) }
         ensures taken { IfOk result (λ reason. (past : List (ℕ × What)) → open_of self.old ≡ open_after past
             → open_of self.new ≡ open_after (past_with reason (number, Sync (Epoch call.now)) past)) }
@@ -142,7 +158,7 @@ impl OpenEpochs {
         if let EpochCall::Fence { assertions, .. } = call {
             return Ok(self.take_fence(number, *assertions));
         }
-        let reason = self.member_reason(call);
+        let reason = self.member_reason(closes, call);
         if reason.is_some() {
             return Ok(reason);
         }
@@ -226,7 +242,7 @@ impl OpenEpochs {
     fn reaching(&self, target: Rank) -> Option<Opening>
         ensures { result ≡ reaching (open_of self.now) target }
     {
-        if let Some(lock) = self.locks.get(&target.0) {
+        if let Some(lock) = self.lock_on(target) {
             return Some(Opening {
                 kind: EpochKind::Lock {
                     exclusive: lock.exclusive,
@@ -280,7 +296,7 @@ impl OpenEpochs {
         match call {
             EpochCall::Fence { .. } => self.phase.map(|phase| phase.opener),
             EpochCall::Complete { .. } => self.start.as_ref().map(|start| start.opener),
-            EpochCall::Unlock { target, .. } => self.locks.get(&target.0).map(|lock| lock.opener),
+            EpochCall::Unlock { target, .. } => self.lock_on(*target).map(|lock| lock.opener),
             EpochCall::UnlockAll { .. } => self.lock_all,
             EpochCall::Expwait { .. } => self.post,
             EpochCall::Post { .. } => None,
@@ -293,6 +309,16 @@ impl OpenEpochs {
             EpochCall::FlushLocalAll { .. } => None,
             EpochCall::Sync { .. } => None,
         }
+    }
+
+    /// The lock of a target. Nothing is looked up while none is held.
+    fn lock_on(&self, target: Rank) -> Option<HeldLock>
+        ensures { result ≡ (open_of self.now).lock_on target.0 }
+    {
+        if self.locks.is_empty() {
+            return None;
+        }
+        self.locks.get(&target.0).copied()
     }
 
     /// Whether some target is locked by a lock of its own.
@@ -342,17 +368,6 @@ impl OpenEpochs {
         ensures { result ≡ is_used (open_of self.now) }
     {
         is_used(self.phase)
-    }
-
-    /// Whether a start reaches the target, or, for no target, whether one is open.
-    pub(crate) fn start_reaches(&self, target: Option<Rank>) -> bool
-        ensures { result ≡ start_reaches (open_of self.now) target }
-    {
-        match (&self.start, target) {
-            (Some(start), Some(target)) => start.targets.has(target),
-            (Some(_), None) => true,
-            (None, _) => false,
-        }
     }
 
     /// Whether some epoch is open that has to be closed.
