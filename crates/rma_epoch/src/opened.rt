@@ -1,7 +1,5 @@
 //! The epochs that calls open.
-ghost use Rattle.std.specs.Prelude.{◌≡◌, IfOk, Some, None};
-ghost use Rattle.std.specs.Option.{option_and_then};
-ghost use Rattle.rma_call.specs.Call.{what_of};
+ghost use Rattle.std.specs.Prelude.{◌≡◌, IfOk};
 ghost use Rattle.rma_call.specs.declared.what.What.TheVariants.{Sync};
 ghost use Rattle.rma_call.specs.declared.what.SyncCall.TheVariants as sync;
 ghost use Rattle.rma_open.specs.Open.{is_exclusive};
@@ -9,41 +7,16 @@ ghost use Rattle.rma_epoch.specs.Table.{opened_on};
 
 use crate::epoch::{Epoch, Targets};
 use rma_base::Memory;
-use rma_call::{EpochCall, LockKind, WhatRef};
+use rma_call::{EpochCall, LockKind};
 use rma_open::EpochKind;
 use rma_window::WindowId;
 
 /// The epoch that the call of this number opens on this window of the run, if it opens one.
 pub(crate) fn opened(
-    number: u32,
-    what: WhatRef<'_>,
-    window: Option<WindowId>,
+    opener: u32,
+    call: &EpochCall,
+    window: WindowId,
 ) -> Result<Option<Epoch>, Memory>
-    ensures { IfOk result (λ epoch. epoch ≡ option_and_then (opened_on number (what_of what.entry)) window) }
-{
-    match window {
-        Some(window) => opened_on(number, what, window),
-        None => Ok(None),
-    }
-}
-
-/// The same on a window of the run.
-fn opened_on(number: u32, what: WhatRef<'_>, window: WindowId) -> Result<Option<Epoch>, Memory>
-    ensures { IfOk result (λ epoch. epoch ≡ opened_on number (what_of what.entry) window) }
-{
-    match what {
-        WhatRef::Epoch(call) => opened_by_epoch(number, call, window),
-        WhatRef::Rma(_) => Ok(None),
-        WhatRef::Window(_) => Ok(None),
-        WhatRef::Frame(_) => Ok(None),
-        WhatRef::Message(_) => Ok(None),
-        WhatRef::Moving(_) => Ok(None),
-        WhatRef::Local(_) => Ok(None),
-    }
-}
-
-/// The same of a call that opens, completes or closes an epoch.
-fn opened_by_epoch(opener: u32, call: &EpochCall, window: WindowId) -> Result<Option<Epoch>, Memory>
     ensures { IfOk result (λ epoch. epoch ≡ opened_on opener (Sync (sync.Epoch call.now)) window) }
 {
     let (kind, targets) = match call {

@@ -3,13 +3,15 @@ ghost use Rattle.std.specs.Prelude.{◌≡◌, ◌++◌, [], map, IfOk, OnOk, tr
 ghost use Rattle.std.specs.List.{cons_option};
 ghost use Rattle.std.specs.Option.{option_and_then, option_map_or};
 ghost use Rattle.rma_call.specs.Call.{what_of};
+ghost use Rattle.rma_call.specs.declared.what.What.TheVariants.{Sync};
+ghost use Rattle.rma_call.specs.declared.what.SyncCall.TheVariants as sync;
 ghost use Rattle.rma_epoch.specs.Table.{Ascend, InOrder, epoch_at, index_in, is_opened_by, opened_on};
 ghost use Rattle.rma_epoch.specs.inside.Epochs.{closed_with, epochs_with, index_of_opening, placed_with};
 
 use crate::epoch::{Epoch, Placed};
 use crate::opened::opened;
 use rma_base::Memory;
-use rma_call::WhatRef;
+use rma_call::{EpochCall, WhatRef};
 use rma_open::Opening;
 use rma_window::WindowId;
 use std::alloc::Global;
@@ -131,7 +133,34 @@ impl Placements {
         ensures epochs { OnOk result (self.new.epochs.items ≡ self.old.epochs.items ++ cons_option (option_and_then (opened_on number (what_of what.entry)) window) []) }
         ensures placed { OnOk result (self.new.placed.items ≡ self.old.placed.items) }
     {
-        if let Some(epoch) = opened(number, what, window)? {
+        match window {
+            Some(window) => self.open_on(number, what, window),
+            None => Ok(()),
+        }
+    }
+
+    /// The same on a window of the run.
+    fn open_on(&mut self, number: u32, what: WhatRef<'_>, window: WindowId) -> Result<(), Memory>
+        ensures epochs { OnOk result (self.new.epochs.items ≡ self.old.epochs.items ++ cons_option (opened_on number (what_of what.entry) window) []) }
+        ensures placed { OnOk result (self.new.placed.items ≡ self.old.placed.items) }
+    {
+        match what {
+            WhatRef::Epoch(call) => self.open_by(number, call, window),
+            WhatRef::Rma(_) => Ok(()),
+            WhatRef::Window(_) => Ok(()),
+            WhatRef::Frame(_) => Ok(()),
+            WhatRef::Message(_) => Ok(()),
+            WhatRef::Moving(_) => Ok(()),
+            WhatRef::Local(_) => Ok(()),
+        }
+    }
+
+    /// The same for a call that opens, completes or closes an epoch.
+    fn open_by(&mut self, number: u32, call: &EpochCall, window: WindowId) -> Result<(), Memory>
+        ensures epochs { OnOk result (self.new.epochs.items ≡ self.old.epochs.items ++ cons_option (opened_on number (Sync (sync.Epoch call.now)) window) []) }
+        ensures placed { OnOk result (self.new.placed.items ≡ self.old.placed.items) }
+    {
+        if let Some(epoch) = opened(number, call, window)? {
             self.last = self.epochs.len();
             self.epochs.push(epoch)?;
         }
