@@ -35,7 +35,7 @@ unfoldable pub IsPublished : Links → Spans → Rank → WindowId → Point →
 IsPublished links spans rank window done b =
     (v : ℕ) × Contains (publishing_of spans rank window) v × IsAtOrBefore links done (entry rank v) × IsBeforeStart links (entry rank v) b
 
--- nothing but its end is needed
+-- neither is needed, as in every other case
 unfoldable pub NeedsNeither : List Window → Access → Access → Type 0
 NeedsNeither windows a b = ((window : WindowId) → ¬ NeedsVisible windows a b window) × ((window : WindowId) → ¬ NeedsPublished windows a b window)
 
@@ -50,7 +50,8 @@ IsDoneBefore links windows spans a b done =
 unfoldable pub Before : Links → List Window → Spans → Access → Access → Type 0
 Before links windows spans a b = (done : Point) × (a.done ≡ Some done) × IsDoneBefore links windows spans a b done
 
--- the points that this asks for are reached: the end of the first access, the starts of the second, and those of the listed calls
+-- the points that this asks for are reached: where the first access is done, the starts of the second, the returns of the listed calls
+-- before the second that make updates visible, and the entries of those that publish stores
 pub record AreReached (points : List ℕ) (spans : Spans) (a b : Access) : Type 0 where
   pub done : (p : Point) → a.done ≡ Some p → IsReached points p
   pub starts : All (IsReached points) b.starts

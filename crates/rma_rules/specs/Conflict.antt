@@ -33,7 +33,7 @@ StoreOfGet a b = (is_store a.kind ≡ true) × OnlyReads b × ShareByte a.runs b
 abbrev pub StoreOfUpdate : Access → Access → Type 0
 StoreOfUpdate a b = (is_store a.kind ≡ true) × (is_update b.kind ≡ true) × ShareByte a.runs b.runs
 
--- a store beside what an update writes through a window of the separate model, in the rank's part of that window
+-- a store that shares no byte with an update, but lies in the rank's part of the window of the separate model through which that is made
 abbrev pub StoreBesideUpdate : List Window → Access → Access → Type 0
 StoreBesideUpdate windows a b =
     (is_store a.kind ≡ true) × (is_update b.kind ≡ true) × IsSeparateAt windows b × (¬ ShareByte a.runs b.runs) × MeetsPart windows a b.window
@@ -72,7 +72,7 @@ AreUpdatesApart a b = (is_update a.kind ≡ true) × (is_update b.kind ≡ true)
 abbrev pub UpdateOfUpdate : Access → Access → Type 0
 UpdateOfUpdate a b = AreUpdatesApart a b × ShareByte a.runs b.runs
 
--- they write no byte that both write, but one writes in the rank's part of the other's window, and one of the windows has the separate model
+-- they share no byte, but one writes in the rank's part of the other's window, and one of the windows has the separate model
 abbrev pub UpdateBesideUpdate : List Window → Access → Access → Type 0
 UpdateBesideUpdate windows a b =
     AreUpdatesApart a b × (IsSeparateAt windows a ⊎ IsSeparateAt windows b) × (¬ ShareByte a.runs b.runs) × (MeetsPart windows a b.window ⊎ MeetsPart windows b a.window)
@@ -92,7 +92,7 @@ ConflictAtTarget windows a b Buffer = ⊥
 
 -- ---- two local accesses or uses of buffers
 
--- one of two accesses writes what the other touches, and not both are local: those of one rank are ordered by its program
+-- one of two accesses writes what the other touches, and not both are local: local accesses of a rank are ordered by its program
 abbrev pub BufferInUse : Access → Access → Type 0
 BufferInUse a b =
     ((is_store a.kind ≡ true) ⊎ (is_store b.kind ≡ true)) × (¬ ((is_local a.kind ≡ true) × (is_local b.kind ≡ true))) × ShareByte a.runs b.runs
@@ -107,7 +107,7 @@ ConflictAtCaller a b Buffer = BufferInUse a b
 
 -- ---- any two accesses
 
--- a row that speaks of the first access as one of the caller's and of the second as one of a target
+-- the first is a local access or the use of a buffer, the second an access of a target, and they conflict
 abbrev pub OfCallerAndTarget : List Window → Access → Access → Rule → Type 0
 OfCallerAndTarget windows a b rule = (is_own a.kind ≡ true) × (is_target b.kind ≡ true) × ConflictsWithTarget windows a b rule
 

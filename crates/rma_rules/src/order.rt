@@ -17,7 +17,12 @@ use rma_base::{Point, Rank};
 use rma_clock::Clocks;
 use rma_window::{WindowId, Windows};
 
-/// Whether an access is complete, and visible to another one of the same memory, before that starts. It takes no memory.
+/// Whether an access is complete, and visible to another one of the same memory, before that starts.
+///
+/// An update through a window of the separate model, beside an access of the rank's own, is so where a call of that rank before
+/// the access makes it visible ([`Spans::add_visible`]); a store, beside an access of a target through such a window, where a call
+/// publishes it ([`Spans::add_publishing`]); and any other access where it is done before a start of the other. One that is never
+/// done is before none. It takes no memory; the clocks are asked once or twice, or a logarithm of the publishing calls.
 pub fn before<C: Clocks>(
     a: &Access<'_>,
     b: &Access<'_>,
