@@ -11,7 +11,7 @@ use Rattle.rma_base.specs.declared.form_reason.FormReason.TheVariants as reason
 use Rattle.rma_base.specs.declared.rank.Rank.{Rank}
 use Rattle.rma_buffer.proofs.ElementLemmas.{all_first, all_same}
 use Rattle.rma_buffer.specs.Calls.{layout_in, moved_count, rma_call_of}
-use Rattle.rma_buffer.specs.Layouts.{is_same, shares_byte}
+use Rattle.rma_buffer.specs.Layouts.{is_same, layout_of, shares_byte}
 use Rattle.rma_buffer.specs.Operands.{kind_of}
 use Rattle.rma_buffer.specs.Rules.{are_committed, basic_in, basics_in, buffers_reason, callers, combined, differs, first_that_holds, have_many_blocks, is_allowed, is_basic_that, is_no_op, is_refused, leave_space, overlap, reason_at_target, touched_count, touched_in, uses_origin, written}
 use Rattle.rma_buffer.specs.declared.operand.Operand.{Operand}
@@ -36,8 +36,8 @@ use Rattle.rma_typemap.proofs.SignatureLemmas.{copies_suc, copies_zero}
 use Rattle.rma_typemap.specs.Bounds.{signature}
 use Rattle.rma_typemap.specs.Signature.{copies}
 use Rattle.rma_typemap.specs.Typemap.{Typemap, element}
-use Rattle.rma_kept.specs.Touched.{IsFilledBy, IsInSpace, IsNearStart, LiesIn, is_accumulate, own_layouts, writes_target}
-use Rattle.rma_kept.proofs.LayoutLemmas.{filled_by, in_space, near_start, no_runs, overlaps_are}
+use Rattle.rma_kept.specs.Touched.{HasCanonicalRuns, IsFilledBy, IsInSpace, IsNearStart, LiesIn, is_accumulate, own_layouts, writes_target}
+use Rattle.rma_kept.proofs.LayoutLemmas.{canonical, filled_by, in_space, near_start, no_runs, overlaps_are}
 
 -- ---- the reasons that do not hold
 
@@ -140,6 +140,8 @@ module _ (maps : List Typemap) (m : ℕ) (it : Operand) where
 pub record IsGoodAccess (access : RmaCall) : Type 0 where
   pub near : IsNearStart access.at_target
   pub own : All IsInSpace (own_layouts access)
+  pub target_canonical : HasCanonicalRuns access.at_target
+  pub own_canonical : All HasCanonicalRuns (own_layouts access)
   pub nothing : access.target ≡ None → All (λ (layout : Layout). layout.runs ≡ []) (access.at_target ∷ own_layouts access)
   pub once : writes_target access.kind ≡ true → access.at_target.overlaps ≡ false
   pub element : is_accumulate access.kind ≡ true → access.at_target.runs ≢ [] → (basic : Basic) × IsFilledBy basic access.at_target
@@ -190,25 +192,21 @@ module _ (origins : List Origin) (line : RmaLine) (it : Operands) where
     no_bytes : (one : Operand) → (laid one).runs ≡ []
     no_bytes one = no_runs (touched_in (typemaps origins) many one) (nothing_touched (typemaps origins) many one none)
 
-    all_empty : All (λ (layout : Layout). layout.runs ≡ []) (laid it.target ∷ map laid (callers kind it))
-    all_empty = All-cons (λ (layout : Layout). layout.runs ≡ []) (laid it.target) (map laid (callers kind it)) (no_bytes it.target) (each (callers kind it))
-      where
-        each : (them : List Operand) → All (λ (layout : Layout). layout.runs ≡ []) (map laid them)
-        each [] = All-nil (λ (layout : Layout). layout.runs ≡ [])
-        each (one ∷ them) = All-cons (λ (layout : Layout). layout.runs ≡ []) (laid one) (map laid them) (no_bytes one) (each them)
+    -- what holds of each layout without bytes holds of all
+    all_of : (P : Layout → Type 0) → ((layout : Layout) → layout.runs ≡ [] → P layout) → (them : List Operand) → All P (map laid them)
+    all_of P holds [] = All-nil P
+    all_of P holds (one ∷ them) = All-cons P (laid one) (map laid them) (holds (laid one) (no_bytes one)) (all_of P holds them)
 
     target_empty : (rma_call_of origins line it).at_target.runs ≡ []
     target_empty = ap (λ (layout : Layout). layout.runs) target_is ∙ no_bytes it.target
 
-    all_in : (them : List Operand) → All IsInSpace (map laid them)
-    all_in [] = All-nil IsInSpace
-    all_in (one ∷ them) = All-cons IsInSpace (laid one) (map laid them) (rw (no_bytes one) (All-nil (LiesIn (pos 0) (pos address_limit)))) (all_in them)
-
     none_good : IsGoodAccess (rma_call_of origins line it)
     none_good = record {
       near = rw target_empty (All-nil (LiesIn (neg_ℤ (pos address_limit)) (pos address_limit)));
-      own = rw own_are (all_in (callers kind it));
-      nothing = λ untargeted. rw (target_is, own_are) all_empty;
+      own = rw own_are (all_of IsInSpace (λ layout none. rw none (All-nil (LiesIn (pos 0) (pos address_limit)))) (callers kind it));
+      target_canonical = rw target_empty tt;
+      own_canonical = rw own_are (all_of HasCanonicalRuns (λ layout none. rw none tt) (callers kind it));
+      nothing = λ untargeted. rw (target_is, own_are) (all_of (λ layout. layout.runs ≡ []) (λ layout none. none) (it.target ∷ callers kind it));
       once = λ writes. ap (λ (layout : Layout). layout.overlaps) target_is ∙ overlaps_are (touched_in (typemaps origins) many it.target)
           ∙ ap shares_byte (nothing_touched (typemaps origins) many it.target none);
       element = λ accumulates some. absurd (some target_empty);
@@ -235,12 +233,13 @@ module _ (origins : List Origin) (line : RmaLine) (it : Operands) where
         let both = or_parts (not (is_all_in Target at_target)) (list_any leaves (callers kind it)) parts.1 in
         (not-false (is_all_in Target at_target) both.0, both.1)
 
-    each_in : (them : List Operand) → list_any leaves them ≡ false → All IsInSpace (map laid them)
-    each_in [] none = All-nil IsInSpace
-    each_in (one ∷ them) none =
+    -- what holds of the layout of all elements in the space holds of each
+    each_in : (P : Layout → Type 0) → ((es : List (Basic × ℤ)) → is_all_in Local es ≡ true → P (layout_of es)) → (them : List Operand) → list_any leaves them ≡ false → All P (map laid them)
+    each_in P holds [] none = All-nil P
+    each_in P holds (one ∷ them) none =
         let both = or_parts (leaves one) (list_any leaves them) none in
-        All-cons IsInSpace (laid one) (map laid them)
-        (in_space (touched_in (typemaps origins) many one) (not-false (is_all_in Local (touched_in (typemaps origins) many one)) both.0)) (each_in them both.1)
+        All-cons P (laid one) (map laid them)
+        (holds (touched_in (typemaps origins) many one) (not-false (is_all_in Local (touched_in (typemaps origins) many one)) both.0)) (each_in P holds them both.1)
 
     written_is : (k : RmaKind) → writes_target k ≡ true → written k it ≡ it.target
     written_is Put writes = refl
@@ -274,7 +273,9 @@ module _ (origins : List Origin) (line : RmaLine) (it : Operands) where
     target_good : IsGoodAccess (rma_call_of origins line it)
     target_good = record {
       near = rw target_is (near_start at_target in_place.0);
-      own = rw own_are (each_in (callers kind it) in_place.1);
+      own = rw own_are (each_in IsInSpace in_space (callers kind it) in_place.1);
+      target_canonical = rw target_is (canonical Target at_target in_place.0);
+      own_canonical = rw own_are (each_in HasCanonicalRuns (canonical Local) (callers kind it) in_place.1);
       nothing = λ untargeted. absurd (targeted (sym goes_to ∙ untargeted));
       once = λ writes. ap (λ (layout : Layout). layout.overlaps) target_is ∙ overlaps_are at_target ∙ once_of (ap writes_target (sym kind_is) ∙ writes);
       element = λ accumulates some. rw target_is (filled_of (ap is_accumulate (sym kind_is) ∙ accumulates) (λ none. some (ap (λ (layout : Layout). layout.runs) target_is ∙ none)));

@@ -194,7 +194,9 @@ module _ (rank logs lines : ℕ) (events : List Event) (event : Event) (calls : 
     rank_has_log = of_log;
     group_has_logs = of_logs;
     buffers_in_space = is.touches.buffers;
+    buffers_are_canonical = is.touches.canonical;
     target_near_start = λ access does. (is.touches.access access does).near;
+    target_is_canonical = λ access does. (is.touches.access access does).target_canonical;
     touches_nothing = λ access does untargeted. (is.touches.access access does).nothing untargeted;
     writes_once = λ access does writes. (is.touches.access access does).once writes;
     has_element = λ access does accumulates some. (is.touches.access access does).element accumulates some;

@@ -6,7 +6,7 @@ use Rattle.std.proofs.lemmas.Bool.{and_cases, and_parts, or_parts}
 use Rattle.std.proofs.lemmas.Int.{ints}
 use Rattle.std.proofs.lemmas.List.Elements.{All-cons, All-head, All-nil, All-tail}
 use Rattle.rma_base.specs.Limits.{address_limit}
-use Rattle.rma_buffer.proofs.LayoutLemmas.{element_is}
+use Rattle.rma_buffer.proofs.LayoutLemmas.{element_is, runs_canonical}
 use Rattle.rma_buffer.specs.Layouts.{layout_of, meet, run_of, runs_of, shares_byte, with_run}
 use Rattle.rma_bytes.specs.declared.run.Run.{Run}
 use Rattle.rma_datatype.specs.Basic.{basic_size}
@@ -17,7 +17,7 @@ use Rattle.rma_layout.specs.Refusal.{is_all_in, is_between, lowest}
 use Rattle.rma_layout.specs.declared.space.Space.{Space}
 use Rattle.rma_layout.specs.declared.space.Space.TheVariants.{Local, Target}
 use Rattle.rma_typemap.specs.Typemap.{end_of, start_of}
-use Rattle.rma_kept.specs.Touched.{IsFilledBy, IsInSpace, IsMultipleOf, IsNearStart, LiesIn}
+use Rattle.rma_kept.specs.Touched.{HasCanonicalRuns, IsFilledBy, IsInSpace, IsMultipleOf, IsNearStart, LiesIn}
 use Rattle.rma_kept.proofs.RunLemmas.{Apart, AreApart, Filled, with_run_filled, with_run_in}
 
 abbrev with_element : List Run → Basic × ℤ → List Run
@@ -44,6 +44,10 @@ in_space es within = runs_in Local es within
 
 pub near_start : (es : List (Basic × ℤ)) → is_all_in Target es ≡ true → IsNearStart (layout_of es)
 near_start es within = runs_in Target es within
+
+pub canonical : (space : Space) (es : List (Basic × ℤ)) → is_all_in space es ≡ true → HasCanonicalRuns (layout_of es)
+unfolding layout_of
+canonical space es within = runs_canonical space es within
 
 -- no elements have no bytes
 pub no_runs : (es : List (Basic × ℤ)) → es ≡ [] → (layout_of es).runs ≡ []

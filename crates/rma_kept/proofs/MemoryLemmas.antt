@@ -1,29 +1,32 @@
 -- What good calls touch.
-use Rattle.std.proofs.Common.{◌≡◌, List, [], All, Option, Some, None, option_map, refl, subst}
+use Rattle.std.proofs.Common.{◌≡◌, ℤ, true, List, [], All, Option, Some, None, option_map, refl, subst}
 use Rattle.std.proofs.lemmas.List.Elements.{All-cons, All-nil}
 use Rattle.rma_buffer.proofs.LayoutLemmas.{all_in}
 use Rattle.rma_buffer.specs.Calls.{local_call_of, rma_call_of}
+use Rattle.rma_buffer.specs.Layouts.{layout_of}
 use Rattle.rma_buffer.specs.Operands.{entries_in, kind_of, operand_of, operands_of}
 use Rattle.rma_buffer.specs.Rules.{buffers_reason, layout_reason, memory_reason, touched_in}
 use Rattle.rma_buffer.specs.declared.operand.Operand.{Operand}
 use Rattle.rma_buffer.specs.declared.operand.Operands.{Operands}
+use Rattle.rma_bytes.specs.Layout.{Layout}
 use Rattle.rma_call.specs.declared.local.LocalAccess.{LocalAccess}
 use Rattle.rma_call.specs.declared.rma.RmaCall.{RmaCall}
 use Rattle.rma_call.specs.declared.what.What.{What}
 use Rattle.rma_call.specs.declared.what.What.TheVariants as what
+use Rattle.rma_datatype.specs.declared.basic.Basic.{Basic}
 use Rattle.rma_form.specs.declared.event.Event.{Event}
 use Rattle.rma_form.specs.declared.event.Event.TheVariants.{Header, End, Call, Datatype, Rma, Local}
 use Rattle.rma_judge.specs.Calls.{what_in}
 use Rattle.rma_judge.specs.Judging.{type_reason}
-use Rattle.rma_layout.specs.Refusal.{refusal}
+use Rattle.rma_layout.specs.Refusal.{is_all_in, refusal}
 use Rattle.rma_layout.specs.declared.fault.LayoutFault.{LayoutFault}
 use Rattle.rma_layout.specs.declared.space.Space.TheVariants.{Local as LocalSpace}
 use Rattle.rma_type.specs.Table.{Table, typemaps}
 use Rattle.rma_type.specs.declared.origin.Origin.{Origin}
 use Rattle.std.specs.Option.{option_and_then}
-use Rattle.rma_kept.specs.Touched.{IsInSpace, buffers_of}
+use Rattle.rma_kept.specs.Touched.{HasCanonicalRuns, IsInSpace, buffers_of}
 use Rattle.rma_kept.proofs.AccessLemmas.{IsGoodAccess, access_good}
-use Rattle.rma_kept.proofs.LayoutLemmas.{in_space}
+use Rattle.rma_kept.proofs.LayoutLemmas.{canonical, in_space}
 
 -- ---- the memory of a local access
 
@@ -31,22 +34,27 @@ not_refused : (found : Option LayoutFault) → option_map layout_reason found �
 not_refused None none = refl
 not_refused (Some fault) none = cc
 
-local_in : (origins : List Origin) (access : LocalAccess) (it : Operand) → memory_reason origins it ≡ None → IsInSpace (local_call_of origins access it).layout
+-- what holds of the layout of all elements in the space holds of it
+local_in : (P : Layout → Type 0) → ((es : List (Basic × ℤ)) → is_all_in LocalSpace es ≡ true → P (layout_of es)) → (origins : List Origin) (access : LocalAccess) (it : Operand)
+    → memory_reason origins it ≡ None → All P (buffers_of (what.Local (local_call_of origins access it)))
 unfolding memory_reason local_call_of
-local_in origins access it none =
+local_in P holds origins access it none =
     let es = touched_in (typemaps origins) (entries_in (typemaps origins) it) it in
-    in_space es (all_in LocalSpace es (entries_in (typemaps origins) it) (not_refused (refusal LocalSpace es (entries_in (typemaps origins) it)) none))
+    let within = all_in LocalSpace es (entries_in (typemaps origins) it) (not_refused (refusal LocalSpace es (entries_in (typemaps origins) it)) none) in
+    All-cons P (layout_of es) [] (holds es within) (All-nil P)
 
 -- ---- all calls
 
 -- what a call does touches what it may
 pub record TouchesGood (does : What) : Type 0 where
   pub buffers : All IsInSpace (buffers_of does)
+  pub canonical : All HasCanonicalRuns (buffers_of does)
   pub access : (access : RmaCall) → does ≡ what.Rma access → IsGoodAccess access
 
 of_access : (access : RmaCall) → IsGoodAccess access → TouchesGood (what.Rma access)
 of_access access good = record {
   buffers = good.own;
+  canonical = good.own_canonical;
   access = λ other is. let same : access ≡ other = cc in subst IsGoodAccess same good;
 }
 
@@ -55,7 +63,7 @@ touches_good types (Header version rank size) does is good = let none : None ≡
 touches_good types End does is good = let none : None ≡ Some does = is in cc none
 touches_good types (Datatype line) does is good = let none : None ≡ Some does = is in cc none
 touches_good types (Call call request) does is good =
-    let same : what.Sync call ≡ does = cc in subst TouchesGood same (record { buffers = All-nil IsInSpace; access = λ access wrong. cc })
+    let same : what.Sync call ≡ does = cc in subst TouchesGood same (record { buffers = All-nil IsInSpace; canonical = All-nil HasCanonicalRuns; access = λ access wrong. cc })
 touches_good types (Rma line request) does is good = by (operands_of types.live line.access) is good
   where
     by : (operands : Option Operands) → option_map (λ operands. what.Rma (rma_call_of types.origins line operands)) operands ≡ Some does
@@ -72,6 +80,7 @@ touches_good types (Local line) does is good = by (operand_of types.live line.bu
     by (Some it) is good =
         let same : what.Local (local_call_of types.origins line.access it) ≡ does = cc in
         subst TouchesGood same (record {
-          buffers = All-cons IsInSpace (local_call_of types.origins line.access it).layout [] (local_in types.origins line.access it good) (All-nil IsInSpace);
+          buffers = local_in IsInSpace in_space types.origins line.access it good;
+          canonical = local_in HasCanonicalRuns (canonical LocalSpace) types.origins line.access it good;
           access = λ access wrong. cc;
         })

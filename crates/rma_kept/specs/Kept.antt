@@ -10,7 +10,7 @@ use Rattle.rma_datatype.specs.declared.basic.Basic.{Basic}
 use Rattle.rma_judge.specs.Names.{world}
 use Rattle.rma_kept.specs.Naming.{SomeCall, NoCall, NamesComm, NamesRoot, DeclaresWith, Declares, NamesWindow, CreatesAs, Creates, Frees, Attaches, GivesMemory, NamesRank, NamesGroup, AreRanks}
 use Rattle.rma_kept.specs.Requests.{has_request, may_make, receives, received_by, Makes, Awaits, made_in}
-use Rattle.rma_kept.specs.Touched.{own_layouts, buffers_of, IsInSpace, IsNearStart, writes_target, is_accumulate, IsFilledBy}
+use Rattle.rma_kept.specs.Touched.{own_layouts, buffers_of, HasCanonicalRuns, IsInSpace, IsNearStart, writes_target, is_accumulate, IsFilledBy}
 
 -- A call of a rank, among so many logs, is as it may be after these earlier calls of the rank.
 pub record IsKeptAfter (rank logs : ℕ) (earlier : List Call) (call : Call) : Type 0 where
@@ -30,8 +30,12 @@ pub record IsKeptAfter (rank logs : ℕ) (earlier : List Call) (call : Call) : T
   pub group_has_logs : (ranks : List ℕ) → NamesGroup ranks call → AreRanks logs ranks
   -- the memory of the rank that it touches lies in the space of addresses
   pub buffers_in_space : All IsInSpace (buffers_of call.what)
+  -- the runs of the memory of the rank that it touches are in canonical form
+  pub buffers_are_canonical : All HasCanonicalRuns (buffers_of call.what)
   -- what it touches at a target lies near where the access starts
   pub target_near_start : (access : RmaCall) → call.what ≡ what.Rma access → IsNearStart access.at_target
+  -- the runs of what it touches at a target are in canonical form
+  pub target_is_canonical : (access : RmaCall) → call.what ≡ what.Rma access → HasCanonicalRuns access.at_target
   -- an access without a target touches no byte
   pub touches_nothing : (access : RmaCall) → call.what ≡ what.Rma access → access.target ≡ None → All (λ (layout : Layout). layout.runs ≡ []) (access.at_target ∷ own_layouts access)
   -- an access that writes at the target writes no byte there twice

@@ -2,7 +2,7 @@
 use Rattle.std.specs.Prelude.{◌≡◌, ℕ, ◌*◌, ℤ, pos, neg_ℤ, ◌≤ℤ◌, Bool, true, false, List, [], ◌∷◌, ◌++◌, Some, option_to_list, All}
 use Rattle.rma_base.specs.Limits.{address_limit}
 use Rattle.rma_bytes.specs.Layout.{Layout}
-use Rattle.rma_bytes.specs.Runs.{end_of}
+use Rattle.rma_bytes.specs.Runs.{IsCanonical, end_of}
 use Rattle.rma_bytes.specs.declared.run.Run.{Run}
 use Rattle.rma_call.specs.declared.rma.RmaCall.{RmaCall}
 use Rattle.rma_call.specs.declared.rma.RmaKind.{RmaKind}
@@ -21,6 +21,10 @@ abbrev pub buffers_of : What → List Layout
 buffers_of (what.Sync call) = []
 buffers_of (what.Rma access) = own_layouts access
 buffers_of (what.Local access) = access.layout ∷ []
+
+-- the runs of the layout are in canonical form: they ascend, apart from one another, none is empty, and all lie within the bounds
+abbrev pub HasCanonicalRuns : Layout → Type 0
+HasCanonicalRuns layout = IsCanonical layout.runs
 
 -- the bytes of the run lie between two addresses
 abbrev pub LiesIn : ℤ → ℤ → Run → Type 0
