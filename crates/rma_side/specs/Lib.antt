@@ -1,1 +1,3 @@
 pub mod Side
+pub mod Sides
+pub mod inside
