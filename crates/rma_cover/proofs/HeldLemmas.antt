@@ -12,7 +12,7 @@ use Rattle.rma_epoch.specs.declared.epoch.Epoch.{Epoch}
 use Rattle.rma_rules.specs.declared.lock.LockKey.{LockKey}
 use Rattle.rma_cover.specs.declared.own_locks.OwnLock.{OwnLock}
 use Rattle.rma_cover.specs.declared.own_locks.OwnLocks.{OwnLocks}
-use Rattle.rma_cover.specs.Cover.{covers, lasts, locks, own_locks, reaches, IsFrom}
+use Rattle.rma_cover.specs.Cover.{covers, lasts, locks, own_key, own_locks, reaches, IsFrom}
 use Rattle.rma_cover.specs.inside.Held.{Holds, Represents, all_own, covers_own, keys_of, lasts_until, opener_of, own_lock}
 
 -- ---- filters
@@ -70,18 +70,23 @@ module _ {X Y : Type 0} (h : X → Option Y) (n : X → ℕ) (m : Y → ℕ) (sa
           (rw (same x y is) (all_above (n x) xs (λ k d lt. up 0 (suc k) d (omega arith) (omega arith))))
           rest
 
-same_opener : (windows : List Window) (rank : Rank) (epoch : Epoch) (own : OwnLock) → own_lock windows rank epoch ≡ Some own → opener_of own ≡ epoch.opener
-same_opener windows rank epoch own is = by (reaches windows epoch epoch.targets rank) (locks epoch.kind) is
+-- a key has the call that opens its epoch
+key_opener : (windows : List Window) (rank : Rank) (epoch : Epoch) (key : LockKey) → own_key windows rank epoch ≡ Some key → key.opener ≡ epoch.opener
+key_opener windows rank epoch key is = by (reaches windows epoch epoch.targets rank) (locks epoch.kind) is
   where
     by : (b : Bool) (l : Option Bool) →
-        option_map
-        (λ (key : LockKey). record { key = key; close = epoch.close })
-        (if b then option_map (λ exclusive. record { window = epoch.window; target = rank; rank = rank; opener = epoch.opener; exclusive = exclusive }) l else None)
-        ≡ Some own →
-        opener_of own ≡ epoch.opener
+        (if b then option_map (λ exclusive. record { window = epoch.window; target = rank; rank = rank; opener = epoch.opener; exclusive = exclusive }) l else None) ≡ Some key →
+        key.opener ≡ epoch.opener
     by true (Some exclusive) is = cc
     by true None is = absurd (cc)
     by false l is = absurd (cc)
+
+same_opener : (windows : List Window) (rank : Rank) (epoch : Epoch) (own : OwnLock) → own_lock windows rank epoch ≡ Some own → opener_of own ≡ epoch.opener
+same_opener windows rank epoch own is = by (own_key windows rank epoch) refl is
+  where
+    by : (o : Option LockKey) → own_key windows rank epoch ≡ o → option_map (λ (key : LockKey). record { key = key; close = epoch.close }) o ≡ Some own → opener_of own ≡ epoch.opener
+    by (Some key) from is = let same = key_opener windows rank epoch key from in cc
+    by None from is = absurd (cc)
 
 -- they are in the order of the epochs
 pub own_ascend : (windows : List Window) (rank : Rank) (epochs : List Epoch) → IsNonDecreasingBy (λ (epoch : Epoch). epoch.opener) epochs → IsNonDecreasingBy opener_of (all_own windows rank epochs)
@@ -130,26 +135,32 @@ gone_on all before number own new mid le holds same kept seen =
 keys_are : (windows : List Window) (rank : Rank) (number : ℕ) (until : Option ℕ) (epochs : List Epoch) →
     keys_of (filter (covers_own number until) (all_own windows rank epochs)) ≡ own_locks windows rank epochs number until
 keys_are windows rank number until [] = refl
-keys_are windows rank number until (epoch ∷ epochs) = by (reaches windows epoch epoch.targets rank) (locks epoch.kind) (covers number until epoch) refl (keys_are windows rank number until epochs)
+keys_are windows rank number until (epoch ∷ epochs) = by (own_key windows rank epoch) refl (keys_are windows rank number until epochs)
   where
-    by : (b : Bool) (l : Option Bool) (c : Bool) → covers number until epoch ≡ c → keys_of (filter (covers_own number until) (all_own windows rank epochs)) ≡ own_locks windows rank epochs number until →
-        keys_of
-        (filter
-        (covers_own number until)
-        (cons_option
-        (option_map
-        (λ (key : LockKey). record { key = key; close = epoch.close })
-        (if b then option_map (λ exclusive. record { window = epoch.window; target = rank; rank = rank; opener = epoch.opener; exclusive = exclusive }) l else None))
-        (all_own windows rank epochs)))
-        ≡ cons_option
-        (if c then (if b then option_map (λ exclusive. record { window = epoch.window; target = rank; rank = rank; opener = epoch.opener; exclusive = exclusive }) l else None) else None)
+    with_key : (t c : Bool) → t ≡ c → (key : LockKey) (owns : List OwnLock) (keys : List LockKey) → keys_of owns ≡ keys →
+        keys_of (cond t (record { key = key; close = epoch.close } ∷ owns) owns) ≡ cons_option (if c then Some key else None) keys
+    with_key true true same key owns keys later = ap (λ ks. key ∷ ks) later
+    with_key false false same key owns keys later = later
+    with_key true false same key owns keys later = absurd (cc)
+    with_key false true same key owns keys later = absurd (cc)
+
+    without : (c : Bool) (keys : List LockKey) → keys ≡ cons_option (if c then None else None) keys
+    without true keys = refl
+    without false keys = refl
+
+    by : (o : Option LockKey) → own_key windows rank epoch ≡ o → keys_of (filter (covers_own number until) (all_own windows rank epochs)) ≡ own_locks windows rank epochs number until →
+        keys_of (filter (covers_own number until) (cons_option (option_map (λ (key : LockKey). record { key = key; close = epoch.close }) o) (all_own windows rank epochs)))
+        ≡ cons_option (if covers number until epoch then o else None) (own_locks windows rank epochs number until)
+    by None is later = later ∙ without (covers number until epoch) (own_locks windows rank epochs number until)
+    by (Some key) is later =
+        with_key
+        (covers_own number until (record { key = key; close = epoch.close }))
+        (covers number until epoch)
+        (ap (λ n. ltb n number && lasts epoch.close until) (key_opener windows rank epoch key is))
+        key
+        (filter (covers_own number until) (all_own windows rank epochs))
         (own_locks windows rank epochs number until)
-    by true (Some exclusive) true is later = rw is (ap (λ ks. record { window = epoch.window; target = rank; rank = rank; opener = epoch.opener; exclusive = exclusive } ∷ ks) later)
-    by true (Some exclusive) false is later = rw is later
-    by true None true is later = later
-    by true None false is later = later
-    by false l true is later = later
-    by false l false is later = later
+        later
 
 -- the keys of those that are held and last until an access is done are those in which it lies
 pub held_cover : (windows : List Window) (rank : Rank) (epochs : List Epoch) (number : ℕ) (done : Option ℕ) (own : OwnLocks) → IsFrom number done → Represents windows rank epochs number own →

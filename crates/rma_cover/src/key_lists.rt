@@ -1,5 +1,5 @@
 //! Lists of lock epochs.
-ghost use Rattle.std.specs.Prelude.{◌≡◌, ◌<◌, ◌++◌, ◌∷◌, [], length, slice_get, Some, IfOk, IfSome, OnOk};
+ghost use Rattle.std.specs.Prelude.{◌≡◌, ◌<◌, ◌+◌, ◌++◌, ◌∷◌, ◌↔◌, [], length, slice_get, IfOk, IfSome, OnOk};
 
 use rma_base::Memory;
 use rma_rules::LockKey;
@@ -25,7 +25,7 @@ struct KeyRange {
 }
 
 impl Model for KeyLists {
-    ghost use Rattle.std.specs.Prelude.{List, All};
+    ghost use Rattle.std.specs.Prelude.{◌≤◌, ◌^◌, List, All, length};
     ghost use Rattle.rma_rules.specs.declared.lock.LockKey.{LockKey};
 
     ghost Value = { List (List LockKey) };
@@ -34,7 +34,7 @@ impl Model for KeyLists {
 
     ghost view = { λ own. lists_in own.keys.items own.ranges.items };
 
-    ghost invariant = { λ own. All (IsRangeIn own.keys.items) own.ranges.items };
+    ghost invariant = { λ own. record { ranges_are_in : All (IsRangeIn own.keys.items) own.ranges.items; are_numbered : length own.ranges.items ≤ 2 ^ 32 } };
 }
 
 impl KeyLists {
@@ -67,9 +67,10 @@ impl KeyLists {
 
     /// The number of the last list, if there is one.
     pub fn last(&self) -> Option<u32>
-        ensures { IfSome result (λ number. number < length self.now) }
+        ensures none { length self.now ≡ 0 ↔ result ≡ None }
+        ensures last { IfSome result (λ number. number + 1 ≡ length self.now) }
     {
-        u32::try_from(self.ranges.len()).ok()?.checked_sub(1)
+        u32::try_from(self.ranges.len().checked_sub(1)?).ok()
     }
 
     /// The list of a number.

@@ -10,5 +10,5 @@ returns-clause-list c =
     let ends : c.in_ok-end.end ≡ length (own.keys.items ++ c.args.list.now) = grind (arith, common_steps) in
     rw
     (c.in_ok-extend_from_slice.ensures.items, c.in_ok-push.ensures.items)
-    (lists_more own.keys.items c.args.list.now own.ranges.items (record { start = c.in_ok-start.start; end = c.in_ok-end.end }) c.self.invariant begins ends
+    (lists_more own.keys.items c.args.list.now own.ranges.items (record { start = c.in_ok-start.start; end = c.in_ok-end.end }) c.self.invariant.ranges_are_in begins ends
     ∙ ap (λ ls. ls ++ c.args.list.now ∷ []) c.self.view_is)

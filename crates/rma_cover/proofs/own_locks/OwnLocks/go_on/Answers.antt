@@ -7,7 +7,7 @@ use Rattle.rma_cover.proofs.own_locks.OwnLocks.go_on.Goals as goal
 pub returns : goal.returns
 returns c = λ windows rank epochs before le holds.
     let own = c.args.self.now in
-    let kept : c.retain.new.self.items ≡ filter (lasts_until (Some c.args.number)) own.held.items = filter_same _ (lasts_until (Some c.args.number)) _ (λ x b q r. search rules) _ _ c.retain.ensures.filtered in
+    let kept : c.retain.new.self.items ≡ filter (lasts_until (Some c.args.number)) own.held.items = filter_same _ (lasts_until (Some c.args.number)) _ (λ x b q r. search rules) own.held.items c.retain.new.self.items c.retain.ensures.filtered in
     gone_on
     (all_own windows rank epochs)
     before
