@@ -1,12 +1,13 @@
 -- Lists of lock epochs, as one more comes.
-use Rattle.std.proofs.Common.{◌≡◌, ℕ, zero, suc, ◌-◌, ◌≤◌, List, [], ◌∷◌, ◌++◌, length, take, drop, slice_get, Some, Result, Ok, Err, refl, ap, ◌∙◌, arith, length-append, length-drop}
-use Rattle.std.specs.Prelude.{All, IfOk, OnOk, slice_range}
+use Rattle.std.proofs.Common.{◌≡◌, ℕ, Bool, true, false, ◌-◌, ◌≤◌, List, [], ◌∷◌, ◌++◌, length, take, drop, slice_get, Some, refl, sym, ap, ◌∙◌, arith, length-append, length-drop}
+use Rattle.std.specs.Bool.{Decides, then_some}
+use Rattle.std.specs.Prelude.{MatchOption, All, slice_range}
 use Rattle.std.proofs.lemmas.List.{drop-append-le, map-append, take-append-le, take_all}
 use Rattle.std.proofs.lemmas.List.Elements.{All-head, All-tail}
 use Rattle.std.proofs.Math.Seq.{drop-append_seam}
 use Rattle.rma_rules.specs.declared.lock.LockKey.{LockKey}
 use Rattle.rma_cover.specs.declared.key_lists.KeyRange.{KeyRange}
-use Rattle.rma_cover.specs.Cover.{StayThere}
+use Rattle.rma_cover.specs.Cover.{IsLast}
 use Rattle.rma_cover.specs.inside.Lists.{IsRangeIn, lists_in}
 
 -- a range among keys stays as they grow
@@ -36,18 +37,16 @@ lists_more keys list ranges range within begins ends =
     ∙ ap (λ ls. ls ++ slice_range (keys ++ list) range.start range.end ∷ []) (lists_stay keys list ranges within)
     ∙ ap (λ l. lists_in keys ranges ++ l ∷ []) (rw (begins, ends) (range_last keys list))
 
--- ---- by their numbers
+-- ---- the last one
 
-pub stay_there : (old : List (List LockKey)) (list : List LockKey) → StayThere old (old ++ list ∷ [])
-stay_there [] list number other there = absurd (cc)
-stay_there (l ∷ ls) list zero other there = there
-stay_there (l ∷ ls) list (suc number) other there = stay_there ls list number other there
+-- there is one last list
+last_is : (lists : List (List LockKey)) (last other : ℕ) (list found : List LockKey) → IsLast lists last found → IsLast lists other list → found ≡ list
+last_is lists last other list found own its =
+    let same : last ≡ other = omega (arith, own.ends, its.ends) in
+    let is : Some found ≡ Some list = sym own.there ∙ ap (slice_get lists) same ∙ its.there in cc
 
-is_last : (old : List (List LockKey)) (list : List LockKey) → slice_get (old ++ list ∷ []) (length old) ≡ Some list
-is_last [] list = refl
-is_last (l ∷ ls) list = is_last ls list
-
-pub added_there : {E : Type 0} (r : Result ℕ E) (old new : List (List LockKey)) (list : List LockKey) → IfOk r (λ number. number ≡ length old) → OnOk r (new ≡ old ++ list ∷ []) →
-    IfOk r (λ number. slice_get new number ≡ Some list)
-added_there (Ok number) old new list last is = rw (is, last) (is_last old list)
-added_there (Err e) old new list last is = tt
+-- the last number, where its list is another one
+pub told_last : (lists : List (List LockKey)) (last : ℕ) (found list : List LockKey) (same : Bool) → Decides same (found ≡ list) → IsLast lists last found →
+    MatchOption (then_some same last) ((last : ℕ) → IsLast lists last list → ⊥) (λ last. IsLast lists last list)
+told_last lists last found list true decides own = record { ends = own.ends; there = own.there ∙ ap Some (decides.0 refl) }
+told_last lists last found list false decides own = λ other its. let not = decides.1 (last_is lists last other list found own its) in absurd (cc)

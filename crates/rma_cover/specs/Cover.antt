@@ -1,5 +1,5 @@
 -- The lock epochs in which accesses lie (MPI 4.0, "One-Sided Communications", lock).
-use Rattle.std.specs.Prelude.{◌≡◌, ◌≤◌, ℕ, ◌==◌, ◌&&◌, List, Bool, true, false, nat_lt, nat_le, Option, Some, None, is_some, option_map, slice_get, if◌then◌else◌}
+use Rattle.std.specs.Prelude.{◌+◌, ◌++◌, ◌∷◌, [], ◌⊎◌, length, ◌≡◌, ◌≤◌, ℕ, ◌==◌, ◌&&◌, List, Bool, true, false, nat_lt, nat_le, Option, Some, None, is_some, option_map, slice_get, if◌then◌else◌}
 use Rattle.std.specs.List.{filter_map}
 use Rattle.rma_base.specs.declared.rank.Rank.{Rank}
 use Rattle.rma_window.specs.Windows.{Window, part_of}
@@ -55,3 +55,12 @@ IsFrom number (Some done) = number ≤ done
 -- lists stay where they are, and more may come
 abbrev pub StayThere : List (List LockKey) → List (List LockKey) → Type 0
 StayThere old new = (number : ℕ) (list : List LockKey) → slice_get old number ≡ Some list → slice_get new number ≡ Some list
+
+-- a list is the last of some, and has this number
+pub record IsLast (lists : List (List LockKey)) (number : ℕ) (list : List LockKey) : Type 0 where
+  pub ends : number + 1 ≡ length lists
+  pub there : slice_get lists number ≡ Some list
+
+-- the lists with one more behind them, and as they are where it is the last already
+abbrev pub AreWith : List (List LockKey) → List LockKey → List (List LockKey) → Type 0
+AreWith old list new = ((number : ℕ) × IsLast old number list × (new ≡ old)) ⊎ (((number : ℕ) → IsLast old number list → ⊥) × (new ≡ old ++ list ∷ []))

@@ -1,10 +1,10 @@
 //! The lock epochs of a rank on itself.
-ghost use Rattle.std.specs.Prelude.{◌≡◌, ◌<◌, ◌≤◌, ℕ, List, Some, length, filter, take, slice_get, slice_index_or, IfOk, OnOk};
+ghost use Rattle.std.specs.Prelude.{◌≡◌, ◌<◌, ◌≤◌, ℕ, List, Some, length, filter, take, slice_get, slice_index_or, IfOk, MatchOption, OnOk};
 ghost use Rattle.std.specs.List.Sorted.{IsNonDecreasingBy};
 ghost use Rattle.rma_epoch.specs.declared.epoch.Epoch.{Epoch};
 ghost use Rattle.rma_base.specs.declared.rank.Rank.{Rank};
 ghost use Rattle.rma_window.specs.Windows.{Window};
-ghost use Rattle.rma_cover.specs.Cover.{lasts, own_locks, IsFrom, StayThere};
+ghost use Rattle.rma_cover.specs.Cover.{lasts, own_locks, AreWith, IsFrom, IsLast, StayThere};
 ghost use Rattle.rma_cover.specs.declared.own_locks.OwnLock.{OwnLock};
 ghost use Rattle.rma_cover.specs.inside.Held.{Represents, all_own, keys_of, lasts_until, opener_of, own_lock};
 
@@ -85,6 +85,8 @@ impl OwnLocks {
         ensures list { IfOk result (λ list. (windows : List Window) (rank : Rank) (epochs : List Epoch) (number : ℕ) → IsFrom number done → Represents windows rank epochs number self.old
             → slice_get lists.new list ≡ Some (own_locks windows rank epochs number done)) }
         ensures others { OnOk result (StayThere lists.old lists.new) }
+        ensures lists { OnOk result ((windows : List Window) (rank : Rank) (epochs : List Epoch) (number : ℕ) → IsFrom number done → Represents windows rank epochs number self.old
+            → AreWith lists.old (own_locks windows rank epochs number done) lists.new) }
     {
         put_keys(&mut self.keys, &self.held, done)?;
         number_of(lists, &self.keys)
@@ -130,13 +132,21 @@ fn put_keys(keys: &mut Vec<LockKey>, held: &[OwnLock], done: Option<u32>) -> Res
 fn number_of(lists: &mut KeyLists, list: &[LockKey]) -> Result<u32, Memory>
     ensures list { IfOk result (λ number. slice_get lists.new number ≡ Some list.now) }
     ensures others { OnOk result (StayThere lists.old lists.new) }
+    ensures all { OnOk result (AreWith lists.old list.now lists.new) }
 {
-    if let Some(last) = lists.last() {
-        if lists.list(last) == list {
-            return Ok(last);
-        }
+    match number_of_last(lists, list) {
+        Some(last) => Ok(last),
+        None => lists.add(list),
     }
-    lists.add(list)
+}
+
+/// The number of the last list, where it is this one.
+fn number_of_last(lists: &KeyLists, list: &[LockKey]) -> Option<u32>
+    ensures { MatchOption result ((last : ℕ) → IsLast lists.now last list.now → ⊥) (λ last. IsLast lists.now last list.now) }
+{
+    let last = lists.last()?;
+    let is_same = lists.list(last) == list;
+    is_same.then_some(last)
 }
 
 /// Whether an epoch that is closed by this call, if by any, lasts until the call by which an access is done.
