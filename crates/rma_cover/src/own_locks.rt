@@ -69,7 +69,7 @@ impl OwnLocks {
     pub fn go_on(&mut self, number: u32) -> Result<(), Memory>
         ensures { OnOk result ((windows : List Window) (rank : Rank) (epochs : List Epoch) (before : ℕ) → before ≤ number → Represents windows rank epochs before self.old → Represents windows rank epochs number self.new) }
     {
-        self.held.retain(|own| lasts(own.close, Some(number)));
+        keep_held(&mut self.held, number);
         self.next = open(&self.all, self.next, number, &mut self.held)?;
         Ok(())
     }
@@ -91,6 +91,13 @@ impl OwnLocks {
         put_keys(&mut self.keys, &self.held, done)?;
         number_of(lists, &self.keys)
     }
+}
+
+/// Keeps those that last until the call of a number.
+fn keep_held(held: &mut Vec<OwnLock>, number: u32)
+    ensures { held.new.items ≡ filter (lasts_until (Some number)) held.old.items }
+{
+    held.retain(|own| lasts(own.close, Some(number)));
 }
 
 /// Adds to those that are held the epochs from an index on that are opened before the call of a number and last until it, and
