@@ -13,7 +13,7 @@ use Rattle.rma_rules.specs.declared.lock.LockKey.{LockKey}
 use Rattle.rma_cover.specs.declared.own_locks.OwnLock.{OwnLock}
 use Rattle.rma_cover.specs.declared.own_locks.OwnLocks.{OwnLocks}
 use Rattle.rma_cover.specs.Cover.{covers, lasts, locks, own_key, own_locks, reaches, IsFrom}
-use Rattle.rma_cover.specs.inside.Held.{Holds, Represents, all_own, covers_own, keys_of, lasts_until, opener_of, own_lock}
+use Rattle.rma_cover.specs.inside.Held.{Represents, all_own, covers_own, keys_of, lasts_until, opener_of, own_lock}
 
 -- ---- filters
 
@@ -110,24 +110,25 @@ pub record Opens (all : List OwnLock) (number next end : ℕ) (old new : List Ow
   pub opened : (i : ℕ) (d : OwnLock) → next ≤ i → i < end → opener_of (get_or all i d) < number
   pub unopened : (d : OwnLock) → end < length all → number ≤ opener_of (get_or all end d)
 
-pub gone_on : (all : List OwnLock) (before number : ℕ) (own new : OwnLocks) (mid : List OwnLock) → before ≤ number → Holds all before own → new.all ≡ own.all →
-    mid ≡ filter (lasts_until (Some number)) own.held.items → Opens own.all.items number own.next new.next mid new.held.items → Holds all number new
-gone_on all before number own new mid le holds same kept seen =
-    let opens = subst (λ l. Opens l number own.next new.next mid new.held.items) holds.all_are seen in
-    let within = opens.within holds.within in record {
-      all_are = ap (λ v. v.items) same ∙ holds.all_are;
-      ascend = holds.ascend;
+pub gone_on : (windows : List Window) (rank : Rank) (epochs : List Epoch) (before number : ℕ) (own new : OwnLocks) (mid : List OwnLock) → before ≤ number →
+    Represents windows rank epochs before own → new.all ≡ own.all → mid ≡ filter (lasts_until (Some number)) own.held.items → Opens own.all.items number own.next new.next mid new.held.items →
+    Represents windows rank epochs number new
+gone_on windows rank epochs before number own new mid le was same kept seen =
+    let opens = subst (λ l. Opens l number own.next new.next mid new.held.items) was.all_are seen in
+    let within = opens.within was.within in record {
+      all_are = ap (λ v. v.items) same ∙ was.all_are;
+      ascend = was.ascend;
       within = within.1;
       opened = λ i d lt. by_place opens i d lt (cases_lt i own.next);
       unopened = λ i d up lt.
           let first = opens.unopened d (omega arith) in
-          let later = holds.ascend new.next i d up lt in omega arith;
-      held_are = opens.held
-          (kept ∙ ap (filter (lasts_until (Some number))) holds.held_are ∙ held_until before (Some number) le (take own.next all));
+          let later = was.ascend new.next i d up lt in omega arith;
+      held_are = opens.held (kept ∙ ap (filter (lasts_until (Some number))) was.held_are ∙ held_until before (Some number) le (take own.next (all_own windows rank epochs)));
     }
   where
-    by_place : Opens all number own.next new.next mid new.held.items → (i : ℕ) (d : OwnLock) → i < new.next → (i < own.next) ⊎ (own.next ≤ i) → opener_of (get_or all i d) < number
-    by_place opens i d lt (inl early) = let was = holds.opened i d early in omega arith
+    by_place : Opens (all_own windows rank epochs) number own.next new.next mid new.held.items → (i : ℕ) (d : OwnLock) → i < new.next → (i < own.next) ⊎ (own.next ≤ i) →
+        opener_of (get_or (all_own windows rank epochs) i d) < number
+    by_place opens i d lt (inl early) = let is = was.opened i d early in omega arith
     by_place opens i d lt (inr late) = opens.opened i d late lt
 
 -- ---- those in which an access lies

@@ -1,5 +1,5 @@
 -- The lock epochs in which accesses lie (MPI 4.0, "One-Sided Communications", lock).
-use Rattle.std.specs.Prelude.{◌+◌, ◌++◌, ◌∷◌, [], ◌⊎◌, length, ◌≡◌, ◌≤◌, ℕ, ◌==◌, ◌&&◌, List, Bool, true, false, nat_lt, nat_le, Option, Some, None, is_some, option_map, slice_get, if◌then◌else◌}
+use Rattle.std.specs.Prelude.{◌≡◌, ◌≤◌, ℕ, ◌+◌, ◌==◌, ◌&&◌, ◌⊎◌, List, [], ◌∷◌, ◌++◌, length, Bool, true, false, nat_lt, nat_le, Option, Some, None, is_some, option_map, slice_get, if◌then◌else◌}
 use Rattle.std.specs.List.{filter_map}
 use Rattle.rma_base.specs.declared.rank.Rank.{Rank}
 use Rattle.rma_window.specs.Windows.{Window, part_of}

@@ -34,16 +34,12 @@ covers_own number done own = nat_lt own.key.opener number && lasts own.close don
 abbrev pub keys_of : List OwnLock → List LockKey
 keys_of owns = map (λ own. own.key) owns
 
--- what is kept are these epochs of a rank on itself: those before the next one are opened before a call, the others are not, and
--- those that are held are the former which last until that call
-pub record Holds (all : List OwnLock) (number : ℕ) (own : OwnLocks) : Type 0 where
-  pub all_are : own.all.items ≡ all
-  pub ascend : IsNonDecreasingBy opener_of all
-  pub within : own.next ≤ length all
-  pub opened : (i : ℕ) (d : OwnLock) → i < own.next → opener_of (slice_index_or all i d) < number
-  pub unopened : (i : ℕ) (d : OwnLock) → own.next ≤ i → i < length all → number ≤ opener_of (slice_index_or all i d)
-  pub held_are : own.held.items ≡ filter (lasts_until (Some number)) (take own.next all)
-
--- what is kept represents these epochs of a rank at the call of a number
-abbrev pub Represents : List Window → Rank → List Epoch → ℕ → OwnLocks → Type 0
-Represents windows rank epochs number own = Holds (all_own windows rank epochs) number own
+-- what is kept represents these epochs of a rank at the call of a number: all that are on the rank itself; those before the next
+-- one are opened before that call, the others are not, and those that are held are the former which last until it
+pub record Represents (windows : List Window) (rank : Rank) (epochs : List Epoch) (number : ℕ) (own : OwnLocks) : Type 0 where
+  pub all_are : own.all.items ≡ all_own windows rank epochs
+  pub ascend : IsNonDecreasingBy opener_of (all_own windows rank epochs)
+  pub within : own.next ≤ length (all_own windows rank epochs)
+  pub opened : (i : ℕ) (d : OwnLock) → i < own.next → opener_of (slice_index_or (all_own windows rank epochs) i d) < number
+  pub unopened : (i : ℕ) (d : OwnLock) → own.next ≤ i → i < length (all_own windows rank epochs) → number ≤ opener_of (slice_index_or (all_own windows rank epochs) i d)
+  pub held_are : own.held.items ≡ filter (lasts_until (Some number)) (take own.next (all_own windows rank epochs))

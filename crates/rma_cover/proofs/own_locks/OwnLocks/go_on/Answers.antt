@@ -1,5 +1,4 @@
 use Rattle.std.proofs.Common.{refl, sym}
-use Rattle.rma_cover.specs.inside.Held.{all_own}
 use Rattle.rma_cover.proofs.HeldLemmas.{gone_on}
 use Rattle.rma_cover.proofs.own_locks.OwnLocks.go_on.Goals as goal
 
@@ -7,7 +6,9 @@ pub returns : goal.returns
 returns c = λ windows rank epochs before le holds.
     let own = c.args.self.now in
     gone_on
-    (all_own windows rank epochs)
+    windows
+    rank
+    epochs
     before
     c.args.number
     own
