@@ -1,5 +1,6 @@
 //! Lists of lock epochs.
-ghost use Rattle.std.specs.Prelude.{◌≡◌, ◌<◌, ◌+◌, ◌++◌, ◌∷◌, ◌↔◌, [], length, slice_get, IfOk, IfSome, OnOk};
+ghost use Rattle.std.specs.Prelude.{◌≡◌, ◌<◌, ◌+◌, ◌++◌, ◌∷◌, ◌↔◌, [], length, slice_get, IfOk, IfSome, OnOk, ℕ, MatchOption};
+ghost use Rattle.rma_cover.specs.Cover.{AreWith, IsLast, StayThere};
 
 use rma_base::Memory;
 use rma_rules::LockKey;
@@ -80,5 +81,30 @@ impl KeyLists {
     {
         let range = self.ranges[number as usize];
         &self.keys[range.start as usize..range.end as usize]
+    }
+
+    /// The number of a list: the last one is taken again where it is the same, and else it comes behind the others.
+    ///
+    /// # Errors
+    ///
+    /// `Memory` also where the table is full.
+    pub fn number_of(&mut self, list: &[LockKey]) -> Result<u32, Memory>
+        ensures list { IfOk result (λ number. slice_get self.new number ≡ Some list.now) }
+        ensures others { OnOk result (StayThere self.old self.new) }
+        ensures all { OnOk result (AreWith self.old list.now self.new) }
+    {
+        match self.number_of_last(list) {
+            Some(last) => Ok(last),
+            None => self.add(list),
+        }
+    }
+
+    /// The number of the last list, where it is this one.
+    fn number_of_last(&self, list: &[LockKey]) -> Option<u32>
+        ensures { MatchOption result ((last : ℕ) → IsLast self.now last list.now → ⊥) (λ last. IsLast self.now last list.now) }
+    {
+        let last = self.last()?;
+        let is_same = self.list(last) == list;
+        is_same.then_some(last)
     }
 }

@@ -89,7 +89,7 @@ impl OwnLocks {
             → AreWith lists.old (own_locks windows rank epochs number done) lists.new) }
     {
         put_keys(&mut self.keys, &self.held, done)?;
-        number_of(lists, &self.keys)
+        lists.number_of(&self.keys)
     }
 }
 
@@ -133,27 +133,6 @@ fn put_keys(keys: &mut Vec<LockKey>, held: &[OwnLock], done: Option<u32>) -> Res
         }
     }
     Ok(())
-}
-
-/// The number of a list, which is the last one or comes behind it.
-fn number_of(lists: &mut KeyLists, list: &[LockKey]) -> Result<u32, Memory>
-    ensures list { IfOk result (λ number. slice_get lists.new number ≡ Some list.now) }
-    ensures others { OnOk result (StayThere lists.old lists.new) }
-    ensures all { OnOk result (AreWith lists.old list.now lists.new) }
-{
-    match number_of_last(lists, list) {
-        Some(last) => Ok(last),
-        None => lists.add(list),
-    }
-}
-
-/// The number of the last list, where it is this one.
-fn number_of_last(lists: &KeyLists, list: &[LockKey]) -> Option<u32>
-    ensures { MatchOption result ((last : ℕ) → IsLast lists.now last list.now → ⊥) (λ last. IsLast lists.now last list.now) }
-{
-    let last = lists.last()?;
-    let is_same = lists.list(last) == list;
-    is_same.then_some(last)
 }
 
 /// Whether an epoch that is closed by this call, if by any, lasts until the call by which an access is done.

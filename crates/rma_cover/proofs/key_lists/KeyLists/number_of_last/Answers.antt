@@ -1,14 +1,14 @@
 use Rattle.std.proofs.Common.{rules}
 use Rattle.std.proofs.lemmas.Slice.Eq.{slice_eq-Decides}
 use Rattle.rma_cover.proofs.ListLemmas.{told_last}
-use Rattle.rma_cover.proofs.own_locks.number_of_last.Goals as goal
+use Rattle.rma_cover.proofs.key_lists.KeyLists.number_of_last.Goals as goal
 
 pub returns : goal.returns
 returns c =
     rw
     c.then_some.ensures
     (told_last
-    c.args.lists.now
+    c.args.self.now
     c.in_ok-last.last
     c.list.result.now
     c.args.list.now
