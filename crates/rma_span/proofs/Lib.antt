@@ -1,3 +1,4 @@
 pub mod CallLemmas
 pub mod SpanLemmas
 pub mod OriginLemmas
+pub mod AccessLemmas

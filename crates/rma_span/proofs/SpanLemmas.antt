@@ -11,8 +11,8 @@ use Rattle.rma_touch.specs.Touches.{Span}
 use Rattle.rma_span.specs.declared.spans.CallSpans.{CallSpans}
 use Rattle.rma_span.specs.declared.spans.OwnSpan.{OwnSpan}
 use Rattle.rma_span.specs.declared.spans.TargetSpan.{TargetSpan}
-use Rattle.rma_span.specs.Span.{Origin, own_span_of, target_span_of}
-use Rattle.rma_span.specs.inside.Stored.{ArePut, AreSpans, AreSpansOf, IsAtTarget, IsOwn, spanned}
+use Rattle.rma_span.specs.Span.{Origin, own_span_of, spanned, target_span_of}
+use Rattle.rma_span.specs.inside.Stored.{ArePut, AreSpans, AreSpansOf, IsAtTarget, IsOwn}
 
 -- ---- what is kept stays where lists grow
 

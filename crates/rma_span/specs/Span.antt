@@ -1,21 +1,23 @@
 -- Where the accesses of a rank start and are done, and the lock epochs in which they lie (MPI 4.0, "One-Sided Communications",
 -- completion of operations).
-use Rattle.std.specs.Prelude.{◌≡◌, ℕ, List, Option, Some, None, option_map, option_to_list, slice_get}
+use Rattle.std.specs.Prelude.{◌≡◌, ◌≤◌, ◌+◌, ℕ, ◌∷◌, [], List, Option, Some, None, option_map, option_to_list, slice_get, length, is_some, IfSome, if◌then◌else◌, Bool, true, false}
 use Rattle.std.specs.Option.{option_and_then}
 use Rattle.std.specs.List.{filter_map, flat_map}
+use Rattle.rma_base.specs.Limits.{address_limit, fed_limit}
 use Rattle.rma_base.specs.declared.rank.Rank.{Rank}
 use Rattle.rma_base.specs.declared.point.Point.{Point}
-use Rattle.rma_call.specs.Call.{Call, RankCalls}
+use Rattle.rma_call.specs.Call.{Call, CallTable, RankCalls}
 use Rattle.rma_call.specs.declared.what.What.{What}
 use Rattle.rma_call.specs.declared.what.What.TheVariants.{Rma, Local}
 use Rattle.rma_link.specs.Point.{entry, return_of}
 use Rattle.rma_run.specs.Run.{by_number, calls_of}
 use Rattle.rma_window.specs.Creation.{creations}
 use Rattle.rma_window.specs.Windows.{Window, windows_by}
+use Rattle.rma_open.specs.Calls.{part_on}
 use Rattle.rma_open.specs.declared.opening.EpochKind.{EpochKind}
 use Rattle.rma_open.specs.declared.opening.EpochKind.TheVariants as kind
 use Rattle.rma_epoch.specs.declared.epoch.Epoch.{Epoch}
-use Rattle.rma_epoch.specs.Table.{epoch_at, epochs_of, placed_of, sound_calls}
+use Rattle.rma_epoch.specs.Table.{AreParts, OnWindow, epoch_at, epochs_of, placed_of, sound_calls}
 use Rattle.rma_side.specs.declared.side.Side.{Side}
 use Rattle.rma_side.specs.Side.{ending_point, opening_point, side_of}
 use Rattle.rma_completion.specs.Done.{local_completion, remote_completion}
@@ -24,7 +26,7 @@ use Rattle.rma_rules.specs.declared.lock.LockKey.{LockKey}
 use Rattle.rma_rules.specs.declared.access_name.Role.{Role}
 use Rattle.rma_rules.specs.declared.access_name.Role.TheVariants as role
 use Rattle.rma_rules.specs.Access.{Access}
-use Rattle.rma_touch.specs.Touches.{Span, access_with, roles, touch_at}
+use Rattle.rma_touch.specs.Touches.{HasBuffers, Span, access_with, roles, touch_at}
 
 -- ---- where they are done
 
@@ -102,10 +104,22 @@ abbrev pub target_span_of : Origin → ℕ → What → Option Span
 target_span_of own number (Rma access) = option_and_then (λ epoch. option_map (λ target. target_span own epoch target number) access.target) (epoch_of own number)
 target_span_of own number _ = None
 
+-- whether it does so at its target
+abbrev pub is_at_target : Role → Bool
+is_at_target role.Target = true
+is_at_target _ = false
+
 -- what it does in a role
 abbrev pub span_of : Origin → ℕ → Call → Role → Option Span
-span_of own number call role.Target = target_span_of own number call.what
-span_of own number call _ = own_span_of own number call call.what
+span_of own number call role = if is_at_target role then target_span_of own number call.what else own_span_of own number call call.what
+
+-- the number of a call that touches something
+abbrev pub spanned : Origin → ℕ → Call → List ℕ
+spanned own number call = if is_some (own_span_of own number call call.what) then number ∷ [] else []
+
+-- the numbers of the calls that touch something, ascending
+abbrev pub spanned_calls : Origin → List ℕ
+spanned_calls own = by_number (spanned own) 0 own.sound
 
 -- ---- the accesses
 
@@ -139,3 +153,12 @@ AreFreedLater own =
 -- the sound calls of a rank of a run, by all its calls
 abbrev pub origin_with : List Window → List RankCalls → Rank → List Call → Origin
 origin_with windows ranks rank calls = record { windows = windows; calls = calls_of ranks; rank = rank; sound = sound_calls windows calls }
+
+-- what is asked of the calls of the rank, of which these are all, and of what is known by the numbers of what they do: the buffers of an
+-- access have canonical runs, as in a good log, and parts lie in the space of addresses, as in any table of windows
+pub record AreAskable (own : Origin) (table : CallTable) (known : List OnWindow) : Type 0 where
+  pub sound : own.sound ≡ sound_calls own.windows table.calls
+  pub few : length table.calls ≤ fed_limit
+  pub parts : AreParts own.windows table known
+  pub buffers : (place : ℕ) (call : Call) → slice_get table.calls place ≡ Some call → HasBuffers call.what
+  pub space : (what : What) → IfSome (part_on own.windows what) (λ part. part.base + part.size ≤ address_limit)

@@ -1,5 +1,5 @@
 -- How the spans of a rank are kept.
-use Rattle.std.specs.Prelude.{◌≡◌, ℕ, List, [], ◌∷◌, All, map, Option, Some, None, is_some, slice_get, if◌then◌else◌}
+use Rattle.std.specs.Prelude.{◌≡◌, ℕ, List, All, map, Option, Some, None, slice_get}
 use Rattle.rma_call.specs.Call.{Call}
 use Rattle.rma_run.specs.Run.{by_number}
 use Rattle.rma_rules.specs.declared.lock.LockKey.{LockKey}
@@ -8,7 +8,7 @@ use Rattle.rma_span.specs.declared.spans.OwnSpan.{OwnSpan}
 use Rattle.rma_span.specs.declared.spans.TargetSpan.{TargetSpan}
 use Rattle.rma_span.specs.declared.spans.CallSpans.{CallSpans}
 use Rattle.rma_span.specs.declared.rank_spans.RankSpans.{RankSpans}
-use Rattle.rma_span.specs.Span.{Origin, own_span_of, target_span_of}
+use Rattle.rma_span.specs.Span.{Origin, own_span_of, spanned, target_span_of}
 
 -- a span of memory of the rank itself, with its lock epochs in a table
 pub record IsOwn (lists : List (List LockKey)) (span : Option Span) (kept : OwnSpan) : Type 0 where
@@ -28,10 +28,6 @@ pub record AreSpansOf (own : Origin) (own_lists target_lists : List (List LockKe
   pub there : slice_get own.sound kept.call ≡ Some call
   pub own_is : IsOwn own_lists (own_span_of own kept.call call call.what) kept.own
   pub target_is : IsAtTarget target_lists (target_span_of own kept.call call.what) kept.target
-
--- the number of a call that has spans
-abbrev pub spanned : Origin → ℕ → Call → List ℕ
-spanned own number call = if is_some (own_span_of own number call call.what) then number ∷ [] else []
 
 -- the spans of these calls, the first ones of the rank
 pub record AreSpans (own : Origin) (calls : List Call) (own_lists target_lists : List (List LockKey)) (kept : List CallSpans) : Type 0 where
