@@ -2,3 +2,4 @@ pub mod CallLemmas
 pub mod SpanLemmas
 pub mod OriginLemmas
 pub mod AccessLemmas
+pub mod FreedLemmas

@@ -9,6 +9,7 @@
 #![tactic(auto)]
 
 mod completed;
+pub mod laws;
 mod own;
 mod points;
 mod rank_spans;
