@@ -1,5 +1,5 @@
 -- Good logs: by which call the use of a buffer is done, and what buffers are.
-use Rattle.std.proofs.Common.{◌≡◌, ◌<◌, ◌≤◌, true≢false, ℕ, zero, suc, ◌+◌, List, [], ◌∷◌, ◌++◌, length, take, All, Bool, true, false, ◌&&◌, ◌==◌, nat_lt, min, Option, Some, None, is_some, slice_get, option_to_list, refl, sym, ap, subst, ◌∙◌, arith, if◌then◌else◌}
+use Rattle.std.proofs.Common.{◌≡◌, ◌<◌, true≢false, ℕ, suc, ◌+◌, List, [], ◌∷◌, ◌++◌, length, take, All, Bool, true, false, ◌&&◌, ◌==◌, nat_lt, Option, Some, None, is_some, slice_get, option_to_list, refl, sym, ap, ◌∙◌, arith, if◌then◌else◌}
 use Rattle.std.specs.Option.{option_and_then, option_map_or}
 use Rattle.std.proofs.lemmas.Bool.Decides.{nat_tests}
 use Rattle.std.proofs.lemmas.List.{length-take}
@@ -22,13 +22,13 @@ use Rattle.rma_epoch.proofs.OneLemmas.{accesses_have_epochs}
 use Rattle.rma_epoch.proofs.SoundLemmas.{sound_first}
 use Rattle.rma_epoch.proofs.WithinLemmas.{lie_within}
 use Rattle.rma_kept.specs.Kept.{AreKept}
-use Rattle.rma_kept.specs.Requests.{Awaits, Makes, waits}
+use Rattle.rma_kept.specs.Requests.{Awaits, waits}
 use Rattle.rma_kept.specs.Touched.{HasCanonicalRuns, buffers_of}
-use Rattle.rma_kept.proofs.ListLemmas.{made_once, slice_get_take}
+use Rattle.rma_kept.proofs.ListLemmas.{made_once}
 use Rattle.rma_open.specs.declared.opening.EpochKind.{EpochKind}
 use Rattle.rma_open.specs.declared.opening.EpochKind.TheVariants as kind
 use Rattle.rma_touch.specs.Touches.{HasBuffers, IsBuffer}
-use Rattle.rma_span.specs.Span.{AreFreedLater, Origin, epoch_of, freed_by, freeing_call}
+use Rattle.rma_span.specs.Span.{AreFreedLater, Origin, freeing_call}
 use Rattle.rma_span.proofs.AccessLemmas.{taken_in}
 
 -- ---- buffers

@@ -3,3 +3,4 @@ pub mod SpanLemmas
 pub mod OriginLemmas
 pub mod AccessLemmas
 pub mod FreedLemmas
+pub mod ListedLemmas

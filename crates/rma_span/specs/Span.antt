@@ -1,7 +1,7 @@
 -- Where the accesses of a rank start and are done, and the lock epochs in which they lie (MPI 4.0, "One-Sided Communications",
 -- completion of operations).
 use Rattle.std.specs.Prelude.{◌≡◌, ◌≤◌, ◌+◌, ℕ, ◌∷◌, [], List, Option, Some, None, option_map, option_to_list, slice_get, length, is_some, IfSome, if◌then◌else◌, Bool, true, false}
-use Rattle.std.specs.Option.{option_and_then}
+use Rattle.std.specs.Option.{option_and_then, option_map_or}
 use Rattle.std.specs.List.{filter_map, flat_map}
 use Rattle.rma_base.specs.Limits.{address_limit, fed_limit}
 use Rattle.rma_base.specs.declared.rank.Rank.{Rank}
@@ -128,9 +128,17 @@ abbrev pub access_of : Origin → ℕ → Call → Role → Option Access
 access_of own number call role =
     option_and_then (λ touch. option_map (access_with own.rank number call touch) (span_of own number call role)) (touch_at own.windows own.rank call.what role)
 
+-- those of a call, by role
+abbrev pub call_accesses : Origin → ℕ → Call → List Access
+call_accesses own number call = filter_map (access_of own number call) roles
+
+-- those of the call of a number
+abbrev pub accesses_at : Origin → ℕ → List Access
+accesses_at own number = option_map_or (call_accesses own number) (slice_get own.sound number) []
+
 -- those of one rank, by the numbers of their calls and then by role
 abbrev pub accesses_of : Origin → List Access
-accesses_of own = by_number (λ number call. filter_map (access_of own number call) roles) 0 own.sound
+accesses_of own = by_number (call_accesses own) 0 own.sound
 
 -- one rank of a run
 abbrev pub origin_of : List RankCalls → RankCalls → Origin
