@@ -113,11 +113,11 @@ is_at_target _ = false
 abbrev pub span_of : Origin → ℕ → Call → Role → Option Span
 span_of own number call role = if is_at_target role then target_span_of own number call.what else own_span_of own number call call.what
 
--- the number of a call that touches something
+-- the number of a call that accesses memory: a load, a store or a poll, or an access to a target
 abbrev pub spanned : Origin → ℕ → Call → List ℕ
 spanned own number call = if is_some (own_span_of own number call call.what) then number ∷ [] else []
 
--- the numbers of the calls that touch something, ascending
+-- the numbers of the calls that access memory, ascending
 abbrev pub spanned_calls : Origin → List ℕ
 spanned_calls own = by_number (spanned own) 0 own.sound
 
@@ -140,11 +140,13 @@ accesses_at own number = option_map_or (call_accesses own number) (slice_get own
 abbrev pub accesses_of : Origin → List Access
 accesses_of own = by_number (call_accesses own) 0 own.sound
 
+-- a rank of a run with these windows, by its calls
+abbrev pub origin_with : List Window → List RankCalls → Rank → List Call → Origin
+origin_with windows ranks rank calls = record { windows = windows; calls = calls_of ranks; rank = rank; sound = sound_calls windows calls }
+
 -- one rank of a run
 abbrev pub origin_of : List RankCalls → RankCalls → Origin
-origin_of ranks own =
-    let windows = windows_by (creations ranks) in
-    record { windows = windows; calls = calls_of ranks; rank = own.rank; sound = sound_calls windows own.calls }
+origin_of ranks own = origin_with (windows_by (creations ranks)) ranks own.rank own.calls
 
 -- those of all sound calls of a run, by rank
 abbrev pub accesses : List RankCalls → List Access
@@ -157,10 +159,6 @@ abbrev pub AreFreedLater : Origin → Type 0
 AreFreedLater own =
     (number : ℕ) (call : Call) (epoch : Epoch) (target : Rank) → slice_get own.sound number ≡ Some call → epoch_of own number ≡ Some epoch
     → IsFrom number (freed_by own epoch target call.request number)
-
--- the sound calls of a rank of a run, by all its calls
-abbrev pub origin_with : List Window → List RankCalls → Rank → List Call → Origin
-origin_with windows ranks rank calls = record { windows = windows; calls = calls_of ranks; rank = rank; sound = sound_calls windows calls }
 
 -- what is asked of the calls of the rank, of which these are all, and of what is known by the numbers of what they do: the buffers of an
 -- access have canonical runs, as in a good log, and parts lie in the space of addresses, as in any table of windows

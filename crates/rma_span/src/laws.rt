@@ -7,8 +7,8 @@ ghost use Rattle.rma_kept.specs.Kept.{AreKept};
 ghost use Rattle.rma_touch.specs.Touches.{HasBuffers};
 ghost use Rattle.rma_span.specs.Span.{AreFreedLater, Origin, accesses_at, accesses_of, spanned_calls};
 
-/// The accesses of a rank are those of its calls that touch something, each by its number.
-pub fn accesses_are_those_of_calls_that_touch_something()
+/// The accesses of a rank are those that its calls make which access memory, each by its number.
+pub fn accesses_are_those_of_spanned_calls()
     ensures { (own : Origin) → accesses_of own ≡ flat_map (accesses_at own) (spanned_calls own) }
 {}
 

@@ -28,7 +28,7 @@ use std::alloc::Global;
 /// The spans of what the sound calls of a rank touch.
 #[derive(Drop)]
 pub struct RankSpans {
-    /// Those of each call that touches something, in the order of the calls.
+    /// Those of each call that accesses memory, in the order of the calls.
     spans: Vec<CallSpans>,
     /// The lists of lock epochs in which memory of the rank itself is used.
     own_lists: KeyLists,
@@ -81,14 +81,14 @@ impl RankSpans {
         })
     }
 
-    /// How many calls touch something.
+    /// How many calls access memory.
     pub fn len(&self) -> usize
         ensures { (own : Origin) → Represents own self.now → result ≡ length (spanned_calls own) }
     {
         self.spans.len()
     }
 
-    /// The number of the call at an index among those that touch something.
+    /// The number of the call at an index among those that access memory.
     pub fn call(&self, index: usize) -> u32
         requires { (own : Origin) × Represents own self.now × index < length (spanned_calls own) }
         ensures { (own : Origin) → Represents own self.now → slice_get (spanned_calls own) index ≡ Some result }
@@ -96,7 +96,7 @@ impl RankSpans {
         self.spans[index].call
     }
 
-    /// The access of the call at an index in a role, if it makes one in that role. The calls are those of the rank, and of what they
+    /// The access of the call at an index in a role, if it makes one in that role: it makes none of no bytes. The calls are those of the rank, and of what they
     /// do these are the windows and parts.
     pub fn access<'a>(
         &'a self,

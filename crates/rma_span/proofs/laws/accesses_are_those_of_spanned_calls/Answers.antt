@@ -1,5 +1,5 @@
 use Rattle.rma_span.proofs.ListedLemmas.{all_accesses}
-use Rattle.rma_span.proofs.laws.accesses_are_those_of_calls_that_touch_something.Goals as goal
+use Rattle.rma_span.proofs.laws.accesses_are_those_of_spanned_calls.Goals as goal
 
 pub returns : goal.returns
 returns c = all_accesses
