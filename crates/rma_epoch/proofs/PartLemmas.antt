@@ -19,7 +19,7 @@ use Rattle.rma_epoch.specs.declared.parts.Entry.{Entry}
 use Rattle.rma_epoch.specs.declared.parts.PartKey.{PartKey}
 use Rattle.rma_epoch.specs.declared.parts.Parts.{Parts}
 use Rattle.rma_epoch.specs.Table.{AreParts, OnWindow, at_what, on_none, on_window}
-use Rattle.rma_epoch.specs.inside.Parts.{AreEntries, AreRemembered, IsEntry, IsPart, StayIn, number_kept, part_to, shown, shown_in, target_of}
+use Rattle.rma_epoch.specs.inside.Parts.{AreEntries, AreRemembered, IsEntry, IsInSpace, IsPart, StayIn, number_kept, part_to, shown, shown_in, target_of}
 use Rattle.rma_epoch.proofs.PlaceLemmas.{in_push}
 
 -- ---- keys
@@ -48,10 +48,13 @@ key_there entries key index e found there =
     same_key key e.0 (ap (is_key key) (sym read) ∙ at.1)
 
 -- the parts with one more
-pub remembered_more : (windows : List Window) (entries : List (PartKey × Part)) (key : PartKey) (part : Part) → AreRemembered windows entries → part_of windows key.window key.rank ≡ Some part → AreRemembered windows (entries ++ (key, part) ∷ [])
-remembered_more windows entries key part are is i e there =
-    in_push (part_of windows e.0.window e.0.rank ≡ Some e.1) entries (key, part) e i there (are i e)
-    (λ last same. subst (λ (f : PartKey × Part). part_of windows f.0.window f.0.rank ≡ Some f.1) same is)
+pub remembered_more : (windows : List Window) (entries : List (PartKey × Part)) (key : PartKey) (part : Part) → AreRemembered windows entries → part_of windows key.window key.rank ≡ Some part → IsInSpace part → AreRemembered windows (entries ++ (key, part) ∷ [])
+remembered_more windows entries key part are is space = record {
+  parts_are = λ i e there. in_push (part_of windows e.0.window e.0.rank ≡ Some e.1) entries (key, part) e i there (are.parts_are i e)
+      (λ last same. subst (λ (f : PartKey × Part). part_of windows f.0.window f.0.rank ≡ Some f.1) same is);
+  in_space = λ i e there. in_push (IsInSpace e.1) entries (key, part) e i there (are.in_space i e)
+      (λ last same. subst (λ (f : PartKey × Part). IsInSpace f.1) same space);
+}
 
 -- ---- entries
 

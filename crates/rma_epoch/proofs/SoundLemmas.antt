@@ -1,7 +1,7 @@
 -- The sound calls of a rank.
-use Rattle.std.proofs.Common.{◌≡◌, ℕ, suc, ◌+◌, cond, ◌∷◌, ◌++◌, List, [], take, drop, Some, None, slice_get, sym, ap, ◌∙◌, arith, append_assoc, length, refl, Option}
+use Rattle.std.proofs.Common.{◌≡◌, ℕ, suc, ◌+◌, cond, ◌∷◌, ◌++◌, List, [], take, drop, Some, None, slice_get, sym, ap, ◌∙◌, arith, append_assoc, length, refl, Option, ◌≤◌}
 use Rattle.std.proofs.Math.Seq.{drop-cons}
-use Rattle.std.proofs.lemmas.List.{append-nil}
+use Rattle.std.proofs.lemmas.List.{append-nil, length-append, take-append-drop}
 use Rattle.std.proofs.lemmas.Option.{slice_get_within, get_or_from_slice_get}
 use Rattle.std.specs.Prelude.{is_none, option_map}
 use Rattle.std.specs.Option.{option_or}
@@ -12,7 +12,7 @@ use Rattle.rma_epoch.specs.declared.fault.EpochFault.{EpochFault}
 use Rattle.rma_window.specs.Windows.{Window}
 use Rattle.rma_open.specs.Reason.{reason_at}
 use Rattle.rma_epoch.specs.Fault.{fault_from}
-use Rattle.rma_epoch.specs.Table.{sound_from}
+use Rattle.rma_epoch.specs.Table.{sound_calls, sound_from}
 use Rattle.rma_epoch.specs.Laws.{FaultComesNext, SoundComeFirst}
 use Rattle.rma_epoch.proofs.LiveLemmas.{taken_there}
 
@@ -64,6 +64,14 @@ come_first windows before (call ∷ calls) = by (reason_at windows before call) 
 
 pub sound_first : (windows : List Window) (calls : List Call) → SoundComeFirst windows calls
 sound_first windows calls = come_first windows [] calls
+
+-- there are no more sound calls than calls
+pub sound_within : (windows : List Window) (calls : List Call) → length (sound_calls windows calls) ≤ length calls
+sound_within windows calls =
+    let n = length (sound_calls windows calls) in
+    let parts : length (take n calls) + length (drop n calls) ≡ length calls = sym (length-append (take n calls) (drop n calls)) ∙ ap length (take-append-drop n calls) in
+    let first : n ≡ length (take n calls) = ap length (sound_first windows calls) in
+    omega arith
 
 comes_next : (windows : List Window) (before calls : List Call) (end : LineNo) (call : Call) → slice_get calls (length (sound_from windows before calls)) ≡ Some call
     → option_map (λ (fault : EpochFault). fault.line) (fault_from windows before calls end) ≡ Some call.line

@@ -15,12 +15,11 @@ use Rattle.rma_open.specs.declared.opening.EpochKind.{EpochKind}
 use Rattle.rma_open.specs.declared.opening.EpochKind.TheVariants.{Lock, LockAll}
 use Rattle.rma_open.specs.declared.opening.Opening.{Opening}
 use Rattle.rma_epoch.specs.declared.epoch.Epoch.{Epoch}
-use Rattle.rma_epoch.specs.declared.epoch.Targets.{Targets}
-use Rattle.rma_epoch.specs.declared.epoch.Targets.TheVariants.{One}
 use Rattle.rma_open.specs.Open.{open_on, is_exclusive}
 use Rattle.rma_open.specs.Reaching.{all_reaching}
 use Rattle.rma_epoch.specs.Fault.{fault_of}
 use Rattle.rma_epoch.specs.Table.{Ascend, InOrder, close_of, epoch_at, epochs_of, placed_of, sound_calls}
+use Rattle.rma_epoch.specs.Targets.{one_target}
 
 -- ---- sound calls
 
@@ -114,11 +113,6 @@ locks_from windows close number (call ∷ calls) = cons_option (lock_opened wind
 -- the lock epochs of these calls, in the order of their opening
 abbrev pub locks_of : List Window → List Call → List LockEpoch
 locks_of windows calls = locks_from windows (close_of calls) 0 calls
-
--- the one target of an epoch
-abbrev pub one_target : Targets → Option Rank
-one_target (One target) = Some target
-one_target _ = None
 
 -- a lock epoch of a kind, where it is that of a lock or a lockall
 abbrev pub lock_of_kind : EpochKind → Epoch → Option LockEpoch

@@ -4,5 +4,6 @@ pub use Rattle.rma_open.specs.Reason
 pub use Rattle.rma_open.specs.Reaching
 pub mod Fault
 pub mod Table
+pub mod Targets
 pub mod Laws
 pub mod inside

@@ -130,6 +130,7 @@ impl OpenWindows {
         ensures len { IfOk result (λ places. length places.items ≡ length calls.now.whats) }
         ensures places { IfOk result (λ places. ArePlaces windows.now (names_in self.new) calls.now.whats places.items) }
         ensures same { OnOk result ((before : List Call) → IsOpenAfter before self.old → IsOpenAfter before self.new) }
+        ensures remembered { OnOk result (AreRemembered windows.now parts.new.parts.entries) }
         ensures parts_len { OnOk result (length parts.new.entries.items ≡ length calls.now.whats) }
         ensures parts { OnOk result (AreEntries windows.now calls.now.whats parts.new) }
     {

@@ -1,11 +1,12 @@
 //! What calls share that do the same: their window, and the part of their target.
-ghost use Rattle.std.specs.Prelude.{◌≡◌, ◌+◌, [], length, List, None, Some, option_map, slice_get, IfOk, OnOk};
+ghost use Rattle.std.specs.Prelude.{◌≡◌, ◌≤◌, ◌+◌, [], length, List, None, Some, option_map, slice_get, IfOk, IfSome, OnOk};
+ghost use Rattle.rma_base.specs.Limits.{address_limit};
 ghost use Rattle.rma_call.specs.Call.{what_of};
 ghost use Rattle.rma_call.specs.declared.what.What.{What};
 ghost use Rattle.rma_window.specs.Windows.{part_of};
 ghost use Rattle.rma_open.specs.Calls.{number_on, part_on};
 ghost use Rattle.rma_epoch.specs.Table.{at_what};
-ghost use Rattle.rma_epoch.specs.inside.Parts.{AreEntries, AreRemembered, IsPart, number_kept, part_at, part_kept, part_to, shown_in, StayIn, target_of, window_at};
+ghost use Rattle.rma_epoch.specs.inside.Parts.{AreEntries, AreInSpace, AreRemembered, IsPart, number_kept, part_at, part_kept, part_to, shown_in, StayIn, target_of, window_at};
 
 use indexmap::IndexMap;
 use rma_base::{Memory, Rank};
@@ -211,14 +212,17 @@ impl Model for PartTable {
 
     ghost Value = { List OnWindow };
 
-    ghost use Rattle.rma_epoch.specs.inside.Parts.{shown_in};
+    ghost use Rattle.rma_epoch.specs.inside.Parts.{AreInSpace, shown_in};
 
     ghost view = { λ table. shown_in table.kept };
+
+    ghost invariant = { λ table. AreInSpace table.kept.parts.entries };
 }
 
 impl PartTable {
     /// The table of what is kept.
     pub(crate) fn new(kept: Parts) -> PartTable
+        requires { AreInSpace kept.parts.entries }
         ensures { result ≡ shown_in kept }
     {
         PartTable { kept }
@@ -233,7 +237,8 @@ impl PartTable {
 
     /// The part of the target of calls whose number of what they do is this one, where they are accesses to a target that has one.
     pub fn part(&self, what: u32) -> Option<Part>
-        ensures { result ≡ (at_what self.now what).part }
+        ensures part { result ≡ (at_what self.now what).part }
+        ensures in_space { IfSome result (λ part. part.base + part.size ≤ address_limit) }
     {
         part_in(&self.kept.entries, &self.kept.parts, what)
     }

@@ -9,8 +9,7 @@ use Rattle.rma_call.specs.Call.{Call}
 use Rattle.rma_open.specs.declared.opening.EpochKind.{EpochKind}
 use Rattle.rma_open.specs.declared.opening.EpochKind.TheVariants as kind
 use Rattle.rma_epoch.specs.declared.epoch.Epoch.{Epoch}
-use Rattle.rma_epoch.specs.declared.epoch.Targets.{Targets}
-use Rattle.rma_epoch.specs.declared.epoch.Targets.TheVariants.{One}
+use Rattle.rma_epoch.specs.Targets.{one_target}
 use Rattle.rma_rules.specs.declared.span.Exposure.{Exposure}
 use Rattle.rma_rules.specs.declared.span.ExposureKind.TheVariants.{Posted}
 use Rattle.rma_rules.specs.declared.span.LockSpan.{LockSpan}
@@ -20,11 +19,6 @@ use Rattle.rma_rules.specs.Spans.{Spans}
 -- the line of the call of a number
 abbrev pub line_of : List Call → ℕ → LineNo
 line_of calls number = option_map_or (λ call. call.line) (slice_get calls number) (record { 0 = 0 })
-
--- the one target of an epoch; a lockall has all that have a part of the window
-abbrev pub one_target : Targets → Option Rank
-one_target (One target) = Some target
-one_target _ = None
 
 -- an epoch of a rank as a lock epoch
 abbrev pub lock_with : Rank → List Call → Epoch → LockSpan

@@ -1,6 +1,7 @@
 //! The lists of such epochs.
 ghost use Rattle.std.specs.Prelude.{◌≡◌, ◌∷◌, [], OnOk};
-ghost use Rattle.rma_exposed.specs.Exposed.{exposure_with, line_of, lock_with, one_target, post_with, with_epochs};
+ghost use Rattle.rma_exposed.specs.Exposed.{exposure_with, line_of, lock_with, post_with, with_epochs};
+ghost use Rattle.rma_epoch.specs.Targets.{one_target};
 
 use rma_base::{LineNo, Memory, Rank};
 use rma_call::CallList;

@@ -1,9 +1,9 @@
 -- Where the accesses of a rank start and are done, and the lock epochs in which they lie (MPI 4.0, "One-Sided Communications",
 -- completion of operations).
-use Rattle.std.specs.Prelude.{◌≡◌, ◌≤◌, ◌+◌, ℕ, ◌∷◌, [], List, Option, Some, None, option_map, option_to_list, slice_get, length, is_some, IfSome, if◌then◌else◌, Bool, true, false}
+use Rattle.std.specs.Prelude.{◌≡◌, ◌≤◌, ℕ, ◌∷◌, [], List, Option, Some, None, option_map, option_to_list, slice_get, length, is_some, if◌then◌else◌, Bool, true, false}
 use Rattle.std.specs.Option.{option_and_then, option_map_or}
 use Rattle.std.specs.List.{filter_map, flat_map}
-use Rattle.rma_base.specs.Limits.{address_limit, fed_limit}
+use Rattle.rma_base.specs.Limits.{fed_limit}
 use Rattle.rma_base.specs.declared.rank.Rank.{Rank}
 use Rattle.rma_base.specs.declared.point.Point.{Point}
 use Rattle.rma_call.specs.Call.{Call, CallTable, RankCalls}
@@ -13,7 +13,6 @@ use Rattle.rma_link.specs.Point.{entry, return_of}
 use Rattle.rma_run.specs.Run.{by_number, calls_of}
 use Rattle.rma_window.specs.Creation.{creations}
 use Rattle.rma_window.specs.Windows.{Window, windows_by}
-use Rattle.rma_open.specs.Calls.{part_on}
 use Rattle.rma_open.specs.declared.opening.EpochKind.{EpochKind}
 use Rattle.rma_open.specs.declared.opening.EpochKind.TheVariants as kind
 use Rattle.rma_epoch.specs.declared.epoch.Epoch.{Epoch}
@@ -161,10 +160,9 @@ AreFreedLater own =
     → IsFrom number (freed_by own epoch target call.request number)
 
 -- what is asked of the calls of the rank, of which these are all, and of what is known by the numbers of what they do: the buffers of an
--- access have canonical runs, as in a good log, and parts lie in the space of addresses, as in any table of windows
+-- access have canonical runs, as in a good log
 pub record AreAskable (own : Origin) (table : CallTable) (known : List OnWindow) : Type 0 where
   pub sound : own.sound ≡ sound_calls own.windows table.calls
   pub few : length table.calls ≤ fed_limit
   pub parts : AreParts own.windows table known
   pub buffers : (place : ℕ) (call : Call) → slice_get table.calls place ≡ Some call → HasBuffers call.what
-  pub space : (what : What) → IfSome (part_on own.windows what) (λ part. part.base + part.size ≤ address_limit)

@@ -1,12 +1,9 @@
 -- One more call in the lists.
-use Rattle.std.proofs.Common.{◌≡◌, ◌≢◌, ◌<◌, ℕ, ◌+◌, ◌==◌, List, [], ◌∷◌, ◌++◌, ◌≤◌, length, take, drop, All, Bool, true, false, Option, Some, None, refl, sym, ap, subst, ◌∙◌, arith, append-nil, if◌then◌else◌}
+use Rattle.std.proofs.Common.{◌≡◌, ◌≢◌, ◌<◌, ℕ, ◌+◌, ◌==◌, List, [], ◌∷◌, ◌++◌, length, All, Bool, true, false, Option, Some, None, refl, sym, ap, subst, ◌∙◌, arith, append-nil, if◌then◌else◌}
 use Rattle.std.proofs.lemmas.Bool.Decides.{nat_tests}
-use Rattle.std.proofs.lemmas.List.{length-append, take-append-drop}
 use Rattle.std.proofs.lemmas.List.Elements.{All-nil, All-cons, All-append, All-weaker}
 use Rattle.rma_base.specs.declared.rank.Rank.{Rank}
 use Rattle.rma_call.specs.Call.{Call}
-use Rattle.rma_epoch.specs.Table.{sound_calls}
-use Rattle.rma_epoch.proofs.SoundLemmas.{sound_first}
 use Rattle.rma_run.specs.Run.{by_number}
 use Rattle.rma_run.proofs.WalkLemmas.{by_number_push}
 use Rattle.rma_window.specs.declared.window_id.WindowId.{WindowId}
@@ -120,12 +117,3 @@ pub ended : (rank : Rank) (first next last : Spans) (published shown : Option Wi
     → last ≡ with_both first rank published shown number
 ended rank first next last published shown number e f =
     f ∙ ap (λ (s : Spans). let t : Spans = record s { visible = with_some s.visible rank shown number } in t) e
-
--- ---- the sound calls
-
-pub sound_within : (windows : List Window) (calls : List Call) → length (sound_calls windows calls) ≤ length calls
-sound_within windows calls =
-    let n = length (sound_calls windows calls) in
-    let parts : length (take n calls) + length (drop n calls) ≡ length calls = sym (length-append (take n calls) (drop n calls)) ∙ ap length (take-append-drop n calls) in
-    let first : n ≡ length (take n calls) = ap length (sound_first windows calls) in
-    omega arith

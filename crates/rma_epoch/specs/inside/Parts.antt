@@ -1,6 +1,7 @@
 -- How what calls share that do the same is kept.
-use Rattle.std.specs.Prelude.{◌≡◌, ℕ, zero, suc, List, map, Option, Some, None, option_map, slice_get}
+use Rattle.std.specs.Prelude.{◌≡◌, ◌≤◌, ℕ, ◌+◌, zero, suc, List, map, Option, Some, None, option_map, slice_get}
 use Rattle.std.specs.Option.{option_and_then}
+use Rattle.rma_base.specs.Limits.{address_limit}
 use Rattle.rma_base.specs.declared.rank.Rank.{Rank}
 use Rattle.rma_call.specs.declared.what.What.{What}
 use Rattle.rma_call.specs.declared.what.What.TheVariants.{Rma}
@@ -30,9 +31,18 @@ part_kept parts kept = option_map (λ e. e.1) (option_and_then (slice_get parts)
 abbrev pub shown : List (PartKey × Part) → Entry → OnWindow
 shown parts entry = record { window = window_kept entry.window; part = part_kept parts entry.part }
 
--- the parts that are kept are those of the windows
-abbrev pub AreRemembered : List Window → List (PartKey × Part) → Type 0
-AreRemembered windows parts = (i : ℕ) (e : PartKey × Part) → slice_get parts i ≡ Some e → part_of windows e.0.window e.0.rank ≡ Some e.1
+-- a part lies in the space of addresses
+abbrev pub IsInSpace : Part → Type 0
+IsInSpace part = part.base + part.size ≤ address_limit
+
+-- the parts that are kept do
+abbrev pub AreInSpace : List (PartKey × Part) → Type 0
+AreInSpace parts = (i : ℕ) (e : PartKey × Part) → slice_get parts i ≡ Some e → IsInSpace e.1
+
+-- the parts that are kept are those of the windows, and lie in the space of addresses
+pub record AreRemembered (windows : List Window) (parts : List (PartKey × Part)) : Type 0 where
+  pub parts_are : (i : ℕ) (e : PartKey × Part) → slice_get parts i ≡ Some e → part_of windows e.0.window e.0.rank ≡ Some e.1
+  pub in_space : AreInSpace parts
 
 -- a number stands for a part, where it has one
 abbrev pub IsPart : List (PartKey × Part) → Option ℕ → Option Part → Type 0

@@ -16,7 +16,7 @@ returns-in-Some-clause-part c =
     let e : PartKey × Part = (c.in-Some.field-0-1.now, c.in-Some.part.now) in
     let same = key_there entries c.args.key c.in-Some.index e c.in-Some.ensures.index c.in-Some.ensures.entry in
     IfOk_map c.found_at.result
-    (λ found is. ap (λ (f : FoundPart). f.part) is ∙ sym (c.requires c.in-Some.index e c.in-Some.ensures.entry) ∙ ap (λ (k : PartKey). part_of c.args.windows.now k.window k.rank) same)
+    (λ found is. ap (λ (f : FoundPart). f.part) is ∙ sym (c.requires.parts_are c.in-Some.index e c.in-Some.ensures.entry) ∙ ap (λ (k : PartKey). part_of c.args.windows.now k.window k.rank) same)
     c.found_at.ensures
 
 pub returns-in-Some-clause-index : goal.returns-in-Some-clause-index
@@ -25,7 +25,7 @@ returns-in-Some-clause-index c =
     let windows = c.args.windows.now in
     let e : PartKey × Part = (c.in-Some.field-0-1.now, c.in-Some.part.now) in
     let same = key_there entries c.args.key c.in-Some.index e c.in-Some.ensures.index c.in-Some.ensures.entry in
-    let part : part_of windows c.args.key.window c.args.key.rank ≡ Some e.1 = sym (ap (λ (k : PartKey). part_of windows k.window k.rank) same) ∙ c.requires c.in-Some.index e c.in-Some.ensures.entry in
+    let part : part_of windows c.args.key.window c.args.key.rank ≡ Some e.1 = sym (ap (λ (k : PartKey). part_of windows k.window k.rank) same) ∙ c.requires.parts_are c.in-Some.index e c.in-Some.ensures.entry in
     IfOk_map c.found_at.result
     (λ found is. subst (λ (f : FoundPart). IsPart entries f.index (part_of windows c.args.key.window c.args.key.rank)) (sym is) (e, c.in-Some.ensures.entry, part))
     c.found_at.ensures
@@ -58,4 +58,4 @@ returns-clause-remembered c =
     let key = c.args.key in
     let part = c.in-Some-part.part in
     let new = c.in_ok-insert.ensures.entries ∙ insert_entry-new _ m key part (sym c.in_default.ensures.value) in
-    OnOk_always c.found_at-2.result (subst (AreRemembered windows) (sym new) (remembered_more windows m.entries key part c.requires (sym c.in-Some-part.ensures.part)))
+    OnOk_always c.found_at-2.result (subst (AreRemembered windows) (sym new) (remembered_more windows m.entries key part c.requires (sym c.in-Some-part.ensures.part) c.in-Some-part.ensures.in_space))

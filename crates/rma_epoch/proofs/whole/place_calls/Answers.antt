@@ -15,6 +15,9 @@ returns-then-are_on_no_window-clause-fault c =
 pub take_sound-requires-clause-no_epochs : goal.take_sound-requires-clause-no_epochs
 take_sound-requires-clause-no_epochs c = c.on-live.ensures.no_epochs c.args.windows.now
 
+pub new-requires : goal.new-requires
+new-requires c = c.in_ok-places.ensures.remembered.in_space
+
 pub into_table-table-requires : goal.into_table-table-requires
 into_table-table-requires c = subst InOrder (sym c.in_ok-fault.ensures.epochs.placed_are) (placed_in_order c.args.windows.now (sound_calls c.args.windows.now c.args.calls.now.calls))
 

@@ -2,9 +2,9 @@ use Rattle.std.proofs.Common.{◌≡◌, length, take, sym, ap, subst, ◌∙◌
 use Rattle.rma_call.specs.Call.{Call, call_of}
 use Rattle.rma_run.proofs.WalkLemmas.{taken_length, taken_there}
 use Rattle.rma_epoch.specs.Table.{at_what, sound_calls}
-use Rattle.rma_epoch.proofs.SoundLemmas.{sound_first}
+use Rattle.rma_epoch.proofs.SoundLemmas.{sound_first, sound_within}
 use Rattle.rma_visibility.specs.Visibility.{AreListed}
-use Rattle.rma_visibility.proofs.ListedLemmas.{same_again, sound_within}
+use Rattle.rma_visibility.proofs.ListedLemmas.{same_again}
 use Rattle.rma_visibility.proofs.lists.list_calls.Goals as goal
 
 pub get-call-requires : goal.get-call-requires

@@ -1,9 +1,7 @@
-use Rattle.std.proofs.Common.{◌≡◌, ◌≤◌, ◌+◌, Some, slice_get, sym, ap, subst, ◌∙◌, arith, option_map, IfSome}
+use Rattle.std.proofs.Common.{◌≡◌, Some, slice_get, sym, ap, ◌∙◌, arith, option_map}
 use Rattle.std.proofs.lemmas.Option.{same_Some, slice_get_within}
-use Rattle.rma_base.specs.Limits.{address_limit}
 use Rattle.rma_call.specs.Call.{Call, call_of}
 use Rattle.rma_epoch.specs.Table.{OnWindow}
-use Rattle.rma_window.specs.declared.part.Part.{Part}
 use Rattle.rma_span.specs.Span.{access_of}
 use Rattle.rma_span.proofs.AccessLemmas.{call_in, number_here, spans_here}
 use Rattle.rma_span.proofs.rank_spans.RankSpans.access.Goals as goal
@@ -19,12 +17,7 @@ pub what_number-what-requires : goal.what_number-what-requires
 what_number-what-requires c = slice_get_within c.args.calls.now.calls c.at-spans.result.call (call_of c.get-call.result) c.get-call.ensures
 
 pub access_of-requires-clause-space : goal.access_of-requires-clause-space
-access_of-requires-clause-space c =
-    let (own, are, lt, ask) = c.requires in
-    let call = call_of c.get-call.result in
-    let same = c.what_number-what.ensures.what ∙ ap (option_map (λ (other : Call). other.what)) c.get-call.ensures in
-    let on = ask.parts c.at-spans.result.call c.what_number-what.result call c.get-call.ensures same in
-    subst (λ part. IfSome part (λ (p : Part). p.base + p.size ≤ address_limit)) (sym (c.part.ensures ∙ ap (λ (o : OnWindow). o.part) on)) (ask.space call.what)
+access_of-requires-clause-space c = c.part.ensures.in_space
 
 pub access_of-requires-clause-small : goal.access_of-requires-clause-small
 access_of-requires-clause-small c =
@@ -49,5 +42,5 @@ returns c = λ own number call are ask rank at there.
     let same_call : mine ≡ call = same_Some mine call (sym found ∙ ap (slice_get own.sound) same_number ∙ there) in
     let same = c.what_number-what.ensures.what ∙ ap (option_map (λ (other : Call). other.what)) c.get-call.ensures in
     let on = ask.parts spans.call c.what_number-what.result mine c.get-call.ensures same in
-    c.access_of.ensures own here found rank (c.window.ensures ∙ ap (λ (o : OnWindow). o.window) on) (c.part.ensures ∙ ap (λ (o : OnWindow). o.part) on)
+    c.access_of.ensures own here found rank (c.window.ensures ∙ ap (λ (o : OnWindow). o.window) on) (c.part.ensures.part ∙ ap (λ (o : OnWindow). o.part) on)
     ∙ (λ t. access_of own (same_number t) (same_call t) c.args.role)

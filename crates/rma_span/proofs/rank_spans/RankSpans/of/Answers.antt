@@ -5,11 +5,11 @@ use Rattle.rma_completion.specs.inside.Kept.{Represents}
 use Rattle.rma_cover.specs.inside.Held.{Represents as Holds}
 use Rattle.rma_epoch.specs.declared.epoch.Epoch.{Epoch}
 use Rattle.rma_epoch.specs.Table.{AreParts, epochs_of, sound_calls}
-use Rattle.rma_epoch.proofs.SoundLemmas.{sound_first}
+use Rattle.rma_epoch.proofs.SoundLemmas.{sound_first, sound_within}
 use Rattle.rma_run.specs.Run.{calls_of}
 use Rattle.rma_span.specs.Span.{origin_with}
 use Rattle.rma_span.specs.inside.Stored.{AreSpansOf}
-use Rattle.rma_span.proofs.OriginLemmas.{openers_ascend, sound_within}
+use Rattle.rma_span.proofs.OriginLemmas.{openers_ascend}
 use Rattle.rma_span.proofs.rank_spans.RankSpans.of.Goals as goal
 
 pub completions_of-requires : goal.completions_of-requires
