@@ -62,7 +62,7 @@ found_at names name place is =
 -- a place stays that of what calls do
 stays_place : (windows : List Window) (old new : List (List ℕ)) (what : What) (place : Option Place) → StayThere old new → IsPlaceOf windows old what place → IsPlaceOf windows new what place
 stays_place windows old new what None stay none = none
-stays_place windows old new what (Some place) stay (name, at, is, settled, does, number) = (name, stay place.index name at, is, settled, does, number)
+stays_place windows old new what (Some place) stay (name, at, is, settled, number) = (name, stay place.index name at, is, settled, number)
 
 -- the places with one more
 pub places_more : (windows : List Window) (old new : List (List ℕ)) (whats : List What) (places : List (Option Place)) (what : What) (place : Option Place) → StayThere old new →
@@ -73,11 +73,12 @@ places_more windows old new whats places what place stay there is are number oth
     (λ last same. let one : what ≡ other = (let here = ap (slice_get whats) last in cc) in subst (IsPlaceOf windows new other) same (subst (λ w. IsPlaceOf windows new w place) one is))
 
 -- the place of the window of a call, by the number of what it does, where these names are there now
-pub place_here : (windows : List Window) (names now : List (List ℕ)) (whats : List What) (places : List (Option Place)) (calls : List Call) (i number : ℕ) (call : Call) (place : Option Place) → ArePlaces windows names whats places
-    → number < length places → place ≡ get_or places number place → slice_get calls i ≡ Some call → slice_get whats number ≡ option_map (λ c. c.what) (slice_get calls i) → now ≡ names → IsPlaceOf windows now call.what place
-place_here windows names now whats places calls i number call place are within read there what same =
+pub place_here : (windows : List Window) (names now : List (List ℕ)) (whats : List What) (places : List (Option Place)) (calls : List Call) (i number : ℕ) (call : Call) → ArePlaces windows names whats places
+    → number < length places → slice_get calls i ≡ Some call → slice_get whats number ≡ option_map (λ c. c.what) (slice_get calls i) → now ≡ names → IsPlaceOf windows now call.what (get_or places number None)
+place_here windows names now whats places calls i number call are within there what same =
+    let place = get_or places number None in
     subst (λ names. IsPlaceOf windows names call.what place) (sym same)
-    (are number call.what place (what ∙ ap (option_map (λ (c : Call). c.what)) there) (slice_get-get_or places number place within ∙ ap Some (sym read)))
+    (are number call.what place (what ∙ ap (option_map (λ (c : Call). c.what)) there) (slice_get-get_or places number None within))
 
 -- as many calls as come before one
 pub counted : (calls : List Call) (i : ℕ) (call : Call) → slice_get calls i ≡ Some call → i ≡ length (take i calls)

@@ -25,7 +25,7 @@ use Rattle.rma_epoch.proofs.TableLemmas.{epochs_push, placed_push}
 -- the number of the window at a place
 pub place_window : (windows : List Window) (names : List (List ℕ)) (what : What) (place : Option Place) → IsPlaceOf windows names what place → option_and_then (λ (p : Place). p.window) place ≡ number_on windows what
 place_window windows names what None on = sym (ap (option_and_then (number_of windows)) on)
-place_window windows names what (Some place) is = is.5
+place_window windows names what (Some place) is = is.4
 
 module _ (windows : List Window) (calls : List Call) (call : Call) (placement : Placement) (old : List Epoch) (stands : placement ≡ placed_at calls call) (are : old ≡ epochs_of windows calls) where
   -- the epochs after one more call

@@ -85,7 +85,7 @@ impl LiveEpochs {
     pub(crate) fn take_at(
         &mut self,
         windows: &Windows,
-        place: Option<Place<'_>>,
+        place: Option<Place>,
         call: CallRef<'_>,
     ) -> Result<Taken, Memory>
         requires { IsPlaceOf windows.now (names_in self.old.windows) (call_of call).what place }
@@ -174,8 +174,8 @@ fn refused(reason: Option<EpochReason>) -> Taken
 }
 
 /// The number of the window at a place.
-fn window_of(place: Option<Place<'_>>) -> Option<WindowId>
-    ensures { result ≡ option_and_then (λ place. place.window) place.entry }
+fn window_of(place: Option<Place>) -> Option<WindowId>
+    ensures { result ≡ option_and_then (λ place. place.window) place }
 {
     match place {
         Some(place) => place.window,

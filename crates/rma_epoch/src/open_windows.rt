@@ -51,15 +51,13 @@ pub(crate) struct Spot {
 
 /// Where the window of a call is found.
 #[derive(Clone, Copy, Debug)]
-pub(crate) struct Place<'a> {
+pub(crate) struct Place {
     /// Its index among the windows on which something may be open.
     pub index: usize,
     /// Its number among the windows of the run, if it is one of them.
     pub window: Option<WindowId>,
     /// What is settled of the call, whatever is open there.
     pub settled: Settled,
-    /// What the call does.
-    pub what: WhatRef<'a>,
 }
 
 /// What comes of a call.
@@ -83,23 +81,17 @@ impl Step {
     }
 }
 
-impl Place<'_> {
+impl Place {
     /// The place of calls that do this, on a window that is found there, and to a target with this part of it.
-    pub(crate) fn new<'a>(
-        windows: &Windows,
-        spot: Spot,
-        part: Option<Part>,
-        what: WhatRef<'a>,
-    ) -> Place<'a>
+    pub(crate) fn new(windows: &Windows, spot: Spot, part: Option<Part>, what: WhatRef<'_>) -> Place
         requires window { spot.window ≡ number_on windows.now (what_of what) }
         requires part { part ≡ part_on windows.now (what_of what) }
-        ensures { result ≡ record { index = spot.index; window = spot.window; settled = settled_by windows.now (what_of what.entry); what = what.entry } }
+        ensures { result ≡ record { index = spot.index; window = spot.window; settled = settled_by windows.now (what_of what.entry) } }
     {
         Place {
             index: spot.index,
             window: spot.window,
             settled: Settled::of(windows, spot.window, part, what),
-            what,
         }
     }
 }
@@ -119,12 +111,12 @@ impl OpenWindows {
 
     /// The places of the windows that calls are on, by the numbers of what calls do. What they share that do the same is added to
     /// the parts, where nothing stands yet.
-    pub(crate) fn places<'a>(
+    pub(crate) fn places(
         &mut self,
         windows: &Windows,
         parts: &mut Parts,
-        calls: &'a CallList,
-    ) -> Result<Vec<Option<Place<'a>>>, Memory>
+        calls: &CallList,
+    ) -> Result<Vec<Option<Place>>, Memory>
         requires nothing { parts.old.entries.items ≡ [] }
         requires remembered { AreRemembered windows.now parts.old.parts.entries }
         ensures len { IfOk result (λ places. length places.items ≡ length calls.now.whats) }
@@ -143,12 +135,12 @@ impl OpenWindows {
     }
 
     /// The place of the window that calls are on which do this, where they are on one. What they share is added to the parts.
-    fn place_with<'a>(
+    fn place_with(
         &mut self,
         windows: &Windows,
         parts: &mut Parts,
-        what: WhatRef<'a>,
-    ) -> Result<Option<Place<'a>>, Memory>
+        what: WhatRef<'_>,
+    ) -> Result<Option<Place>, Memory>
         requires { AreRemembered windows.now parts.old.parts.entries }
         ensures place { IfOk result (IsPlaceOf windows.now (names_in self.new) (what_of what.entry)) }
         ensures remembered { OnOk result (AreRemembered windows.now parts.new.parts.entries) }
@@ -170,11 +162,11 @@ impl OpenWindows {
     }
 
     /// The place of the window that calls are on which do this, where they are on one.
-    pub(crate) fn place<'a>(
+    pub(crate) fn place(
         &mut self,
         windows: &Windows,
-        what: WhatRef<'a>,
-    ) -> Result<Option<Place<'a>>, Memory>
+        what: WhatRef<'_>,
+    ) -> Result<Option<Place>, Memory>
         ensures place { IfOk result (IsPlaceOf windows.now (names_in self.new) (what_of what.entry)) }
         ensures names { OnOk result (StayThere (names_in self.old) (names_in self.new)) }
         ensures same { OnOk result ((before : List Call) → IsOpenAfter before self.old → IsOpenAfter before self.new) }
@@ -248,12 +240,12 @@ impl OpenWindows {
     /// `Memory`, and then nothing is said of what is kept.
     pub(crate) fn take(
         &mut self,
-        place: Option<Place<'_>>,
+        place: Option<Place>,
         number: u32,
         call: CallRef<'_>,
     ) -> Result<Step, Memory>
         ensures names { OnOk result (names_in self.new ≡ names_in self.old) }
-        ensures taken { IfOk result (λ step. (windows : List Window) (calls : List Call) → IsPlaceOf windows (names_in self.old) (call_of call.entry).what place.entry → number ≡ length calls → IsOpenAfter calls self.old
+        ensures taken { IfOk result (λ step. (windows : List Window) (calls : List Call) → IsPlaceOf windows (names_in self.old) (call_of call.entry).what place → number ≡ length calls → IsOpenAfter calls self.old
             → IsTaken windows calls (call_of call.entry) step self.new.windows.entries) }
     {
         match place {
@@ -319,12 +311,12 @@ fn is_number(windows: &Windows, number: WindowId, name: &Name) -> bool
 /// Takes the call of this number, which is the next one, on the window at the place, unless it has a reason, which it answers.
 fn take_at(
     table: &mut IndexMap<Name, OpenEpochs>,
-    place: Place<'_>,
+    place: Place,
     number: u32,
     call: CallRef<'_>,
 ) -> Result<Step, Memory>
     ensures names { OnOk result (keys_of table.new.entries ≡ keys_of table.old.entries) }
-    ensures taken { IfOk result (λ step. (windows : List Window) (calls : List Call) → IsPlaceOf windows (keys_of table.old.entries) (call_of call.entry).what (Some place.entry) → number ≡ length calls
+    ensures taken { IfOk result (λ step. (windows : List Window) (calls : List Call) → IsPlaceOf windows (keys_of table.old.entries) (call_of call.entry).what (Some place) → number ≡ length calls
         → ((window : List ℕ) → kept table.old.entries window ≡ open_on calls window) → IsTaken windows calls (call_of call.entry) step table.new.entries) }
 {
     match table.get_index_mut(place.index) {
@@ -336,23 +328,21 @@ fn take_at(
 /// Takes the call of this number, on the window on which this is open, unless it has a reason, which it answers.
 fn take_on(
     own: &mut OpenEpochs,
-    place: Place<'_>,
+    place: Place,
     number: u32,
     call: CallRef<'_>,
 ) -> Result<Step, Memory>
-    ensures placement { IfOk result (λ step. step.placement ≡ placed_in (open_of own.old) (what_of place.entry.what)) }
-    ensures reason { IfOk result (λ step. (windows : List Window) → place.entry.settled ≡ settled_by windows (what_of place.entry.what)
-        → step.reason ≡ reason_in windows (open_of own.old) (what_of place.entry.what) call.entry.request) }
+    ensures placement { IfOk result (λ step. step.placement ≡ placed_in (open_of own.old) (call_of call.entry).what) }
+    ensures reason { IfOk result (λ step. (windows : List Window) → place.settled ≡ settled_by windows (call_of call.entry).what
+        → step.reason ≡ reason_in windows (open_of own.old) (call_of call.entry).what call.entry.request) }
     ensures taken { IfOk result (λ step. (past : List (ℕ × What)) → open_of own.old ≡ open_after past
-        → open_of own.new ≡ open_after (past_with step.reason (number, what_of place.entry.what) past)) }
+        → open_of own.new ≡ open_after (past_with step.reason (number, (call_of call.entry).what) past)) }
 {
-    let what = place.what;
     let placement = Placement {
-        opening: own.opening(what),
-        closes: own.closed_by(what),
+        opening: own.opening(call.what),
+        closes: own.closed_by(call.what),
     };
     let (opening, closes) = (placement.opening, placement.closes);
-    let call = CallRef { what, ..call };
     let reason = own.take_allowed(place.settled, opening, closes, number, call)?;
     Ok(Step { reason, placement })
 }

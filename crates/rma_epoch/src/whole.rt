@@ -97,7 +97,7 @@ fn take_sound(
     live: &mut LiveEpochs,
     windows: &Windows,
     calls: &CallList,
-    places: &[Option<Place<'_>>],
+    places: &[Option<Place>],
     end: LineNo,
 ) -> Result<Option<EpochFault>, Memory>
     requires nothing { Represents [] live.old }

@@ -3,7 +3,7 @@ use Rattle.std.specs.Prelude.{◌≡◌, ℕ, List, [], nat_eq, Option, Some, No
 use Rattle.std.specs.Map.{keys_of, lookup}
 use Rattle.std.specs.Option.{option_map_or}
 use Rattle.std.specs.Cmp.Lexicographic.{pointwise}
-use Rattle.rma_call.specs.Call.{Call, what_of}
+use Rattle.rma_call.specs.Call.{Call}
 use Rattle.rma_call.specs.declared.what.What.{What}
 use Rattle.rma_window.specs.Windows.{Window}
 use Rattle.rma_open.specs.declared.open_epochs.OpenEpochs.{OpenEpochs}
@@ -37,12 +37,11 @@ abbrev pub IsSpotOf : List Window → List (List ℕ) → What → Option Spot �
 IsSpotOf windows names what None = window_on what ≡ None
 IsSpotOf windows names what (Some spot) = (name : List ℕ) × (slice_get names spot.index ≡ Some name) × (window_on what ≡ Some name) × (spot.window ≡ number_on windows what)
 
--- a place is that of the window which calls are on that do this, with its number, what is settled of them and what they do, and there is none where they are on no window
+-- a place is that of the window which calls are on that do this, with its number and what is settled of them, and there is none where they are on no window
 abbrev pub IsPlaceOf : List Window → List (List ℕ) → What → Option Place → Type 0
 IsPlaceOf windows names what None = window_on what ≡ None
 IsPlaceOf windows names what (Some place) = (name : List ℕ) × (slice_get names place.index ≡ Some name) × (window_on what ≡ Some name)
     × (place.settled ≡ settled_by windows what)
-    × (what_of place.what ≡ what)
     × (place.window ≡ number_on windows what)
 
 -- the places are those of what calls do, by number

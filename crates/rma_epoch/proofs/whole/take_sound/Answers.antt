@@ -61,5 +61,5 @@ take_at-requires c =
     let places = c.args.places.now in
     let call = call_of c.get-call.result in
     let number = c.what_number.result in
-    place_here windows _ _ calls.whats places calls.calls c.loop-i.i number call c.index-places-what_number.result c.requires.places (omega (arith, c.what_number.ensures.within, c.requires.each)) c.index-places-what_number.is
+    place_here windows _ _ calls.whats places calls.calls c.loop-i.i number call c.requires.places (omega (arith, c.what_number.ensures.within, c.requires.each))
     c.get-call.ensures c.what_number.ensures.what c.loop-i.invariant.names
