@@ -33,12 +33,18 @@ search_is epochs up opener (Ok i) within found =
     sym (position_up (λ (e : Epoch). e.opener) epochs up i at.0 opener at.1 at.2)
 search_is epochs up opener (Err i) within found = sym (position_missing (λ (e : Epoch). e.opener) epochs opener (missed (λ (e : Epoch). e.opener) epochs up i opener within found))
 
--- the same of accesses
+-- ---- accesses
+
+-- an access that is at an index
+pub access_there : (placed : List Placed) → InOrder placed → (call i : ℕ) (p : Placed) → slice_get placed i ≡ Some p → p.call ≡ call → Some p.epoch ≡ epoch_at placed call
+access_there placed up call i p there is = ap (option_map (λ (q : Placed). q.epoch)) (sym (find_up (λ (q : Placed). q.call) placed up i p call there is))
+
+-- what a search answers
 pub found_access : (placed : List Placed) → InOrder placed → (call i : ℕ) (d : Placed) → i < length placed → IsBinarySearchResult (λ (p : Placed). nat_cmp p.call call) placed (Ok i) → Some (get_or placed i d).epoch ≡ epoch_at placed call
 found_access placed up call i d within found =
     let at = hit (λ (p : Placed). p.call) placed i call within found in
     ap (λ (p : Placed). Some p.epoch) (get_or_from_slice_get placed i at.0 d at.1)
-    ∙ ap (option_map (λ (p : Placed). p.epoch)) (sym (find_up (λ (p : Placed). p.call) placed up i at.0 call at.1 at.2))
+    ∙ access_there placed up call i at.0 at.1 at.2
 
 pub missed_access : (placed : List Placed) → InOrder placed → (call i : ℕ) → i ≤ length placed → IsBinarySearchResult (λ (p : Placed). nat_cmp p.call call) placed (Err i) → None ≡ epoch_at placed call
 missed_access placed up call i within found = sym (ap (option_map (λ (p : Placed). p.epoch)) (find_missing (λ (p : Placed). p.call) placed call (missed (λ (p : Placed). p.call) placed up i call within found)))

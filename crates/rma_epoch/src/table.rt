@@ -58,7 +58,8 @@ impl EpochTable {
 
     /// The sound accesses to a target in their order, each with the index of its epoch.
     pub fn placed(&self) -> &[Placed]
-        ensures { result.now ≡ self.now.placed }
+        ensures placed { result.now ≡ self.now.placed }
+        ensures in_order { InOrder result.now }
     {
         self.placements.placed()
     }

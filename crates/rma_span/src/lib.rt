@@ -11,6 +11,7 @@
 mod completed;
 pub mod laws;
 mod own;
+mod placed;
 mod points;
 mod rank_spans;
 mod run;

@@ -72,6 +72,7 @@ impl RankSpans {
             sides: Sides::new(alloc),
             own_lists: KeyLists::new(alloc),
             target_lists: KeyLists::new(alloc),
+            next: 0,
         };
         let spans = all_spans(alloc, from, calls, table.sound(), &mut walk)?;
         Ok(RankSpans {

@@ -14,6 +14,7 @@ ghost use Rattle.rma_span.specs.inside.Origin.{IsOf, IsOnWay};
 ghost use Rattle.rma_span.specs.inside.Stored.{ArePut, AreSpans};
 
 use crate::own::{buffer_span, local_span};
+use crate::placed::epoch_of;
 use crate::run::RankRun;
 use crate::spans::CallSpans;
 use crate::target::target_span;
@@ -34,6 +35,8 @@ pub(crate) struct Walk {
     pub own_lists: KeyLists,
     /// The lists of lock epochs in which targets are accessed.
     pub target_lists: KeyLists,
+    /// The index of the next access that is placed.
+    pub next: usize,
 }
 
 impl Walk {
@@ -126,7 +129,10 @@ impl Walk {
         ensures own { OnOk result (StayThere self.old.own_lists self.new.own_lists) }
         ensures target { OnOk result (StayThere self.old.target_lists self.new.target_lists) }
     {
-        let (Some(target), Some(index)) = (target, from.table.epoch_of(number)) else {
+        let Some(target) = target else {
+            return Ok(None);
+        };
+        let Some(index) = epoch_of(from.table, &mut self.next, number) else {
             return Ok(None);
         };
         let Some(epoch) = from.epochs.get(index as usize) else {
