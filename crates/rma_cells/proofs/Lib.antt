@@ -1,0 +1,10 @@
+pub mod IdLemmas
+pub mod TableLemmas
+pub mod CutLemmas
+pub mod EditLemmas
+pub mod MergeLemmas
+pub mod RunLemmas
+pub mod MapLemmas
+pub mod LookLemmas
+pub mod ByteLemmas
+pub mod CellsLemmas

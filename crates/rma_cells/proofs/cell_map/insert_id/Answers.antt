@@ -1,0 +1,26 @@
+use Rattle.std.proofs.Common.{◌≡◌, Some, None, sym, ap, ◌∙◌, arith, rules, w64}
+use Rattle.std.specs.Int.RustNames.{FitsSigned}
+use Rattle.std.proofs.lemmas.Int.{to_z-of_z}
+use Rattle.std.proofs.lemmas.Grind.{common_steps}
+use Rattle.std.specs.Option.{option_copied_mut}
+use Rattle.rma_cells.specs.inside.Table.{table, Inserts, Puts}
+use Rattle.rma_cells.proofs.TableLemmas.{not_none, same_some}
+use Rattle.rma_cells.proofs.cell_map.insert_id.Goals as goal
+
+pub unreachable-requires : goal.unreachable-requires
+unreachable-requires c =
+    let same = to_z-of_z w64 c.args.start c.ranges.start in
+    let none : table c.args.map.now c.args.start ≡ None = rw same at (sym c.get_mut.ensures.value ∙ ap option_copied_mut c.in-None.is) in
+    not_none c.requires.0 (table c.args.map.now c.args.start) c.requires.1 none
+
+pub returns-clause-inserts : goal.returns-clause-inserts
+returns-clause-inserts c cell is =
+    let same = to_z-of_z w64 c.args.start c.ranges.start in
+    let end_fits : FitsSigned w64 c.end.result = search rules in
+    let found : table c.args.map.now c.args.start ≡ Some c.in-Some.cell.now = rw same at (sym c.get_mut.ensures.value ∙ ap option_copied_mut c.in-Some.is) in
+    let old = same_some c.in-Some.cell.now cell (table c.args.map.now c.args.start) found is in
+    let more = c.in_ok-insert-in-Some.ensures in
+    let inserts : Inserts cell c.args.id c.insert.new.self = rw (← old) (record { end = more.end; ascending = more.ascending; ids = more.ids }) in
+    let writes = c.get_mut.follows.holds c.insert.new.self in
+    let puts : Puts (table c.args.map.now) c.args.start (Some c.insert.new.self) (table (c.get_mut.follows.lender c.insert.new.self)) = record { here = grind (arith, common_steps, to_z-of_z); others = λ q apart. grind (arith, common_steps, to_z-of_z) } in
+    (to_z-of_z w64 c.end.result end_fits ∙ c.end.ensures ∙ inserts.end, (c.insert.new.self, inserts, puts))

@@ -1,0 +1,4 @@
+pub mod Cell
+pub mod Cells
+pub mod Looks
+pub mod inside
