@@ -1,0 +1,4 @@
+pub mod PhaseLemmas
+pub mod FenceLemmas
+pub mod LawLemmas
+pub mod ExposureLemmas

@@ -1,0 +1,3 @@
+pub mod Fenced
+pub mod Laws
+pub mod inside
