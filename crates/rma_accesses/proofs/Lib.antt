@@ -1,0 +1,3 @@
+pub mod ListingLemmas
+pub mod RankLemmas
+pub mod FenceLemmas
