@@ -1,0 +1,49 @@
+"""The tables in checks/tables: rows of small runs, and what the public calls of the crates are wanted to answer to them.
+
+A line `row NAME` begins a row; what it gives stands behind it, as crates/rma_probe reads it, and what is wanted in lines that begin
+with `=`. Everything else is a comment. The program prints the rows with its answers in the same form.
+"""
+import glob
+import os
+import re
+
+from cases import TOP
+
+
+def tables():
+    """The files of all tables."""
+    return sorted(glob.glob(f"{TOP}/checks/tables/*.txt"))
+
+
+def subject_of(table):
+    """The word by which the program knows what a table is about."""
+    return os.path.basename(table).removesuffix(".txt")
+
+
+def rows_of(text):
+    """The lines that are wanted, or answered, by row."""
+    rows = {}
+    for row in re.split(r"^row ", text, flags=re.M)[1:]:
+        name, _, lines = row.partition("\n")
+        if name in rows:
+            raise ValueError(f"two rows have the name {name}")
+        rows[name] = [line for line in lines.splitlines() if line.startswith("=")]
+    return rows
+
+
+def difference(wanted, got):
+    """The first lines that differ, or nothing."""
+    if wanted == got:
+        return None
+    at = next((k for k, (one, other) in enumerate(zip(wanted, got)) if one != other), min(len(wanted), len(got)))
+    line = lambda lines: repr(lines[at]) if at < len(lines) else "nothing more"
+    return f"{line(wanted)} is wanted, and the answer is {line(got)}"
+
+
+def results(table, answer):
+    """The rows of a table, each with what differs in what the program printed."""
+    with open(table, encoding="utf-8") as file:
+        wanted = rows_of(file.read())
+    got = rows_of(answer)
+    name_of = lambda row: f"checks/tables/{os.path.basename(table)}: {row}"
+    return [(name_of(row), difference(lines, got[row]) if row in got else "no answer") for row, lines in wanted.items()]
