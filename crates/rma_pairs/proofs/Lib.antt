@@ -1,0 +1,4 @@
+pub mod ListLemmas
+pub mod RaceLemmas
+pub mod RoleLemmas
+pub mod NameLemmas
