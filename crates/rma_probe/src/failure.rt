@@ -22,7 +22,8 @@ impl Failure {
     /// What it is called.
     pub fn word(self) -> &'static str {
         match self {
-            Failure::Usage => "usage: rma_probe accesses|table FILE, or rma_probe count LOG..",
+            Failure::Usage =>
+                "usage: rma_probe accesses|lists|table FILE, or rma_probe count LOG..",
             Failure::Unread => "the table cannot be read",
             Failure::Row => "a line of the table is none that a row may have",
             Failure::Unwritten => "the answer cannot be written",

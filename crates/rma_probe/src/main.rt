@@ -2,13 +2,14 @@
 //! LOG..` it makes the accesses of some logs and prints how many they are, to be timed.
 //!
 //! A row names some logs, as `docs/FORMAT.md` has them. For each row its name is printed, and then the answer, line by line: for
-//! `accesses` the accesses of the run, for `table` the pairs of them that conflict, and what orders them or keeps them apart. What a
+//! `accesses` the accesses of the run, for `lists` the lists beside them, for `table` the pairs of them that conflict, and what orders them or keeps them apart. What a
 //! row wants stands in the table too, where the checks compare it; here it is passed over.
 #![tactic(auto)]
 
 mod accesses;
 mod count;
 mod failure;
+mod lists;
 mod logs;
 mod row;
 mod run;

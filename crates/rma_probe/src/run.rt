@@ -7,6 +7,7 @@ ghost use Rattle.rma_accesses.specs.inside.Kept.{AreAccessesOf};
 use crate::accesses::print_ranks;
 use crate::count::count_accesses;
 use crate::failure::Failure;
+use crate::lists::print_lists;
 use crate::logs::{Logs, read};
 use crate::table::print_matched;
 use crate::text::print_fault;
@@ -60,6 +61,7 @@ fn answer_placed(
     let run = RunAccesses::of(rt.alloc(), calls, matches, epochs)?;
     match subject {
         Subject::Accesses => print_ranks(rt, &epochs.windows, &run),
+        Subject::Lists => print_lists(rt, calls, &epochs.windows, &run.lists),
         Subject::Table => print_matched(rt, calls, matches, &epochs.windows, &run),
         Subject::Count => Ok(println!(rt; "= {} accesses", count_accesses(&run))?),
     }

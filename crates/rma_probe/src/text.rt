@@ -2,7 +2,7 @@
 use rma_base::{Point, Rank};
 use rma_book::FormFault;
 use rma_rules::Access;
-use rma_window::Windows;
+use rma_window::{WindowId, Windows};
 use std::io;
 
 /// Prints the name of an access, and the place in the program where its call stands.
@@ -24,12 +24,19 @@ pub fn print_point(rt: HostRuntime, point: Point) -> io::Result<()> {
     print!(rt; " ({},{})", point.rank.0, point.pos)
 }
 
+/// The name of a window, where it is one of these.
+pub fn name_of(windows: &Windows, window: WindowId) -> &str {
+    if (window.0 as usize) < windows.len() {
+        windows.name(window).text()
+    } else {
+        "no window"
+    }
+}
+
 /// Prints the window through which an access is made, and the basic datatype of its elements, where it has them.
 pub fn print_window(rt: HostRuntime, windows: &Windows, access: &Access<'_>) -> io::Result<()> {
-    if let Some(window) = access.window
-        && (window.0 as usize) < windows.len()
-    {
-        print!(rt; " {}", windows.name(window).text())?;
+    if let Some(window) = access.window {
+        print!(rt; " {}", name_of(windows, window))?;
     }
     match access.element {
         Some(element) => print!(rt; " {}", element.word()),

@@ -7,6 +7,8 @@ use std::{env, fs};
 pub enum Subject {
     /// The accesses of a run.
     Accesses,
+    /// The lists beside them.
+    Lists,
     /// Which of them conflict.
     Table,
     /// How many accesses there are; this has logs in place of a table.
@@ -40,6 +42,7 @@ pub fn subject_in(words: &[String]) -> Result<(Subject, &[String]), Failure> {
     };
     match first.as_str() {
         "accesses" => Ok((Subject::Accesses, rest)),
+        "lists" => Ok((Subject::Lists, rest)),
         "table" => Ok((Subject::Table, rest)),
         "count" => Ok((Subject::Count, rest)),
         _ => Err(Failure::Usage),
