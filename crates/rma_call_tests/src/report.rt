@@ -8,25 +8,27 @@ use std::process::Abort;
 use std::test::Fail;
 
 /// A bad line, and calls without a match: one that differs from none, and one that differs from another.
-static FOUND: [Finding; 3] = [
-    Finding::Malformed {
-        rank: Rank(0),
-        line: LineNo(12),
-        reason: FormReason::BadNumber,
-    },
-    Finding::Mismatch(MatchFault {
-        reason: MatchReason::CollectiveMissing,
-        rank: Rank(1),
-        line: LineNo(4294967295),
-        other: None,
-    }),
-    Finding::Mismatch(MatchFault {
-        reason: MatchReason::WindowDiffers,
-        rank: Rank(1),
-        line: LineNo(4294967295),
-        other: Some((Rank(63), LineNo(7))),
-    }),
-];
+fn finding(number: usize) -> Finding {
+    match number {
+        0 => Finding::Malformed {
+            rank: Rank(0),
+            line: LineNo(12),
+            reason: FormReason::BadNumber,
+        },
+        1 => Finding::Mismatch(MatchFault {
+            reason: MatchReason::CollectiveMissing,
+            rank: Rank(1),
+            line: LineNo(4294967295),
+            other: None,
+        }),
+        _ => Finding::Mismatch(MatchFault {
+            reason: MatchReason::WindowDiffers,
+            rank: Rank(1),
+            line: LineNo(4294967295),
+            other: Some((Rank(63), LineNo(7))),
+        }),
+    }
+}
 
 /// How many of these are found, how many are shown at most, and the report.
 static REPORTS: [(usize, u64, &str); 5] = [
@@ -57,10 +59,11 @@ static REPORTS: [(usize, u64, &str); 5] = [
     ),
 ];
 
-fn list_of(alloc: Global, found: &[Finding]) -> Result<FindingList, Memory> {
+/// The first of these findings, so many.
+fn list_of(alloc: Global, found: usize) -> Result<FindingList, Memory> {
     let mut list = FindingList::new(alloc);
-    for finding in found {
-        list.push(*finding)?;
+    for number in 0..found {
+        list.push(finding(number))?;
     }
     Ok(list)
 }
@@ -76,11 +79,10 @@ fn is_report(alloc: Global, findings: &Findings, limit: u64, text: &str) -> Resu
 #[test]
 fn findings_stand_in_the_report_as_far_as_the_limit(rt: HostRuntime) -> Result<(), Fail> {
     for (found, limit, text) in &REPORTS {
-        assert!(rt; *found <= FOUND.len());
         let findings = Findings {
             ranks: 2,
             lines: 18446744073709551615,
-            list: list_of(rt.alloc(), &FOUND[..*found])?,
+            list: list_of(rt.alloc(), *found)?,
         };
         let is = is_report(rt.alloc(), &findings, *limit, text)?;
         assert!(rt; is, "at the limit {limit}");
@@ -90,16 +92,16 @@ fn findings_stand_in_the_report_as_far_as_the_limit(rt: HostRuntime) -> Result<(
 
 /// A long report: 120 equal findings, and the text of the report on them.
 fn long_report(alloc: Global) -> Result<(Findings, String), Memory> {
-    let finding = Finding::Mismatch(MatchFault {
+    let fault = MatchFault {
         reason: MatchReason::CollectiveDiffers,
         rank: Rank(1),
         line: LineNo(4294967295),
         other: Some((Rank(0), LineNo(1000000))),
-    });
+    };
     let mut list = FindingList::new(alloc);
     let mut text = String::from_str(alloc, "rmaudit 1 ranks 2 lines 240\n")?;
     for _ in 0..120 {
-        list.push(finding)?;
+        list.push(Finding::Mismatch(fault))?;
         text.push_str(
             "mismatch collective_differs rank 1 line 4294967295 with rank 0 line 1000000\n",
         )?;

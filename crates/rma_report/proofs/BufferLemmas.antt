@@ -116,6 +116,13 @@ pub passed_more : {X : Type 0} (f : X → List ℕ) (a b c : Output) (held mid l
 passed_more f a b c held mid left xs i d answer h p q =
     subst (λ t. IsBuffered a held t answer left c) (more_text f xs i d h) (passed_then a b c held (flat_map f (take i xs)) mid (f (get_or xs i d)) left answer p q)
 
+-- the same where the next of the list is at hand
+pub passed_item : {X : Type 0} (f : X → List ℕ) (a b c : Output) (held mid left : List ℕ) (xs : List X) (i : ℕ) (x : X) (answer : Result Unit WriteFault) → i < length xs → x ≡ get_or xs i x
+    → IsBuffered a held (flat_map f (take i xs)) (Ok tt) mid b → IsBuffered b mid (f x) answer left c
+    → IsBuffered a held (flat_map f (take (i + 1) xs)) answer left c
+passed_item f a b c held mid left xs i x answer h e p q =
+    passed_more f a b c held mid left xs i x answer h p (subst (λ t. IsBuffered b mid t answer left c) (ap f e) q)
+
 pub passed_rest : {X : Type 0} (f : X → List ℕ) (a c : Output) (held mid left : List ℕ) (xs : List X) (i : ℕ) (e d : WriteFault)
     → IsBuffered a held (flat_map f (take i xs)) (Err e) mid c → IsBuffered a held (flat_map f xs) (Err d) left c
 passed_rest f a c held mid left xs i e d p =

@@ -1,3 +1,4 @@
 pub mod BufferLemmas
 pub mod JsonLemmas
+pub mod RangeLemmas
 pub mod TextLemmas

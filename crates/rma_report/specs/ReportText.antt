@@ -1,13 +1,22 @@
 -- The text of a report (the report format of this product).
-use Rattle.std.specs.Prelude.{ℕ, ◌-◌, List, [], ◌++◌, Option, Some, None, length, take, codes, decimal, ◌==◌, if◌then◌else◌}
+use Rattle.std.specs.Prelude.{ℕ, ◌-◌, List, [], ◌∷◌, ◌++◌, Option, Some, None, length, take, codes, decimal, ◌==◌, if◌then◌else◌}
+use Rattle.std.specs.Fmt.{signed_decimal}
 use Rattle.std.specs.List.{flat_map}
 use Rattle.rma_base.specs.declared.line.LineNo.{LineNo}
 use Rattle.rma_base.specs.declared.rank.Rank.{Rank}
 use Rattle.rma_base.specs.FormReason.{form_word}
 use Rattle.rma_base.specs.MatchReason.{match_word}
 use Rattle.rma_base.specs.EpochReason.{epoch_word}
+use Rattle.rma_bytes.specs.declared.run.Run.{Run}
+use Rattle.rma_rules.specs.declared.access_name.AccessName.{AccessName}
+use Rattle.rma_rules.specs.Words.{role_word, rule_word}
+use Rattle.rma_finding.specs.declared.finding.FoundRace.{FoundRace}
+use Rattle.rma_finding.specs.declared.finding.ExposedLock.{ExposedLock}
+use Rattle.rma_finding.specs.declared.finding.DoubledPost.{DoubledPost}
+use Rattle.rma_finding.specs.declared.finding.PairFinding.{PairFinding}
+use Rattle.rma_finding.specs.declared.finding.PairFinding.TheVariants.{Race, Exposed, Doubled}
 use Rattle.rma_report.specs.declared.finding.Finding.{Finding}
-use Rattle.rma_report.specs.declared.finding.Finding.TheVariants.{Malformed, Mismatch, Impossible, Epoch}
+use Rattle.rma_report.specs.declared.finding.Finding.TheVariants.{Malformed, Mismatch, Impossible, Epoch, Pair}
 
 -- where a call stands
 abbrev pub place_text : Rank → LineNo → List ℕ
@@ -18,12 +27,64 @@ abbrev pub other_text : Option (Rank × LineNo) → List ℕ
 other_text None = []
 other_text (Some other) = codes " with " ++ place_text other.0 other.1
 
+-- where a call stands, in short
+abbrev pub spot_text : Rank → LineNo → List ℕ
+spot_text rank line = decimal rank.0 ++ codes ":" ++ decimal line.0
+
+-- the site of a call behind `@`, and `-` where the log has none
+abbrev pub site_text : Option (List ℕ) → List ℕ
+site_text None = codes "-"
+site_text (Some site) = codes "@" ++ site
+
+-- an access: its name, and the site of its call
+abbrev pub access_text : AccessName → Option (List ℕ) → List ℕ
+access_text name site = spot_text name.rank name.line ++ codes ":" ++ role_word name.role ++ codes " " ++ site_text site
+
+-- bytes side by side: the address of the first, and how many they are
+abbrev pub range_text : Run → List ℕ
+range_text run = signed_decimal run.start ++ codes "+" ++ decimal run.len
+
+-- such bytes that stand behind others
+abbrev pub later_range_text : Run → List ℕ
+later_range_text run = codes "," ++ range_text run
+
+-- all runs of a set of bytes
+abbrev pub ranges_text : List Run → List ℕ
+ranges_text [] = codes "none"
+ranges_text (run ∷ runs) = range_text run ++ flat_map later_range_text runs
+
+-- the line of two accesses that race
+abbrev pub race_line : FoundRace → List ℕ
+race_line race =
+    codes "race " ++ rule_word race.rule ++ codes " on " ++ decimal race.memory.0
+    ++ codes " " ++ access_text race.first race.first_site ++ codes " " ++ access_text race.second race.second_site
+    ++ codes " bytes " ++ ranges_text race.bytes ++ codes "\n"
+
+-- the line of a lock at a target that is exposed
+abbrev pub exposed_line : ExposedLock → List ℕ
+exposed_line found =
+    codes "exposed " ++ found.window ++ codes " lock " ++ spot_text found.rank found.lock
+    ++ codes " target " ++ decimal found.target.0 ++ codes " opened " ++ decimal found.opened.0 ++ codes "\n"
+
+-- the line of a target that is exposed twice
+abbrev pub doubled_line : DoubledPost → List ℕ
+doubled_line found =
+    codes "doubled " ++ found.window ++ codes " target " ++ decimal found.target.0
+    ++ codes " post " ++ decimal found.post.0 ++ codes " opened " ++ decimal found.opened.0 ++ codes "\n"
+
+-- the line of a finding of a pair
+abbrev pub pair_line : PairFinding → List ℕ
+pair_line (Race race) = race_line race
+pair_line (Exposed found) = exposed_line found
+pair_line (Doubled found) = doubled_line found
+
 -- the line of a finding
 abbrev pub finding_line : Finding → List ℕ
 finding_line (Malformed rank line reason) = codes "malformed " ++ place_text rank line ++ codes " reason " ++ form_word reason ++ codes "\n"
 finding_line (Mismatch fault) = codes "mismatch " ++ match_word fault.reason ++ codes " " ++ place_text fault.rank fault.line ++ other_text fault.other ++ codes "\n"
 finding_line (Impossible rank line) = codes "impossible " ++ place_text rank line ++ codes "\n"
 finding_line (Epoch rank line reason) = codes "epoch " ++ epoch_word reason ++ codes " " ++ place_text rank line ++ codes "\n"
+finding_line (Pair pair) = pair_line pair
 
 -- the first line, on `ranks` logs of `lines` lines together
 abbrev pub header_line : ℕ → ℕ → List ℕ

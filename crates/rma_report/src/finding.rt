@@ -1,9 +1,10 @@
 //! What an audit finds.
 use rma_base::{EpochReason, FormReason, LineNo, Rank, Sequence};
 use rma_call::MatchFault;
+use rma_finding::PairFinding;
 
 /// One thing that is wrong with the logs of a run.
-#[derive(Clone, Copy, Debug, PartialEq, Eq)]
+#[derive(Debug, Drop)]
 pub enum Finding {
     /// The first bad line of the log of a rank.
     Malformed {
@@ -32,6 +33,8 @@ pub enum Finding {
         /// The rule that it breaks.
         reason: EpochReason,
     },
+    /// Two accesses or two epochs that MPI does not allow at once.
+    Pair(PairFinding),
 }
 
 /// Findings in the order of the report.

@@ -5,6 +5,7 @@ ghost use Rattle.serde_json.specs.Written.{compact_text, has_float};
 ghost use Rattle.rma_report.specs.ReportJson.{finding_value, other_value, report_json, report_object, report_value, verdict_word};
 
 use crate::finding::{Finding, Findings};
+use crate::pair_json::pair_value;
 use rma_base::{EpochReason, LineNo, Memory, Rank};
 use rma_call::MatchFault;
 use serde_json::{Value, json};
@@ -125,6 +126,7 @@ fn finding_value(alloc: Global, finding: &Finding) -> Result<Value, Memory>
             Ok(value)
         }
         Finding::Epoch { rank, line, reason } => epoch_value(alloc, *rank, *line, *reason),
+        Finding::Pair(pair) => pair_value(alloc, pair),
     }
 }
 

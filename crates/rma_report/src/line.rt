@@ -6,6 +6,7 @@ ghost use Rattle.rma_report.specs.ReportText.{header_line, other_text, finding_l
 
 use crate::buffer::{TextBuffer, write, write_all};
 use crate::finding::Finding;
+use crate::pair::write_pair;
 use crate::report::WriteFault;
 use itoa::Buffer;
 use rma_base::{EpochReason, FormReason, LineNo, Rank};
@@ -74,6 +75,7 @@ fn write_finding<S: Sink>(
         Finding::Mismatch(fault) => write_mismatch(out, buffer, fault),
         Finding::Impossible { rank, line } => write_impossible(out, buffer, *rank, *line),
         Finding::Epoch { rank, line, reason } => write_epoch(out, buffer, *rank, *line, *reason),
+        Finding::Pair(pair) => write_pair(out, buffer, pair),
     }
 }
 

@@ -11,3 +11,6 @@ returns-in-Impossible g c = rw c.in-Impossible.is c.write_impossible.ensures
 
 pub returns-in-Epoch : goal.returns-in-Epoch
 returns-in-Epoch g c = rw c.in-Epoch.is c.write_epoch.ensures
+
+pub returns-in-Pair : goal.returns-in-Pair
+returns-in-Pair g c = rw c.in-Pair.is c.write_pair.ensures
