@@ -77,6 +77,14 @@ impl<'r, 'e> RankAccesses<'r, 'e> {
         self.spans.len()
     }
 
+    /// The number of the call at an index among those that access memory, in the order of the log.
+    pub fn call(&self, index: usize) -> u32
+        requires { (ranks : List RankCalls) × IsAccessesOf ranks self.now × index < length (spanned_calls (origin_of ranks self.now.own.now)) }
+        ensures { (ranks : List RankCalls) → IsAccessesOf ranks self.now → slice_get (spanned_calls (origin_of ranks self.now.own.now)) index ≡ Some result }
+    {
+        self.spans.call(index)
+    }
+
     /// The access of the call at an index in a role, if it makes one in that role. The index is one among the calls that access memory,
     /// in the order of the log.
     pub fn access(&self, index: usize, role: Role) -> Option<Access<'_>>

@@ -1,4 +1,5 @@
 pub mod ListLemmas
+pub mod OrderLemmas
 pub mod RaceLemmas
 pub mod RoleLemmas
 pub mod NameLemmas

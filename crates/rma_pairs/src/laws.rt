@@ -8,8 +8,9 @@ ghost use Rattle.rma_rules.specs.Spans.{Spans};
 ghost use Rattle.rma_rules.specs.declared.rule.Rule.{Rule};
 ghost use Rattle.rma_span.specs.Span.{accesses};
 ghost use Rattle.rma_accesses.specs.Run.{AreGood};
+ghost use Rattle.rma_finding.specs.declared.finding.FoundRace.{FoundRace};
 ghost use Rattle.rma_pairs.specs.Race.{Race};
-ghost use Rattle.rma_pairs.specs.Races.{AreRaces, Found, HaveNames, IsFound};
+ghost use Rattle.rma_pairs.specs.Races.{AreRaces, HaveNames, IsFound};
 
 /// Each access of a run of good logs has a name of its own.
 pub fn accesses_have_names_of_their_own()
@@ -23,12 +24,12 @@ pub fn races_are_symmetric()
 
 /// The races between some accesses are one list.
 pub fn races_are_one_list()
-    ensures { (links : Links) (windows : List Window) (spans : Spans) (list : List Access) (found other : List Found)
+    ensures { (links : Links) (windows : List Window) (spans : Spans) (list : List Access) (found other : List FoundRace)
         → AreRaces links windows spans list found → AreRaces links windows spans list other → found ≡ other }
 {}
 
 /// Between accesses that have names of their own, two names have one race at most.
 pub fn names_have_one_race()
-    ensures { (links : Links) (windows : List Window) (spans : Spans) (list : List Access) (f g : Found) → HaveNames list → IsFound links windows spans list f → IsFound links windows spans list g
+    ensures { (links : Links) (windows : List Window) (spans : Spans) (list : List Access) (f g : FoundRace) → HaveNames list → IsFound links windows spans list f → IsFound links windows spans list g
         → f.first ≡ g.first → f.second ≡ g.second → f ≡ g }
 {}
