@@ -1,0 +1,4 @@
+pub mod ListLemmas
+pub mod OrderLemmas
+pub mod ExposureLemmas
+pub mod EpochLemmas

@@ -1,0 +1,33 @@
+use Rattle.std.proofs.Common.{arith}
+use Rattle.rma_concurrent.specs.Concurrent.{IsExposedBy}
+use Rattle.rma_concurrent.proofs.ListLemmas.{from_all, from_joined, from_none}
+use Rattle.rma_concurrent.proofs.exposed.add_lock.Goals as goal
+
+pub groups-init : goal.groups-init
+groups-init g c =
+    let start = c.range_of-start.result.0 in
+    record {
+      from = omega arith;
+      more = λ points links are locked exposed. from_none (IsExposedBy links c.args.windows.now c.args.lock.now) c.args.list.now start start c.args.found.now.items (omega arith);
+    }
+
+pub groups-preserved : goal.groups-preserved
+groups-preserved g c =
+    let start = c.range_of-start.result.0 in
+    let first = c.groups.first in
+    let behind = c.end_of_group-behind.result in
+    let progress = c.end_of_group-behind.ensures.progress in
+    let from = c.groups.invariant.from in
+    record {
+      from = omega arith;
+      more = λ points links are locked exposed.
+          from_joined (IsExposedBy links c.args.windows.now c.args.lock.now) c.args.list.now start first behind c.args.found.now.items c.groups.found.items c.add_group.new.found.items from (omega arith)
+          (c.groups.invariant.more points links are locked exposed) (c.in_ok-add_group.ensures points links are locked exposed);
+    }
+
+pub returns : goal.returns
+returns g c = λ points links are locked exposed.
+    let end = c.groups-test.false in
+    from_all (IsExposedBy links c.args.windows.now c.args.lock.now) c.args.list.now c.range_of-start.result.0 c.groups.first c.args.found.now.items c.groups.found.items
+    (λ x k own at is. let place = c.range_of-start.ensures.all k own at is.at_once.window is.at_once.target in (place.0, omega (arith, place.1)))
+    (c.groups.invariant.more points links are locked exposed)
