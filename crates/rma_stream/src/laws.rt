@@ -1,11 +1,13 @@
 //! What the definitions of this crate come to.
-ghost use Rattle.std.specs.Prelude.{◌≡◌, ℕ, List};
+ghost use Rattle.std.specs.Prelude.{◌≡◌, ℕ, List, [], length};
+ghost use Rattle.rma_log.specs.declared.fault.BookEnd.{BookEnd};
 ghost use Rattle.rma_report.specs.declared.finding.Finding.{Finding};
-ghost use Rattle.rma_stream.specs.Findings.{AreFindings};
+ghost use Rattle.rma_stream.specs.Findings.{AreEnds, AreFindings, ArePairs, bad_lines, calls_in};
 
-/// Every run has a list of findings.
+/// Every run has a list of findings, where its calls have a list of what is found of pairs if no line is bad.
 pub fn every_run_has_findings()
-    ensures { (logs : List (List ℕ)) → (found : List Finding) × AreFindings logs found }
+    ensures { (logs : List (List ℕ)) → ((ends : List BookEnd) → AreEnds (length logs) 0 logs ends → bad_lines 0 ends ≡ [] → (pairs : List Finding) × ArePairs (calls_in ends) pairs)
+        → (found : List Finding) × AreFindings logs found }
 {}
 
 /// The logs of a run have one list of findings, so a run that is clean has none.

@@ -1,18 +1,19 @@
-//! A run that is audited, and what each pass finds in it.
+//! A run that is audited, and what is found in it.
 ghost use Rattle.std.specs.Prelude.{◌≡◌, [], List, IfOk};
 ghost use Rattle.rma_log.specs.declared.fault.BookEnd.{BookEnd};
-ghost use Rattle.rma_run.specs.Run.{IsRun};
+ghost use Rattle.rma_accesses.specs.Run.{AreGood};
+ghost use Rattle.rma_match.specs.Matches.{AreMatches};
 ghost use Rattle.rma_stream.specs.inside.Outcome.{AreOutcomes};
-ghost use Rattle.rma_stream.specs.inside.Run.{AreCallsOf, IsMatched, IsRunOf, IsSound};
-ghost use Rattle.rma_stream.specs.Findings.{Finds, IsFirstFailing, passes};
+ghost use Rattle.rma_stream.specs.inside.Run.{IsMatched, IsRunOf, IsSound};
+ghost use Rattle.rma_stream.specs.Findings.{AreFaults, AreFindingsOf, AreImpossible, AreRunFindings, OrElse};
 
-use crate::epochs::epoch_findings;
+use crate::faults::fault_findings;
 use crate::matching::mismatches;
 use crate::order::impossible_findings;
 use crate::outcome::Outcomes;
-use crate::pass::{Pass, all_passes, first_failing};
-use rma_base::{Memory, Sequence};
+use rma_base::Memory;
 use rma_call::RankCalls;
+use rma_happens_before::{RunOrder, order_of};
 use rma_match::Matches;
 use rma_report::FindingList;
 use std::alloc::Global;
@@ -42,7 +43,7 @@ impl Run {
     ///
     /// `Memory` where there is none left.
     pub(crate) fn of(alloc: Global, outcomes: Outcomes) -> Result<Run, Memory>
-        requires { outcomes.bad ≡ [] → IsRun outcomes.calls.items }
+        requires { outcomes.bad ≡ [] → AreGood outcomes.calls.items }
         ensures matched { IfOk result IsMatched }
         ensures run { IfOk result (λ run. (ends : List BookEnd) → AreOutcomes ends outcomes → IsRunOf ends run) }
     {
@@ -54,38 +55,62 @@ impl Run {
         Ok(Run::Matched(MatchedRun { calls, matches }))
     }
 
-    /// The findings of the first pass that fails, and none where each succeeds.
+    /// The findings of the first pass that fails, where the last two are one, and none where each succeeds.
     ///
     /// # Errors
     ///
     /// `Memory` where there is none left.
     pub(crate) fn findings(self, alloc: Global) -> Result<FindingList, Memory>
         requires { IsMatched self }
-        ensures { IfOk result (λ found. (ends : List BookEnd) → IsRunOf ends self → IsFirstFailing (Finds ends) passes found) }
+        ensures { IfOk result (λ found. (ends : List BookEnd) → IsRunOf ends self → AreFindingsOf ends found) }
     {
         match self {
             Run::Judged { bad } => Ok(bad),
-            Run::Matched(run) => first_failing(alloc, &run, &all_passes()),
+            Run::Matched(run) => run.findings(alloc),
         }
     }
 }
 
 impl MatchedRun {
-    /// The findings of a pass.
-    ///
-    /// # Errors
-    ///
-    /// `Memory` where there is none left.
-    pub(crate) fn findings(&self, alloc: Global, pass: Pass) -> Result<FindingList, Memory>
+    /// The same of the run of logs without a bad line.
+    fn findings(&self, alloc: Global) -> Result<FindingList, Memory>
         requires { IsSound self.now }
-        ensures { IfOk result (λ found. (ends : List BookEnd) → AreCallsOf ends self.now → Finds ends pass found) }
+        ensures { IfOk result (AreRunFindings self.now.calls.items) }
     {
-        let calls = self.calls.as_slice();
-        match pass {
-            Pass::BadLines => Ok(Sequence::new(alloc)),
-            Pass::Matching => mismatches(alloc, calls, &self.matches),
-            Pass::Order => impossible_findings(alloc, calls, &self.matches),
-            Pass::Epochs => epoch_findings(alloc, calls),
-        }
+        matched_findings(alloc, &self.calls, &self.matches)
+    }
+}
+
+/// What is found in a run of good logs with these matches.
+fn matched_findings(
+    alloc: Global,
+    calls: &[RankCalls],
+    matches: &Matches,
+) -> Result<FindingList, Memory>
+    requires good { AreGood calls.now }
+    requires matches { AreMatches calls.now matches.now }
+    ensures { IfOk result (AreRunFindings calls.now) }
+{
+    let unmatched = mismatches(alloc, calls, matches)?;
+    if unmatched.is_empty() {
+        ordered_findings(alloc, calls, matches)
+    } else {
+        Ok(unmatched)
+    }
+}
+
+/// What is found in one whose calls match.
+fn ordered_findings(
+    alloc: Global,
+    calls: &[RankCalls],
+    matches: &Matches,
+) -> Result<FindingList, Memory>
+    requires good { AreGood calls.now }
+    requires matches { AreMatches calls.now matches.now }
+    ensures { IfOk result (OrElse (AreImpossible calls.now) (AreFaults calls.now)) }
+{
+    match order_of(alloc, calls, matches)? {
+        RunOrder::Impossible(found) => impossible_findings(alloc, found.as_slice()),
+        RunOrder::Possible(order) => fault_findings(alloc, calls, matches, &order),
     }
 }

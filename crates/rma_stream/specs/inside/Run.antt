@@ -1,16 +1,16 @@
 -- A run that is audited.
 use Rattle.std.specs.Prelude.{◌≡◌, ◌≢◌, List, []}
 use Rattle.rma_log.specs.declared.fault.BookEnd.{BookEnd}
-use Rattle.rma_run.specs.Run.{IsRun}
 use Rattle.rma_match.specs.Matches.{AreMatches}
+use Rattle.rma_accesses.specs.Run.{AreGood}
 use Rattle.rma_stream.specs.declared.run.MatchedRun.{MatchedRun}
 use Rattle.rma_stream.specs.declared.run.Run.{Run}
 use Rattle.rma_stream.specs.declared.run.Run.TheVariants.{Judged, Matched}
 use Rattle.rma_stream.specs.Findings.{bad_lines, calls_in}
 
--- the calls are those of the ranks of a run, and these are their matches
+-- the calls are those of the ranks of a run of good logs, and these are their matches
 pub record IsSound (run : MatchedRun) : Type 0 where
-  pub of_ranks : IsRun run.calls.items
+  pub good : AreGood run.calls.items
   pub matches_are : AreMatches run.calls.items run.matches
 
 -- so it is where no log has a bad line

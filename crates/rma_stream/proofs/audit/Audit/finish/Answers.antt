@@ -1,8 +1,8 @@
 use Rattle.std.proofs.Common.{List, length, sym, ◌∙◌, subst}
 use Rattle.rma_book.specs.inside.RankState.{RankState}
-use Rattle.rma_run.specs.Run.{IsRun}
+use Rattle.rma_accesses.specs.Run.{AreGood}
 use Rattle.rma_stream.specs.inside.Feeding.{HaveBooks}
-use Rattle.rma_stream.proofs.RunLemmas.{is_run}
+use Rattle.rma_stream.proofs.RunLemmas.{are_good}
 use Rattle.rma_stream.proofs.audit.Audit.finish.Goals as goal
 
 pub of-requires-2 : goal.of-requires-2
@@ -13,7 +13,7 @@ of-requires-2 c = λ none.
     let held = subst (λ n. HaveBooks n books.items texts) kept.1.one_a_text kept.1 in
     let few = c.count_lines-lines.ensures.few (length texts) texts (subst (λ (bs : List RankState). HaveBooks (length texts) bs texts) (sym c.deref.ensures.value) held) in
     let ends = c.in_ok-outcomes.ensures texts held in
-    subst IsRun (sym ends.2.calls_are) (is_run (length texts) texts ends.0 ends.1 (sym ends.2.bad_are ∙ none) few)
+    subst AreGood (sym ends.2.calls_are) (are_good texts ends.0 ends.1 (sym ends.2.bad_are ∙ none) few)
 
 pub returns-clause-findings : goal.returns-clause-findings
 returns-clause-findings c = λ texts h.
