@@ -2,3 +2,5 @@ mod OpeningLemmas
 mod ProgressLemmas
 mod RunLemmas
 mod SaysLemmas
+mod PullLemmas
+mod TrialLemmas

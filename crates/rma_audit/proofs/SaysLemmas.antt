@@ -1,30 +1,34 @@
 -- What a run says once the logs are read.
 use Rattle.std.specs.Prelude.{◌==◌}
 use Rattle.std.proofs.lemmas.Bool.{eqb-true, false≢true}
-use Rattle.std.proofs.Common.{◌≡◌, ℕ, true, false, List, [], ◌∷◌, ◌++◌, length, refl, sym, ap, ◌∙◌, subst, arith}
+use Rattle.std.proofs.Common.{◌≡◌, ℕ, true, false, List, [], ◌∷◌, ◌++◌, length, refl, sym, ap, ◌∙◌, subst, inl, inr, arith}
 use Rattle.rma_io.specs.Known.{StillKnown}
 use Rattle.rma_io.specs.Sink.{AppendsPrefixOf}
 use Rattle.rma_report.specs.declared.finding.Finding.{Finding}
 use Rattle.rma_report.specs.declared.finding.Findings.{Findings}
 use Rattle.rma_stream.specs.Findings.{AreFindings}
 use Rattle.rma_audit.specs.Answers.{Run, Judges, Says, WritesReport, report, report_of}
-use Rattle.rma_audit.specs.inside.Runs.{HasJudged, HasWritten}
-use Rattle.rma_command.specs.Words.{Command, IsAudit}
+use Rattle.rma_audit.specs.inside.Runs.{HasJudged, HasTried, HasWritten}
+use Rattle.rma_report.specs.ReportText.{report_text}
+use Rattle.rma_gen.specs.Trial.{trial_logs}
+use Rattle.rma_gen.specs.declared.trial.Trial.{Trial}
+use Rattle.rma_command.specs.Words.{Audit, Audits, Tries, IsAudit, IsTrial}
 use Rattle.rma_audit.proofs.RunLemmas.{opens_all}
 use Rattle.rma_audit.specs.declared.status.Status.{Status}
 use Rattle.rma_audit.specs.declared.status.Status.TheVariants as status
 
-module _ (run : Run) (command : Command) (texts : List (List ℕ)) (findings : Findings) (words : IsAudit run.words command) (judged : HasJudged command.names run.source run.opened texts findings) where
+-- an audit of logs
+module _ (run : Run) (audit : Audit) (texts : List (List ℕ)) (findings : Findings) (words : IsAudit run.words audit) (judged : HasJudged audit.names run.source run.opened texts findings) where
   abbrev text : List ℕ
-  text = report_of command findings.ranks findings.lines findings.list
+  text = report_of audit findings.ranks findings.lines findings.list
 
   -- the text is that of the report
-  text_is : text ≡ report command texts findings.list
+  text_is : text ≡ report (Audits audit) texts findings.list
   text_is =
-      ap (λ n. report_of command n findings.lines findings.list) judged.ranks
-      ∙ ap (λ n. report_of command (length texts) n findings.list) judged.lines
+      ap (λ n. report_of audit n findings.lines findings.list) judged.ranks
+      ∙ ap (λ n. report_of audit (length texts) n findings.list) judged.lines
 
-  judges : (found : List Finding) → findings.list ≡ found → Judges run command texts found
+  judges : (found : List Finding) → findings.list ≡ found → Judges run (Audits audit) texts found
   judges found is = record {
     words = words;
     opened = judged.in_order;
@@ -38,20 +42,48 @@ module _ (run : Run) (command : Command) (texts : List (List ℕ)) (findings : F
     findings = subst (λ them. AreFindings texts them) is judged.found;
   }
 
-  writes : (found : List Finding) → findings.list ≡ found → StillKnown (λ old new. new ≡ old ++ text) run.output_before.written run.output.written → WritesReport run command texts found
-  writes found is known = subst (λ t. StillKnown (λ old new. new ≡ old ++ t) run.output_before.written run.output.written) (text_is ∙ ap (report command texts) is) known
+  writes : (found : List Finding) → findings.list ≡ found → StillKnown (λ old new. new ≡ old ++ text) run.output_before.written run.output.written → WritesReport run (Audits audit) texts found
+  writes found is known = subst (λ t. StillKnown (λ old new. new ≡ old ++ t) run.output_before.written run.output.written) (text_is ∙ ap (report (Audits audit) texts) is) known
 
   -- what each answer says then
   pub says : (answer : Status) → HasWritten answer text findings.list run.output_before run.output → Says answer run
-  says status.Clean h = (command, texts, judges [] h.0, writes [] h.0 h.1)
-  says status.Findings h = (command, texts, findings.list, judges _ refl, h.0, writes _ refl h.1)
+  says status.Clean h = (Audits audit, texts, judges [] h.0, writes [] h.0 h.1)
+  says status.Findings h = (Audits audit, texts, findings.list, judges _ refl, h.0, writes _ refl h.1)
   says status.Usage h = absurd h
   says (status.ReadFault recorded) h = absurd h
   says status.WriteFault h =
-      (command, texts, findings.list, judges _ refl, h.0, subst (λ t. StillKnown (AppendsPrefixOf t) run.output_before.written run.output.written) text_is h.1)
+      (Audits audit, texts, findings.list, judges _ refl, h.0, subst (λ t. StillKnown (AppendsPrefixOf t) run.output_before.written run.output.written) text_is h.1)
   says (status.TooLarge bytes) h = absurd h
   says status.Memory h =
-      (command, record { words = words; opened = opens_all command.names run.opened judged.in_order judged.none_refused; taken = judged.taken })
+      inl (audit, record { words = words; opened = opens_all audit.names run.opened judged.in_order judged.none_refused; taken = judged.taken })
+
+-- a trial
+module _ (run : Run) (trial : Trial) (findings : Findings) (words : IsTrial run.words trial) (tried : HasTried trial findings) where
+  abbrev count_text : List ℕ
+  count_text = report_text findings.ranks findings.lines findings.list 0
+
+  count_text_is : count_text ≡ report (Tries trial) (trial_logs trial) findings.list
+  count_text_is =
+      ap (λ n. report_text n findings.lines findings.list 0) tried.ranks
+      ∙ ap (λ n. report_text (length (trial_logs trial)) n findings.list 0) tried.lines
+
+  tries : (found : List Finding) → findings.list ≡ found → Judges run (Tries trial) (trial_logs trial) found
+  tries found is = record { words = words; logs_are = refl; findings = subst (λ them. AreFindings (trial_logs trial) them) is tried.found }
+
+  counts : (found : List Finding) → findings.list ≡ found → StillKnown (λ old new. new ≡ old ++ count_text) run.output_before.written run.output.written → WritesReport run (Tries trial) (trial_logs trial) found
+  counts found is known =
+      subst (λ t. StillKnown (λ old new. new ≡ old ++ t) run.output_before.written run.output.written) (count_text_is ∙ ap (report (Tries trial) (trial_logs trial)) is) known
+
+  -- what each answer says then
+  pub says_count : (answer : Status) → HasWritten answer count_text findings.list run.output_before run.output → Says answer run
+  says_count status.Clean h = (Tries trial, trial_logs trial, tries [] h.0, counts [] h.0 h.1)
+  says_count status.Findings h = (Tries trial, trial_logs trial, findings.list, tries _ refl, h.0, counts _ refl h.1)
+  says_count status.Usage h = absurd h
+  says_count (status.ReadFault recorded) h = absurd h
+  says_count status.WriteFault h =
+      (Tries trial, trial_logs trial, findings.list, tries _ refl, h.0, subst (λ t. StillKnown (AppendsPrefixOf t) run.output_before.written run.output.written) count_text_is h.1)
+  says_count (status.TooLarge bytes) h = absurd h
+  says_count status.Memory h = inr (trial, words)
 
 -- a list without an item is empty
 pub is_none : (found : List Finding) → (length found == 0) ≡ true → found ≡ []

@@ -5,7 +5,9 @@ use Rattle.rma_io.specs.Known.{StillKnown}
 use Rattle.rma_io.specs.LogBytes.{LogBytes, log_of}
 use Rattle.rma_io.specs.Source.{Source, Opened, AreRead}
 use Rattle.rma_io.specs.Sink.{Output, AppendsPrefixOf}
-use Rattle.rma_command.specs.Words.{Command, IsAudit, AreFaulty}
+use Rattle.rma_gen.specs.Trial.{trial_logs}
+use Rattle.rma_gen.specs.declared.trial.Trial.{Trial}
+use Rattle.rma_command.specs.Words.{Audit, Command, Audits, Tries, IsAudit, IsTrial, AreFaulty}
 use Rattle.rma_report.specs.ReportText.{report_text}
 use Rattle.rma_report.specs.ReportJson.{report_json}
 use Rattle.rma_report.specs.declared.finding.Finding.{Finding}
@@ -36,15 +38,15 @@ pub record OpensSome (names : List (List ℕ)) (opened : Opened) : Type 0 where
   pub refused : (opened.refused ≡ None) ⊎ ((next : List ℕ) × (more : List (List ℕ)) × (rest ≡ next ∷ more) × (opened.refused ≡ Some next))
 
 -- the words ask for this audit, and the first of its logs were opened; no more bytes were taken than are allowed
-pub record ReadsSome (run : Run) (command : Command) : Type 0 where
-  pub words : IsAudit run.words command
-  pub opened : OpensSome command.names run.opened
+pub record ReadsSome (run : Run) (audit : Audit) : Type 0 where
+  pub words : IsAudit run.words audit
+  pub opened : OpensSome audit.names run.opened
   pub taken : run.source.taken ≤ byte_limit
 
 -- the words ask for this audit, and all of its logs were opened
-pub record ReadsTooMuch (run : Run) (command : Command) : Type 0 where
-  pub words : IsAudit run.words command
-  pub opened : run.opened.names ≡ command.names
+pub record ReadsTooMuch (run : Run) (audit : Audit) : Type 0 where
+  pub words : IsAudit run.words audit
+  pub opened : run.opened.names ≡ audit.names
   pub none_refused : run.opened.refused ≡ None
   pub taken : byte_limit < run.source.taken
   pub stops : run.source.taken ≤ byte_limit + 65536
@@ -55,30 +57,42 @@ AreTaken known logs = (rank : ℕ) → IfSome (log_of known rank).taken (λ byte
 
 -- the words ask for this audit, all of its logs were opened and read to their ends, these are their whole bytes, and
 -- this is what an audit finds in them
-pub record Judges (run : Run) (command : Command) (logs : List (List ℕ)) (found : List Finding) : Type 0 where
-  pub words : IsAudit run.words command
-  pub opened : run.opened.names ≡ command.names
+pub record JudgesAudit (run : Run) (audit : Audit) (logs : List (List ℕ)) (found : List Finding) : Type 0 where
+  pub words : IsAudit run.words audit
+  pub opened : run.opened.names ≡ audit.names
   pub none_refused : run.opened.refused ≡ None
   pub taken : run.source.taken ≤ byte_limit
-  pub one_log_a_name : length logs ≡ length command.names
+  pub one_log_a_name : length logs ≡ length audit.names
   pub all_taken : sum_by length logs ≡ run.source.taken
   pub one_a_log : length run.source.logs ≡ length logs
   pub read : AreRead run.source.logs
   pub bytes : AreTaken run.source.logs logs
   pub findings : AreFindings logs found
 
+-- the words ask for this trial, these are its logs, and this is what an audit finds in them
+pub record JudgesTrial (run : Run) (trial : Trial) (logs : List (List ℕ)) (found : List Finding) : Type 0 where
+  pub words : IsTrial run.words trial
+  pub logs_are : logs ≡ trial_logs trial
+  pub findings : AreFindings logs found
+
+-- the words ask for this command, these are its whole logs, and this is what an audit finds in them
+abbrev pub Judges : Run → Command → List (List ℕ) → List Finding → Type 0
+Judges run (Audits audit) logs found = JudgesAudit run audit logs found
+Judges run (Tries trial) logs found = JudgesTrial run trial logs found
+
 -- how many of the findings are shown: as many as the words say, and all where they do not
-abbrev pub limit_of : Command → List Finding → ℕ
-limit_of command found = unwrap_or command.limit (length found)
+abbrev pub limit_of : Audit → List Finding → ℕ
+limit_of audit found = unwrap_or audit.limit (length found)
 
--- the report on `ranks` logs of `lines` lines together in which this was found, as the words ask for it
-abbrev pub report_of : Command → ℕ → ℕ → List Finding → List ℕ
-report_of command ranks lines found =
-    if command.json then report_json ranks lines found (limit_of command found) else report_text ranks lines found (limit_of command found)
+-- the report on `ranks` logs of `lines` lines together in which this was found, as the words of an audit ask for it
+abbrev pub report_of : Audit → ℕ → ℕ → List Finding → List ℕ
+report_of audit ranks lines found =
+    if audit.json then report_json ranks lines found (limit_of audit found) else report_text ranks lines found (limit_of audit found)
 
--- the report on these whole logs
+-- the report on these whole logs: that on a trial is a text that shows no finding, and says how many there are
 abbrev pub report : Command → List (List ℕ) → List Finding → List ℕ
-report command logs found = report_of command (length logs) (count_of_lines logs) found
+report (Audits audit) logs found = report_of audit (length logs) (count_of_lines logs) found
+report (Tries trial) logs found = report_text (length logs) (count_of_lines logs) found 0
 
 -- the whole report was written, and nothing else
 abbrev pub WritesReport : Run → Command → List (List ℕ) → List Finding → Type 0
@@ -94,12 +108,12 @@ Says Clean run = (command : Command) × (logs : List (List ℕ)) × Judges run c
 Says Findings run =
     (command : Command) × (logs : List (List ℕ)) × (found : List Finding) × Judges run command logs found × (found ≢ []) × WritesReport run command logs found
 Says Usage run = AreFaulty run.words
-Says (ReadFault recorded) run = (command : Command) × ReadsSome run command × Rose run.source_before.faults run.source.faults × (recorded ≡ 0)
+Says (ReadFault recorded) run = (audit : Audit) × ReadsSome run audit × Rose run.source_before.faults run.source.faults × (recorded ≡ 0)
 Says WriteFault run =
     (command : Command) × (logs : List (List ℕ)) × (found : List Finding) × Judges run command logs found × Rose run.output_before.faults run.output.faults
     × WritesPrefix run command logs found
-Says (TooLarge bytes) run = (command : Command) × ReadsTooMuch run command × (bytes ≡ run.source.taken)
-Says Memory run = (command : Command) × ReadsSome run command
+Says (TooLarge bytes) run = (audit : Audit) × ReadsTooMuch run audit × (bytes ≡ run.source.taken)
+Says Memory run = ((audit : Audit) × ReadsSome run audit) ⊎ ((trial : Trial) × IsTrial run.words trial)
 
 -- the answers at which nothing was written
 abbrev pub WritesNothing : Status → Type 0

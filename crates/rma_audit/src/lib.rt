@@ -5,6 +5,7 @@
 //! says stands in `specs/Answers.antt`; which words are a command, in `rma_command`.
 #![tactic(auto)]
 
+mod judging;
 mod opening;
 mod program;
 mod reading;

@@ -1,31 +1,33 @@
 //! The top call: what the program does with its words, its logs and its output.
-ghost use Rattle.std.specs.Prelude.{◌≡◌, ℕ, ◌≤◌, List, length, map, string_bytes, vec_len, IfOk, IfErr};
-ghost use Rattle.rma_command.specs.Asked.{asked};
+ghost use Rattle.std.specs.Prelude.{◌≡◌, ◌≢◌, ℕ, ◌≤◌, List, length, map, string_bytes};
+ghost use Rattle.rma_command.specs.Asked.{audit_of};
+ghost use Rattle.rma_command.specs.Words.{IsAudit, IsTrial};
+ghost use Rattle.rma_gen.specs.Trial.{CanRun};
+ghost use Rattle.rma_io.specs.Source.{Source, Opened};
 ghost use Rattle.rma_io.specs.Sink.{Output};
 ghost use Rattle.rma_report.specs.Writing.{IsWritten};
 ghost use Rattle.rma_audit.specs.Answers.{IsFresh, Says, WritesNothing, limit_of, report_of};
-ghost use Rattle.rma_audit.specs.inside.Runs.{HasJudged, HasStopped, HasWritten, status_of};
+ghost use Rattle.rma_audit.specs.inside.Runs.{HasWritten, status_of};
 
-use crate::opening::open_all;
-use crate::reading::read_all;
+use crate::judging::{judge_logs, judge_trial};
 use crate::status::Status;
 use crate::stop::Stop;
 use rma_base::Memory;
 use rma_base::limits::RANKS;
-use rma_command::Command;
+use rma_command::{Audit, Command};
+use rma_gen::Trial;
 use rma_io::{Logs, Sink};
 use rma_report::{Findings, WriteFault, json_text, write_text};
-use rma_stream::Audit;
 use std::alloc::Global;
-
-/// How many bytes are read at once. What a book keeps has left the caches when its turn comes again, so turns are long.
-const ROOM: usize = 65_536;
 
 /// Does what the words of the command line say: opens the logs that they name, in order, one log a rank; reads them
 /// to their ends; audits them; and writes the report to `out`, as text or as JSON.
 ///
-/// An audit finds the first bad line of each log that has one; and where no log has one, the barriers, the windows and
-/// the communicators of a rank that those of the other ranks do not match. As many findings are shown as the words say.
+/// An audit finds the first bad line of each log; where there is none, the calls that those of other ranks do not match; else the calls
+/// that are never left; else the first epoch fault of each rank, with the races, the locks of exposed parts and the doubled posts of the
+/// calls before these faults. As many findings are shown as the words say.
+///
+/// A trial audits logs that are made for it, and opens none. None of its findings is shown, only how many there are.
 ///
 /// All memory is taken before the first byte is written.
 pub fn run<L: Logs, S: Sink>(alloc: Global, words: &[String], logs: &mut L, out: &mut S) -> Status
@@ -41,50 +43,69 @@ pub fn run<L: Logs, S: Sink>(alloc: Global, words: &[String], logs: &mut L, out:
       output = S.output out.new;
     }) }
     ensures usage { result ≡ Status.Usage → logs.new ≡ logs.old }
+    ensures trial { (trial : Trial) → IsTrial (map string_bytes words.now) trial → logs.new ≡ logs.old }
     ensures nothing_written { WritesNothing result → out.new ≡ out.old }
 {
-    let Some(command) = Command::of_words(words) else {
-        return Status::Usage;
-    };
-    match read_logs(alloc, command.names, logs) {
-        Ok(findings) => write_report(alloc, command, &findings, out),
+    match Command::of_words(words) {
+        None => Status::Usage,
+        Some(Command::Audit(audit)) => run_audit(alloc, audit, logs, out),
+        Some(Command::Trial(trial)) => run_trial(alloc, trial, out),
+    }
+}
+
+// Audits the logs that the words name, and writes the report.
+fn run_audit<L: Logs, S: Sink>(alloc: Global, audit: Audit<'_>, logs: &mut L, out: &mut S) -> Status
+    requires fresh { IsFresh (L.source logs.old) (L.opened logs.old) }
+    requires few { length audit.names.now ≤ RANKS }
+    ensures answer { (words : List (List ℕ)) → IsAudit words (audit_of audit.entry) → Says result (record {
+      words = words;
+      source_before = L.source logs.old;
+      source = L.source logs.new;
+      opened = L.opened logs.new;
+      output_before = S.output out.old;
+      output = S.output out.new;
+    }) }
+    ensures not_usage { result ≢ Status.Usage }
+    ensures nothing_written { WritesNothing result → out.new ≡ out.old }
+{
+    match judge_logs(alloc, audit.names, logs) {
+        Ok(findings) => write_report(alloc, audit, &findings, out),
         Err(stop) => status_of(stop),
     }
 }
 
-// Opens the logs of these names, reads them to their ends, and answers what was found in them.
-fn read_logs<L: Logs>(alloc: Global, names: &[String], logs: &mut L) -> Result<Findings, Stop>
-    requires fresh { IsFresh (L.source logs.old) (L.opened logs.old) }
-    requires few { length names.now ≤ RANKS }
-    ensures judged { IfOk result (λ findings. (texts : List (List ℕ)) × HasJudged (map string_bytes names.now) (L.source logs.new) (L.opened logs.new) texts findings) }
-    ensures stopped { IfErr result (λ stop. HasStopped stop (map string_bytes names.now) (L.source logs.old) (L.source logs.new) (L.opened logs.new)) }
+// Audits the logs of a trial, and writes how many findings there are.
+fn run_trial<S: Sink>(alloc: Global, trial: Trial, out: &mut S) -> Status
+    requires can_run { CanRun trial }
+    ensures answer { (words : List (List ℕ)) (before after : Source) (opened : Opened) → IsTrial words trial → Says result (record {
+      words = words;
+      source_before = before;
+      source = after;
+      opened = opened;
+      output_before = S.output out.old;
+      output = S.output out.new;
+    }) }
+    ensures not_usage { result ≢ Status.Usage }
+    ensures nothing_written { WritesNothing result → out.new ≡ out.old }
 {
-    let mut room = new_room(alloc)?;
-    let mut audit = Audit::new(alloc, names.len() as u32)?;
-    open_all(logs, names)?;
-    read_all(logs, &mut room, &mut audit)?;
-    Ok(audit.finish()?)
-}
-
-// Room for the bytes that are read at once.
-fn new_room(alloc: Global) -> Result<Vec<u8>, Memory>
-    ensures { IfOk result (λ room. vec_len room ≡ ROOM) }
-{
-    Ok(vec![in alloc; 0; ROOM]?)
+    match judge_trial(alloc, trial) {
+        Ok(findings) => ended(&findings, write_text(&findings, 0, out)),
+        Err(Memory) => Status::Memory,
+    }
 }
 
 // Writes the report, as the words ask for it.
 fn write_report<S: Sink>(
     alloc: Global,
-    command: Command<'_>,
+    audit: Audit<'_>,
     findings: &Findings,
     out: &mut S,
 ) -> Status
-    ensures written { HasWritten result (report_of (asked command.entry) findings.now.ranks findings.now.lines findings.now.list) findings.now.list (S.output out.old) (S.output out.new) }
+    ensures written { HasWritten result (report_of (audit_of audit.entry) findings.now.ranks findings.now.lines findings.now.list) findings.now.list (S.output out.old) (S.output out.new) }
     ensures nothing_written { WritesNothing result → out.new ≡ out.old }
 {
-    let limit = limit_of(command, findings);
-    if !command.json {
+    let limit = limit_of(audit, findings);
+    if !audit.json {
         return ended(findings, write_text(findings, limit, out));
     }
     match json_text(alloc, findings, limit) {
@@ -94,10 +115,10 @@ fn write_report<S: Sink>(
 }
 
 // How many of the findings are shown.
-fn limit_of(command: Command<'_>, findings: &Findings) -> u64
-    ensures { result ≡ limit_of (asked command.entry) findings.now.list }
+fn limit_of(audit: Audit<'_>, findings: &Findings) -> u64
+    ensures { result ≡ limit_of (audit_of audit.entry) findings.now.list }
 {
-    match command.limit {
+    match audit.limit {
         Some(limit) => u64::from(limit),
         None => findings.list.len() as u64,
     }

@@ -6,3 +6,5 @@
 mod run;
 #[cfg(test)]
 mod stream;
+#[cfg(test)]
+mod trial;

@@ -246,14 +246,18 @@ fn faults_are_answered_and_nothing_else_is_written(rt: HostRuntime) -> Result<()
 }
 
 /// Words that are no command.
-static FAULTY: [&[&str]; 7] = [
+static FAULTY: [&[&str]; 11] = [
     &[],
     &["audit"],
     &["Audit", "0"],
     &["audit", ""],
     &["audit", "-0"],
     &["audit", "--limit", "x", "0"],
-    &["trial", "8", "10", "7"],
+    &["trial", "1", "5", "5"],
+    &["trial", "65", "5", "5"],
+    &["trial", "2", "0", "5"],
+    &["trial", "64", "15626", "0"],
+    &["trial", "2", "5", "7", "0"],
 ];
 
 fn strings(alloc: Global, texts: &[&str]) -> Result<Vec<String>, AllocError> {
@@ -276,6 +280,33 @@ fn words_that_are_no_command_are_usage(rt: HostRuntime) -> Result<(), Fail> {
         let words = strings(rt.alloc(), texts)?;
         let (status, report) = said(rt.alloc(), words.as_slice(), &LOG)?;
         assert!(rt; status == Status::Usage && report.is_empty());
+    }
+    Ok(())
+}
+
+/// Words of trials, and their reports.
+static TRIALS: [(&[&str], Status, &str); 2] = [
+    (
+        &["trial", "2", "5", "7"],
+        Status::Clean,
+        "rmaudit 1 ranks 2 lines 40\nclean\n",
+    ),
+    (
+        &["trial", "8", "100", "7"],
+        Status::Findings,
+        "rmaudit 1 ranks 8 lines 2440\nomitted 8\nfindings 8\n",
+    ),
+];
+
+#[test]
+fn a_trial_opens_nothing_and_says_how_many_findings_there_are(rt: HostRuntime) -> Result<(), Fail> {
+    for (texts, wanted, wanted_report) in &TRIALS {
+        let words = strings(rt.alloc(), texts)?;
+        let (status, report) = said(rt.alloc(), words.as_slice(), &[])?;
+        assert!(rt;
+            status == *wanted && report.as_str() == *wanted_report,
+            "{report}"
+        );
     }
     Ok(())
 }

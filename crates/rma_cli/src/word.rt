@@ -1,7 +1,7 @@
 //! The words of the command line.
 ghost use Rattle.std.specs.Prelude.{◌≡◌, ◌⊎◌, length, map, string_bytes};
 ghost use Rattle.rma_command.specs.Words as asked;
-ghost use Rattle.rma_command.specs.Words.{IsAudit, AreFaulty};
+ghost use Rattle.rma_command.specs.Words.{AskFor, AreFaulty, names_of};
 
 use rma_audit::Status;
 use rma_command::Command;
@@ -48,12 +48,12 @@ fn word_at<R: Env>(rt: &R, alloc: Global, index: usize) -> Result<Option<String>
     Err(Status::Memory)
 }
 
-/// How many logs the words name; none where they are no command.
+/// How many logs the words name: none where they are no command or ask for a trial.
 pub fn names_in(words: &[String]) -> usize
-    ensures { AreFaulty (map string_bytes words.now) ⊎ ((command : asked.Command) × IsAudit (map string_bytes words.now) command × (result ≡ length command.names)) }
+    ensures { AreFaulty (map string_bytes words.now) ⊎ ((command : asked.Command) × AskFor (map string_bytes words.now) command × (result ≡ length (names_of command))) }
 {
     match Command::of_words(words) {
-        Some(command) => command.names.len(),
-        None => 0,
+        Some(Command::Audit(audit)) => audit.names.len(),
+        Some(Command::Trial(_)) | None => 0,
     }
 }

@@ -4,9 +4,11 @@ use Rattle.std.specs.List.{list_all}
 use Rattle.std.specs.Char.{digit_value}
 use Rattle.std.specs.Str.Parse.{digits_value}
 use Rattle.rma_base.specs.Limits.{rank_limit}
+use Rattle.rma_gen.specs.Trial.{CanRun}
+use Rattle.rma_gen.specs.declared.trial.Trial.{Trial}
 
 -- an audit: of which logs, how many findings are shown where the words say how many, and whether the report is JSON
-pub record Command : Type 0 where
+pub record Audit : Type 0 where
   pub limit : Option ℕ
   pub json : Bool
   pub names : List (List ℕ)
@@ -51,13 +53,39 @@ AreNames words names =
     (1 ≤ length names) × (length names ≤ rank_limit) × (((words ≡ names) × All IsName names) ⊎ ((words ≡ codes "--" ∷ names) × All IsSome names))
 
 -- the words ask for this audit: the word `audit`, options, and names
-pub record IsAudit (words : List (List ℕ)) (command : Command) : Type 0 where
+pub record IsAudit (words : List (List ℕ)) (audit : Audit) : Type 0 where
   pub options : List (List ℕ)
   pub rest : List (List ℕ)
   pub words_are : words ≡ codes "audit" ∷ options ++ rest
-  pub options_are : AreOptions options command.limit command.json
-  pub names_are : AreNames rest command.names
+  pub options_are : AreOptions options audit.limit audit.json
+  pub names_are : AreNames rest audit.names
+
+-- the words ask for this trial: the word `trial`, and how many ranks, how many rounds and which seed
+pub record IsTrial (words : List (List ℕ)) (trial : Trial) : Type 0 where
+  pub ranks : List ℕ
+  pub rounds : List ℕ
+  pub seed : List ℕ
+  pub words_are : words ≡ codes "trial" ∷ ranks ∷ rounds ∷ seed ∷ []
+  pub ranks_are : number_of ranks ≡ Some trial.ranks
+  pub rounds_are : number_of rounds ≡ Some trial.rounds
+  pub seed_is : number_of seed ≡ Some trial.seed
+  pub can_run : CanRun trial
+
+-- a command
+pub data Command : Type 0 where
+  Audits : Audit → Command
+  Tries : Trial → Command
+
+-- the names of the logs that a command is about: a trial makes its own
+abbrev pub names_of : Command → List (List ℕ)
+names_of (Audits audit) = audit.names
+names_of (Tries trial) = []
+
+-- the words ask for this command
+abbrev pub AskFor : List (List ℕ) → Command → Type 0
+AskFor words (Audits audit) = IsAudit words audit
+AskFor words (Tries trial) = IsTrial words trial
 
 -- the words are no command
 abbrev pub AreFaulty : List (List ℕ) → Type 0
-AreFaulty words = (command : Command) → ¬ IsAudit words command
+AreFaulty words = (command : Command) → ¬ AskFor words command

@@ -1,18 +1,18 @@
 //! The words of the command line.
-ghost use Rattle.std.specs.Prelude.{◌≡◌, ◌==◌, codes, slice_index, MatchOption, option_map, map, string_bytes};
+ghost use Rattle.std.specs.Prelude.{◌≡◌, MatchOption, option_map, map, string_bytes};
 ghost use Rattle.std.specs.List.{list_all};
-ghost use Rattle.rma_command.specs.Words.{IsAudit, AreFaulty, number_of};
-ghost use Rattle.rma_command.specs.Asked.{asked};
-ghost use Rattle.rma_command.specs.inside.Words.{after_json, command_behind, command_of, is_name, is_some, json_from, limit_behind, limit_from, names_from, names_if};
+ghost use Rattle.rma_command.specs.Words.{AskFor, AreFaulty, number_of};
+ghost use Rattle.rma_command.specs.Asked.{asked, audit_of};
+ghost use Rattle.rma_command.specs.inside.Words.{after_json, audit_behind, command_of, is_name, is_some, json_from, limit_behind, limit_from, names_from, names_if};
 
+use crate::number::number_of;
+use crate::trial::trial_from;
 use rma_base::limits::RANKS;
+use rma_gen::Trial;
 
-/// The most digits of a number.
-const DIGITS: usize = 10;
-
-/// An audit that the words of the command line ask for.
+/// An audit of logs.
 #[derive(Clone, Copy)]
-pub struct Command<'a> {
+pub struct Audit<'a> {
     /// How many findings are shown at most, where the words say how many.
     pub limit: Option<u32>,
     /// Whether the report is JSON.
@@ -21,11 +21,20 @@ pub struct Command<'a> {
     pub names: &'a [String],
 }
 
+/// What the words of the command line ask for.
+#[derive(Clone, Copy)]
+pub enum Command<'a> {
+    /// The audit of logs.
+    Audit(Audit<'a>),
+    /// The audit of logs that the program makes itself.
+    Trial(Trial),
+}
+
 impl<'a> Command<'a> {
     /// What the words ask for, or nothing where they are no command.
     pub fn of_words(words: &'a [String]) -> Option<Command<'a>>
         ensures { MatchOption result (AreFaulty (map string_bytes words.now))
-            (λ command. IsAudit (map string_bytes words.now) (asked command)) }
+            (λ command. AskFor (map string_bytes words.now) (asked command)) }
     {
         command_of(words)
     }
@@ -36,9 +45,17 @@ fn command_of(words: &[String]) -> Option<Command<'_>>
     ensures { option_map asked result ≡ command_of (map string_bytes words.now) }
 {
     let (verb, words) = words.split_first()?;
-    if verb.as_str() != "audit" {
-        return None;
+    match verb.as_str() {
+        "audit" => Some(Command::Audit(audit_from(words)?)),
+        "trial" => Some(Command::Trial(trial_from(words)?)),
+        _ => None,
     }
+}
+
+/// The audit that the words behind the verb ask for.
+fn audit_from(words: &[String]) -> Option<Audit<'_>>
+    ensures { option_map audit_of result ≡ audit_behind (map string_bytes words.now) }
+{
     let (limit, words) = limit_from(words)?;
     let (json, words) = json_from(words);
     let (limit, words) = match limit {
@@ -46,7 +63,7 @@ fn command_of(words: &[String]) -> Option<Command<'_>>
         None => limit_from(words)?,
     };
     let names = names_from(words)?;
-    Some(Command { limit, json, names })
+    Some(Audit { limit, json, names })
 }
 
 /// The limit, if the first words give one, and the words behind it; nothing where it is no number.
@@ -64,28 +81,8 @@ fn limit_behind(words: &[String]) -> Option<(Option<u32>, &[String])>
     ensures { option_map (λ found. (found.0, map string_bytes found.1.now)) result ≡ limit_behind (map string_bytes words.now) }
 {
     let (word, rest) = words.split_first()?;
-    let limit = number(word.as_str())?;
+    let limit = number_of(word.as_str())?;
     Some((Some(limit), rest))
-}
-
-/// The number of 1 to 10 decimal digits.
-fn number(word: &str) -> Option<u32>
-    ensures { result ≡ number_of word.now }
-{
-    if has_plus(word.as_bytes()) || word.len() > DIGITS {
-        return None;
-    }
-    word.parse::<u32>().ok()
-}
-
-/// Whether a plus stands first.
-fn has_plus(text: &[u8]) -> bool
-    ensures { result ≡ (slice_index text.now 0 == 43) }
-{
-    match text {
-        [] => false,
-        [first, ..] => *first == b'+',
-    }
 }
 
 /// Whether the first word asks for JSON, and the words behind it.

@@ -32,3 +32,8 @@ StopsAt stops.Memory before after = after.taken ≤ byte_limit
 abbrev pub stop_of : OpenFault → Stop
 stop_of refusal.Failed = stops.Fault
 stop_of refusal.Memory = stops.Memory
+
+-- some pulls, or none, led from one state of a source to another: each kept what a pull keeps
+pub data AfterPulls {P : Type 0} (stays : P → P → Type 0) (first : P) : P → Type 0 where
+  NoPull : AfterPulls stays first first
+  OnePull : (before after : P) → AfterPulls stays first before → stays before after → AfterPulls stays first after

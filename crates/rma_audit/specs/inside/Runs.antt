@@ -8,6 +8,8 @@ use Rattle.rma_io.specs.Sink.{Output, AppendsPrefixOf}
 use Rattle.rma_report.specs.declared.finding.Finding.{Finding}
 use Rattle.rma_report.specs.declared.finding.Findings.{Findings}
 use Rattle.rma_stream.specs.Findings.{AreFindings, count_of_lines}
+use Rattle.rma_gen.specs.Trial.{trial_logs}
+use Rattle.rma_gen.specs.declared.trial.Trial.{Trial}
 use Rattle.rma_audit.specs.Answers.{OpensSome, AreTaken}
 use Rattle.rma_audit.specs.declared.status.Status.{Status}
 use Rattle.rma_audit.specs.declared.status.Status.TheVariants as status
@@ -27,6 +29,12 @@ pub record HasJudged (names : List (List ℕ)) (source : Source) (opened : Opene
   pub ranks : findings.ranks ≡ length texts
   pub lines : findings.lines ≡ count_of_lines texts
   pub found : AreFindings texts findings.list
+
+-- this was found in the logs of this trial
+pub record HasTried (trial : Trial) (findings : Findings) : Type 0 where
+  pub ranks : findings.ranks ≡ length (trial_logs trial)
+  pub lines : findings.lines ≡ count_of_lines (trial_logs trial)
+  pub found : AreFindings (trial_logs trial) findings.list
 
 -- the reading of the logs of these names stopped for this cause
 abbrev pub HasStopped : Stop → List (List ℕ) → Source → Source → Opened → Type 0

@@ -1,10 +1,11 @@
 -- How the words of the command line are read, from left to right.
-use Rattle.std.specs.Prelude.{ℕ, List, [], ◌∷◌, length, codes, Bool, true, false, ◌&&◌, Option, Some, None, option_map, nat_eq, nat_le, not, ◌==◌, if◌then◌else◌}
+use Rattle.std.specs.Prelude.{ℕ, ◌*◌, List, [], ◌∷◌, length, codes, Bool, true, false, ◌&&◌, Option, Some, None, option_map, nat_eq, nat_le, not, ◌==◌, if◌then◌else◌}
 use Rattle.std.specs.List.{list_all}
 use Rattle.std.specs.Option.{option_and_then}
 use Rattle.std.specs.Cmp.Lexicographic.{pointwise}
 use Rattle.rma_base.specs.Limits.{rank_limit}
-use Rattle.rma_command.specs.Words.{Command, number_of}
+use Rattle.rma_gen.specs.declared.trial.Trial.{Trial}
+use Rattle.rma_command.specs.Words.{Audit, Command, Audits, Tries, number_of}
 
 -- whether a word is this one
 abbrev pub is : List ℕ → List ℕ → Bool
@@ -44,20 +45,41 @@ abbrev pub names_from : List (List ℕ) → Option (List (List ℕ))
 names_from [] = None
 names_from (word ∷ rest) = if is word (codes "--") then names_if (list_all is_some rest) rest else names_if (list_all is_name (word ∷ rest)) (word ∷ rest)
 
--- the command of a limit and a form, where all other words are names
-abbrev pub with_names : Option ℕ → Bool → List (List ℕ) → Option Command
+-- the audit of a limit and a form, where all other words are names
+abbrev pub with_names : Option ℕ → Bool → List (List ℕ) → Option Audit
 with_names limit json words = option_map (λ names. record { limit = limit; json = json; names = names }) (names_from words)
 
--- the command where the words before `--json`, if it is there, gave this limit
-abbrev pub after_json : Option ℕ → Bool × List (List ℕ) → Option Command
+-- the audit where the words before `--json`, if it is there, gave this limit
+abbrev pub after_json : Option ℕ → Bool × List (List ℕ) → Option Audit
 after_json (Some limit) words = with_names (Some limit) words.0 words.1
 after_json None words = option_and_then (λ found. with_names found.0 words.0 found.1) (limit_from words.1)
 
--- the command behind the verb
-abbrev pub command_behind : List (List ℕ) → Option Command
-command_behind words = option_and_then (λ found. after_json found.0 (json_from found.1)) (limit_from words)
+-- the audit behind the verb
+abbrev pub audit_behind : List (List ℕ) → Option Audit
+audit_behind words = option_and_then (λ found. after_json found.0 (json_from found.1)) (limit_from words)
+
+-- whether a trial may ask for this
+abbrev pub can_run : Trial → Bool
+can_run trial = nat_le 2 trial.ranks && nat_le trial.ranks 64 && nat_le 1 trial.rounds && nat_le (trial.ranks * trial.rounds) 1000000
+
+-- the trial of three numbers
+abbrev pub trial_of : Option ℕ → Option ℕ → Option ℕ → Option Trial
+trial_of None rounds seed = None
+trial_of (Some ranks) None seed = None
+trial_of (Some ranks) (Some rounds) None = None
+trial_of (Some ranks) (Some rounds) (Some seed) =
+    if can_run (record { ranks = ranks; rounds = rounds; seed = seed }) then Some (record { ranks = ranks; rounds = rounds; seed = seed }) else None
+
+-- the trial behind the verb
+abbrev pub trial_behind : List (List ℕ) → Option Trial
+trial_behind [] = None
+trial_behind (ranks ∷ []) = None
+trial_behind (ranks ∷ rounds ∷ []) = None
+trial_behind (ranks ∷ rounds ∷ seed ∷ []) = trial_of (number_of ranks) (number_of rounds) (number_of seed)
+trial_behind (ranks ∷ rounds ∷ seed ∷ word ∷ rest) = None
 
 -- the command of all words
 abbrev pub command_of : List (List ℕ) → Option Command
 command_of [] = None
-command_of (verb ∷ words) = if is verb (codes "audit") then command_behind words else None
+command_of (verb ∷ words) =
+    if is verb (codes "audit") then option_map Audits (audit_behind words) else if is verb (codes "trial") then option_map Tries (trial_behind words) else None

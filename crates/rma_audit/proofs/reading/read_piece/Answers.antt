@@ -5,7 +5,7 @@ use Rattle.rma_audit.proofs.reading.read_piece.Goals as goal
 
 pub returns-in_ok-feed-in-Ok-Bytes-clause-follows : goal.returns-in_ok-feed-in-Ok-Bytes-clause-follows
 returns-in_ok-feed-in-Ok-Bytes-clause-follows g c =
-    let source = g.L.Pulls.source in
+    let source = g.P.Pulls.source in
     let room = c.pull.new.room in
     let rank = c.in-Ok-Bytes.rank in
     let len = c.in-Ok-Bytes.len in

@@ -1,7 +1,7 @@
 use Rattle.std.proofs.Common.{sym, ◌∙◌}
 use Rattle.rma_command.proofs.NumberLemmas.{number_is, no_number_of_many, no_number_of_plus}
-use Rattle.rma_command.proofs.command.number.Goals.{then-has_plus-via-then-has_plus, then-has_plus-via-else-has_plus+then-word-gt-DIGITS}
-use Rattle.rma_command.proofs.command.number.Goals as goal
+use Rattle.rma_command.proofs.number.number_of.Goals.{then-has_plus-via-then-has_plus, then-has_plus-via-else-has_plus+then-word-gt-DIGITS}
+use Rattle.rma_command.proofs.number.number_of.Goals as goal
 
 pub returns-then-has_plus : goal.returns-then-has_plus
 returns-then-has_plus c =

@@ -1,6 +1,0 @@
-use Rattle.std.proofs.Common.{◌≡◌, Some, sym, ◌∙◌}
-use Rattle.rma_command.proofs.CommandLemmas.{audit_is_read}
-use Rattle.rma_command.proofs.laws.words_ask_for_one_audit.Goals as goal
-
-pub returns : goal.returns
-returns c = λ words command other h g. let same : Some command ≡ Some other = sym (audit_is_read words command h) ∙ audit_is_read words other g in cc
