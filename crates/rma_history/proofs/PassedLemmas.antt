@@ -22,6 +22,8 @@ use Rattle.rma_rules.proofs.ConflictLemmas.{own_not_target}
 use Rattle.rma_rules.specs.declared.rule.Rule.{Rule}
 use Rattle.rma_finding.specs.declared.finding.FoundRace.{FoundRace}
 use Rattle.rma_pairs.specs.Races.{IsFoundBetween}
+use Rattle.rma_chain.specs.Chain.{IsFollowedBy}
+use Rattle.rma_chain.proofs.FollowLemmas.{earlier_before, same_memory}
 use Rattle.rma_history.specs.History.{IsNextOf, IsOfCall, IsPassed, IsToCome}
 use Rattle.rma_history.specs.inside.Passed.{IsBeforeAll, IsPublishedForAll, IsVisibleToNext}
 
@@ -118,16 +120,16 @@ module _ (links : Links) (windows : List Window) (spans : Spans) (next : List (O
 -- ---- no race
 
 -- two accesses that conflict touch the same memory
-same_memory : (windows : List Window) (a b : Access) (rule : Rule) → Forbids windows a b rule → a.memory ≡ b.memory
+conflict_memory : (windows : List Window) (a b : Access) (rule : Rule) → Forbids windows a b rule → a.memory ≡ b.memory
 unfolding Forbids
-same_memory windows a b rule forbidden = forbidden.0
+conflict_memory windows a b rule forbidden = forbidden.0
 
 pub no_race_to_come : (links : Links) (windows : List Window) (spans : Spans) (next : List (Option ℕ)) (a b : Access) (race : FoundRace)
     → IsPassed links windows spans next a → IsToCome next b → IsOfCall b → IsOnWindowOf windows b → IsFoundBetween links windows spans a b race → ⊥
 no_race_to_come links windows spans next a b race passed later of on_window (inl found) =
-    found.race.not_before (passed b later of on_window (sym (same_memory windows a b race.rule found.race.conflict)))
+    found.race.not_before (passed b later of on_window (sym (conflict_memory windows a b race.rule found.race.conflict)))
 no_race_to_come links windows spans next a b race passed later of on_window (inr found) =
-    found.race.not_after (passed b later of on_window (same_memory windows b a race.rule found.race.conflict))
+    found.race.not_after (passed b later of on_window (conflict_memory windows b a race.rule found.race.conflict))
 
 -- ---- later calls
 
@@ -138,3 +140,10 @@ stays_passed links windows spans next later a on passed b to_come of on_window m
     let le : earlier.0 ≤ to_come.0 = earlier.2 in
     let before : to_come.0 ≤ b.call = to_come.2 in
     passed b (earlier.0, earlier.1, omega arith) of on_window memory
+
+-- ---- what follows an access
+
+-- where an access is before all that are still to come, so are those that it follows
+pub follower_passed : (links : Links) (windows : List Window) (spans : Spans) (next : List (Option ℕ)) (a later : Access) → IsFollowedBy a later → IsPassed links windows spans next later → IsPassed links windows spans next a
+follower_passed links windows spans next a later follows passed b to_come of on_window memory =
+    earlier_before links windows spans a later follows b (passed b to_come of on_window (memory ∙ same_memory links windows spans a later follows))

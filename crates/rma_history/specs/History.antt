@@ -9,16 +9,9 @@ use Rattle.rma_clock.specs.Reached.{IsReached}
 use Rattle.rma_window.specs.declared.window_id.WindowId.{WindowId}
 use Rattle.rma_window.specs.Windows.{Window}
 use Rattle.rma_rules.specs.Access.{Access, IsOnWindowOf}
-use Rattle.rma_rules.specs.Before.{AreReached, Before}
+use Rattle.rma_rules.specs.Before.{Before}
 use Rattle.rma_rules.specs.Kind.{is_own}
 use Rattle.rma_rules.specs.Spans.{Spans, publishing_of}
-
--- two accesses may be asked whether they race, where these points are known
-pub record MayBeAsked (points : List ℕ) (windows : List Window) (spans : Spans) (a b : Access) : Type 0 where
-  pub on_a : IsOnWindowOf windows a
-  pub on_b : IsOnWindowOf windows b
-  pub reached : AreReached points spans a b
-  pub reached_back : AreReached points spans b a
 
 -- an access as calls make them: it starts where its call is entered, if not later, and only at a target is it made by another rank
 pub record IsOfCall (b : Access) : Type 0 where

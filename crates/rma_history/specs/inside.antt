@@ -1,1 +1,3 @@
+pub mod Hull
+pub mod Overlaps
 pub mod Passed

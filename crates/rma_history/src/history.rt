@@ -1,29 +1,40 @@
 //! The accesses to the memory of one rank.
-ghost use Rattle.std.specs.Prelude.{◌≡◌, ◌↔◌, ◌⊎◌, ◌++◌, ◌∷◌, ℕ, List, [], Contains, OnErr, OnOk};
+ghost use Rattle.std.specs.Prelude.{◌≡◌, ◌↔◌, ◌⊎◌, ℕ, List, [], Contains, IfSome, OnOk, length, slice_get, Some, ◌<◌};
 ghost use Rattle.rma_link.specs.declared.links.Links.{Links};
 ghost use Rattle.rma_rules.specs.Access.{Access};
+ghost use Rattle.rma_rules.specs.Spans.{Spans};
 ghost use Rattle.rma_finding.specs.declared.finding.FoundRace.{FoundRace};
 ghost use Rattle.rma_pairs.specs.Races.{IsFoundBetween};
-ghost use Rattle.rma_history.specs.History.{AreKnown, IsPassed, MayBeAsked};
+ghost use Rattle.rma_chain.specs.Asked.{MayBeAsked};
+ghost use Rattle.rma_history.specs.History.{AreKnown, IsPassed};
+ghost use Rattle.rma_history.specs.inside.Overlaps.{IsHome, accesses_of};
 
-use crate::passed::is_passed;
+use crate::modelled::ModelledWindows;
+use crate::overlaps::Overlaps;
+use crate::retire::keep_others;
+use crate::search::{find_among, home_of};
 use rma_base::Memory;
+use rma_chain::Chain;
 use rma_clock::Clocks;
 use rma_finding::FoundRace;
-use rma_pairs::race_between;
 use rma_rules::{Access, Spans};
 use rma_window::Windows;
 use std::alloc::Global;
 use std::marker::Model;
+use std::mem;
 
 /// So many accesses are kept before any of them is looked at again.
-const ROOM: usize = 16;
+const ROOM: usize = 32;
 
 /// The accesses to the memory of one rank that later ones may race with.
 #[derive(Drop)]
 pub struct MemoryHistory<'a> {
-    /// The accesses.
-    kept: Vec<Access<'a>>,
+    /// The accesses, in chains of those that follow one another.
+    kept: Overlaps<'a>,
+    /// The indices of chains that were asked last.
+    met: Vec<u32>,
+    /// How many accesses there are.
+    count: usize,
     /// How many there may be before those are looked for that may go.
     room: usize,
 }
@@ -31,10 +42,11 @@ pub struct MemoryHistory<'a> {
 impl<'a> Model for MemoryHistory<'a> {
     ghost use Rattle.std.specs.Prelude.{List};
     ghost use Rattle.rma_rules.specs.Access.{Access};
+    ghost use Rattle.rma_history.specs.inside.Overlaps.{accesses_of};
 
     ghost Value = { List Access };
 
-    ghost view = { λ history. history.kept.items };
+    ghost view = { λ history. accesses_of history.kept };
 }
 
 impl<'a> MemoryHistory<'a> {
@@ -43,12 +55,15 @@ impl<'a> MemoryHistory<'a> {
         ensures { result ≡ [] }
     {
         MemoryHistory {
-            kept: Vec::new(alloc),
+            kept: Overlaps::new(alloc),
+            met: Vec::new(alloc),
+            count: 0,
             room: ROOM,
         }
     }
 
-    /// Takes an access, and adds what is found of it with each that is kept.
+    /// Takes an access, and adds what is found of it with each that is kept. Only those are asked which share a byte with it, where all
+    /// windows have the unified memory model.
     ///
     /// # Errors
     ///
@@ -58,7 +73,7 @@ impl<'a> MemoryHistory<'a> {
         alloc: Global,
         access: Access<'a>,
         lists: &Spans,
-        windows: &Windows,
+        windows: &ModelledWindows<'_>,
         clocks: &C,
         found: &mut Vec<FoundRace>,
     ) -> Result<(), Memory>
@@ -66,102 +81,93 @@ impl<'a> MemoryHistory<'a> {
         ensures kept { OnOk result ((a : Access) → Contains self.new a ↔ (Contains self.old a ⊎ (a ≡ access.entry))) }
         ensures found { OnOk result ((points : List ℕ) (links : Links) → C.are_of clocks.now points links → ((a : Access) → Contains self.old a → MayBeAsked points windows.now lists.now a access.entry)
             → (race : FoundRace) → Contains found.new.items race ↔ (Contains found.old.items race ⊎ ((a : Access) × Contains self.old a × IsFoundBetween links windows.now lists.now a access.entry race))) }
-        ensures err { OnErr result (self.new ≡ self.old) }
     {
-        find_with(alloc, &self.kept, &access, lists, windows, clocks, found)?;
-        self.kept.push(access)?;
+        meet(alloc, &self.kept, &access, windows, &mut self.met)?;
+        let chains = self.kept.chains();
+        find_among(
+            alloc,
+            chains,
+            &self.met,
+            &access,
+            lists,
+            windows.windows(),
+            clocks,
+            found,
+        )?;
+        let home = home_of(chains, &self.met, &access);
+        add(alloc, &mut self.kept, home, access)?;
+        self.count = self.count.saturating_add(1);
         Ok(())
     }
 
     /// Lets accesses go that are before all those which are still to come: of each rank the number of the first call is given that makes
     /// one, if there is one. They are looked for only where there are many, twice as many as were left the last time.
+    ///
+    /// # Errors
+    ///
+    /// `Memory` where there is none left: then some may be gone that are not before all.
     pub fn retire<C: Clocks>(
         &mut self,
+        alloc: Global,
         next: &[Option<u32>],
         lists: &Spans,
         windows: &Windows,
         clocks: &C,
-    )
+    ) -> Result<(), Memory>
         requires { (points : List ℕ) × (links : Links) × C.are_of clocks.now points links × ((a : Access) → Contains self.old a → AreKnown points windows.now lists.now next.now a) }
-        ensures kept { (a : Access) → Contains self.new a → Contains self.old a }
-        ensures gone { (points : List ℕ) (links : Links) → C.are_of clocks.now points links → ((a : Access) → Contains self.old a → AreKnown points windows.now lists.now next.now a)
-            → (a : Access) → Contains self.old a → Contains self.new a ⊎ IsPassed links windows.now lists.now next.now a }
+        ensures kept { OnOk result ((a : Access) → Contains self.new a → Contains self.old a) }
+        ensures gone { OnOk result ((points : List ℕ) (links : Links) → C.are_of clocks.now points links → ((a : Access) → Contains self.old a → AreKnown points windows.now lists.now next.now a)
+            → (a : Access) → Contains self.old a → Contains self.new a ⊎ IsPassed links windows.now lists.now next.now a) }
     {
-        if self.kept.len() < self.room {
-            return;
+        if self.count < self.room {
+            return Ok(());
         }
-        let_go(&mut self.kept, next, lists, windows, clocks);
-        self.room = self.kept.len().saturating_mul(2).max(ROOM);
+        let before = mem::replace(&mut self.kept, Overlaps::new(alloc));
+        self.count = keep_others(
+            alloc,
+            before.into_chains(),
+            &mut self.kept,
+            next,
+            lists,
+            windows,
+            clocks,
+        )?;
+        self.room = self.count.saturating_mul(2).max(ROOM);
+        Ok(())
     }
 }
 
-/// Adds what is found of an access with each that is kept.
-fn find_with<C: Clocks>(
+/// Lists the indices of the chains that have an access with which this one may conflict, and perhaps of others.
+fn meet(
     alloc: Global,
-    kept: &[Access<'_>],
+    kept: &Overlaps<'_>,
     access: &Access<'_>,
-    lists: &Spans,
-    windows: &Windows,
-    clocks: &C,
-    found: &mut Vec<FoundRace>,
+    windows: &ModelledWindows<'_>,
+    met: &mut Vec<u32>,
 ) -> Result<(), Memory>
-    requires { (points : List ℕ) × (links : Links) × C.are_of clocks.now points links × ((a : Access) → Contains kept.now a → MayBeAsked points windows.now lists.now a access.now) }
-    ensures { OnOk result ((points : List ℕ) (links : Links) → C.are_of clocks.now points links → ((a : Access) → Contains kept.now a → MayBeAsked points windows.now lists.now a access.now)
-        → (race : FoundRace) → Contains found.new.items race ↔ (Contains found.old.items race ⊎ ((a : Access) × Contains kept.now a × IsFoundBetween links windows.now lists.now a access.now race))) }
+    ensures found { OnOk result ((links : Links) (spans : Spans) (i : ℕ) (chain : List Access) (a : Access) (race : FoundRace) → slice_get kept.now i ≡ Some chain → Contains chain a
+        → IsFoundBetween links windows.now spans a access.now race → Contains met.new.items i) }
+    ensures bound { OnOk result ((i : ℕ) → Contains met.new.items i → i < length kept.now) }
 {
-    'kept: for earlier in kept {
-        find_between(alloc, earlier, access, lists, windows, clocks, found)?;
+    if windows.are_unified() {
+        kept.meeting(alloc, &access.bytes, met)
+    } else {
+        kept.all(met)
     }
-    Ok(())
 }
 
-/// Adds what is found of two accesses, if they race.
-fn find_between<C: Clocks>(
+/// Adds an access to the chain at an index, or where none is given as the first of another chain.
+fn add<'a>(
     alloc: Global,
-    a: &Access<'_>,
-    b: &Access<'_>,
-    lists: &Spans,
-    windows: &Windows,
-    clocks: &C,
-    found: &mut Vec<FoundRace>,
+    kept: &mut Overlaps<'a>,
+    home: Option<usize>,
+    access: Access<'a>,
 ) -> Result<(), Memory>
-    requires { (points : List ℕ) × (links : Links) × C.are_of clocks.now points links × MayBeAsked points windows.now lists.now a.now b.now }
-    ensures { OnOk result ((points : List ℕ) (links : Links) → C.are_of clocks.now points links → MayBeAsked points windows.now lists.now a.now b.now
-        → (race : FoundRace) → Contains found.new.items race ↔ (Contains found.old.items race ⊎ IsFoundBetween links windows.now lists.now a.now b.now race)) }
+    requires { IfSome home (λ i. IsHome kept.old i access) }
+    ensures { OnOk result ((a : Access) → Contains (accesses_of kept.new) a ↔ (Contains (accesses_of kept.old) a ⊎ (a ≡ access.entry))) }
 {
-    match race_between(alloc, a, b, lists, windows, clocks)? {
-        Some(race) => push(found, race),
-        None => Ok(()),
-    }
-}
-
-/// Adds a race.
-fn push(found: &mut Vec<FoundRace>, race: FoundRace) -> Result<(), Memory>
-    ensures { OnOk result (found.new.items ≡ found.old.items ++ race ∷ []) }
-{
-    found.push(race)?;
-    Ok(())
-}
-
-/// Lets the accesses go that are before all those which are still to come.
-fn let_go<C: Clocks>(
-    kept: &mut Vec<Access<'_>>,
-    next: &[Option<u32>],
-    lists: &Spans,
-    windows: &Windows,
-    clocks: &C,
-)
-    requires { (points : List ℕ) × (links : Links) × C.are_of clocks.now points links × ((a : Access) → Contains kept.old.items a → AreKnown points windows.now lists.now next.now a) }
-    ensures kept { (a : Access) → Contains kept.new.items a → Contains kept.old.items a }
-    ensures gone { (points : List ℕ) (links : Links) → C.are_of clocks.now points links → ((a : Access) → Contains kept.old.items a → AreKnown points windows.now lists.now next.now a)
-        → (a : Access) → Contains kept.old.items a → Contains kept.new.items a ⊎ IsPassed links windows.now lists.now next.now a }
-{
-    let mut at = 0;
-    'kept: while at < kept.len() {
-        if is_passed(&kept[at], next, lists, windows, clocks) {
-            kept.swap_remove(at);
-        } else {
-            at += 1;
-        }
+    match home {
+        Some(index) => kept.go_on(index, access),
+        None => kept.begin(alloc, Chain::of(alloc, access)?),
     }
 }

@@ -10,9 +10,11 @@ ghost use Rattle.rma_rules.specs.Before.{IsMadeVisible};
 ghost use Rattle.rma_rules.specs.Kind.{is_update};
 ghost use Rattle.rma_rules.specs.Share.{IsSeparate, IsThroughSeparate};
 ghost use Rattle.rma_rules.specs.Spans.{AreCalls};
-ghost use Rattle.rma_history.specs.History.{AreEntered, AreKnown, ArePublishing, IsNextOf, IsPassed};
-ghost use Rattle.rma_history.specs.inside.Passed.{IsBeforeAll, IsPublishedForAll, IsPublishedToAll, IsVisibleToNext};
+ghost use Rattle.rma_history.specs.History.{AreEntered, AreKnown, ArePublishing, IsPassed};
+ghost use Rattle.rma_history.specs.inside.Passed.{AreBehind, IsPublishedForAll, IsPublishedToAll, IsVisibleToNext};
 
+use crate::horizon::Horizon;
+use crate::next_calls::{entry_of, next_call};
 use rma_base::{Point, Rank, WinModel};
 use rma_clock::Clocks;
 use rma_rules::{Access, Spans};
@@ -21,66 +23,32 @@ use rma_window::{WindowId, Windows};
 /// Whether an access is before all those of its memory that are still to come.
 ///
 /// It may say no of one that is. That one is then kept, and costs its memory and a question with each access that comes. It asks of each
-/// rank that has a next call whether the access is done before that, of an update also whether the rank whose memory it touches sees it
-/// before its own next call, and of a store also whether it is published, before each next call, to each window of the separate model:
-/// also to one in which its rank has no part, or that it has freed.
+/// rank that has a next call whether the access is done before that, unless the horizon knows it, of an update also whether the rank
+/// whose memory it touches sees it before its own next call, and of a store also whether it is published, before each next call, to each
+/// window of the separate model: also to one in which its rank has no part, or that it has freed.
 pub(crate) fn is_passed<C: Clocks>(
     a: &Access<'_>,
     next: &[Option<u32>],
     lists: &Spans,
     windows: &Windows,
     clocks: &C,
+    horizon: &mut Horizon,
 ) -> bool
     requires { (points : List ℕ) × (links : Links) × C.are_of clocks.now points links × AreKnown points windows.now lists.now next.now a.now }
-    ensures { (points : List ℕ) (links : Links) → C.are_of clocks.now points links → AreKnown points windows.now lists.now next.now a.now → IsTrue result → IsPassed links windows.now lists.now next.now a.now }
+    ensures passed { (points : List ℕ) (links : Links) → C.are_of clocks.now points links → AreKnown points windows.now lists.now next.now a.now → AreBehind links next.now horizon.old
+        → IsTrue result → IsPassed links windows.now lists.now next.now a.now }
+    ensures behind { (points : List ℕ) (links : Links) → C.are_of clocks.now points links → AreKnown points windows.now lists.now next.now a.now → AreBehind links next.now horizon.old → AreBehind links next.now horizon.new }
 {
     let Some(done) = a.done else {
         return false;
     };
-    if !is_before_all(done, next, clocks) {
+    if !horizon.passes(done, next, clocks) {
         return false;
     }
     if !is_visible_to_next(a, done, next, lists, windows, clocks) {
         return false;
     }
-    is_published_for_all(a, done, next, lists, windows, clocks)
-}
-
-/// Whether a point is at or before the entry of the next call of each rank that has one.
-fn is_before_all<C: Clocks>(p: Point, next: &[Option<u32>], clocks: &C) -> bool
-    requires { (points : List ℕ) × (links : Links) × C.are_of clocks.now points links × IsReached points p × AreEntered points next.now }
-    ensures { (points : List ℕ) (links : Links) → C.are_of clocks.now points links → IsReached points p → AreEntered points next.now → IsTrue result → IsBeforeAll links next.now p }
-{
-    let Ok(ranks) = u32::try_from(next.len()) else {
-        return false;
-    };
-    'ranks: for number in 0..ranks {
-        if !is_before_next(p, Rank(number), next, clocks) {
-            return false;
-        }
-    }
-    true
-}
-
-/// Whether a point is at or before the entry of the next call of a rank, if it has one.
-fn is_before_next<C: Clocks>(p: Point, rank: Rank, next: &[Option<u32>], clocks: &C) -> bool
-    requires { (points : List ℕ) × (links : Links) × C.are_of clocks.now points links × IsReached points p × AreEntered points next.now }
-    ensures { (points : List ℕ) (links : Links) → C.are_of clocks.now points links → IsReached points p → AreEntered points next.now → IsTrue result ↔ ((call : ℕ) → IsNextOf next.now rank call → IsAtOrBefore links p (entry rank call)) }
-{
-    match next_call(next, rank) {
-        Some(call) => clocks.leq(p, entry_of(rank, call)),
-        None => true,
-    }
-}
-
-/// The next call of a rank, if it has one.
-fn next_call(next: &[Option<u32>], rank: Rank) -> Option<u32>
-    ensures { (call : ℕ) → (result ≡ Some call) ↔ IsNextOf next.now rank call }
-{
-    match next.get(rank.0 as usize) {
-        Some(call) => *call,
-        None => None,
-    }
+    is_published_for_all(a, done, next, lists, windows, clocks, horizon)
 }
 
 /// Whether an update through a window of the separate model, done by this point, is visible to the rank whose memory it touches before
@@ -160,12 +128,16 @@ fn is_published_for_all<C: Clocks>(
     lists: &Spans,
     windows: &Windows,
     clocks: &C,
+    horizon: &mut Horizon,
 ) -> bool
     requires { (points : List ℕ) × (links : Links) × C.are_of clocks.now points links × IsReached points done × AreEntered points next.now × ArePublishing points lists.now a.now.memory }
-    ensures { (points : List ℕ) (links : Links) → C.are_of clocks.now points links → IsReached points done → AreEntered points next.now → ArePublishing points lists.now a.now.memory
-        → IsTrue result → IsPublishedForAll links windows.now lists.now next.now a.now done }
+    ensures published { (points : List ℕ) (links : Links) → C.are_of clocks.now points links → IsReached points done → AreEntered points next.now → ArePublishing points lists.now a.now.memory
+        → AreBehind links next.now horizon.old → IsTrue result → IsPublishedForAll links windows.now lists.now next.now a.now done }
+    ensures behind { (points : List ℕ) (links : Links) → C.are_of clocks.now points links → IsReached points done → AreEntered points next.now → ArePublishing points lists.now a.now.memory
+        → AreBehind links next.now horizon.old → AreBehind links next.now horizon.new }
 {
-    !a.kind.is_store() || is_published_everywhere(a.memory, done, next, lists, windows, clocks)
+    !a.kind.is_store()
+        || is_published_everywhere(a.memory, done, next, lists, windows, clocks, horizon)
 }
 
 /// Whether a call of the rank publishes to each window of the separate model what was done by this point, before the next call of each
@@ -177,16 +149,20 @@ fn is_published_everywhere<C: Clocks>(
     lists: &Spans,
     windows: &Windows,
     clocks: &C,
+    horizon: &mut Horizon,
 ) -> bool
     requires { (points : List ℕ) × (links : Links) × C.are_of clocks.now points links × IsReached points done × AreEntered points next.now × ArePublishing points lists.now rank }
-    ensures { (points : List ℕ) (links : Links) → C.are_of clocks.now points links → IsReached points done → AreEntered points next.now → ArePublishing points lists.now rank
-        → IsTrue result → (window : WindowId) → IsSeparate windows.now window → IsPublishedToAll links lists.now next.now rank window done }
+    ensures published { (points : List ℕ) (links : Links) → C.are_of clocks.now points links → IsReached points done → AreEntered points next.now → ArePublishing points lists.now rank
+        → AreBehind links next.now horizon.old → IsTrue result → (window : WindowId) → IsSeparate windows.now window → IsPublishedToAll links lists.now next.now rank window done }
+    ensures behind { (points : List ℕ) (links : Links) → C.are_of clocks.now points links → IsReached points done → AreEntered points next.now → ArePublishing points lists.now rank
+        → AreBehind links next.now horizon.old → AreBehind links next.now horizon.new }
 {
     let Ok(count) = u32::try_from(windows.len()) else {
         return false;
     };
     'windows: for number in 0..count {
-        if !is_published_to(rank, WindowId(number), done, next, lists, windows, clocks) {
+        let window = WindowId(number);
+        if !is_published_to(rank, window, done, next, lists, windows, clocks, horizon) {
             return false;
         }
     }
@@ -203,14 +179,17 @@ fn is_published_to<C: Clocks>(
     lists: &Spans,
     windows: &Windows,
     clocks: &C,
+    horizon: &mut Horizon,
 ) -> bool
     requires window { window.0 < length windows.now }
     requires clocks { (points : List ℕ) × (links : Links) × C.are_of clocks.now points links × IsReached points done × AreEntered points next.now × ArePublishing points lists.now rank }
-    ensures { (points : List ℕ) (links : Links) → C.are_of clocks.now points links → IsReached points done → AreEntered points next.now → ArePublishing points lists.now rank
-        → IsTrue result → IsSeparate windows.now window → IsPublishedToAll links lists.now next.now rank window done }
+    ensures published { (points : List ℕ) (links : Links) → C.are_of clocks.now points links → IsReached points done → AreEntered points next.now → ArePublishing points lists.now rank
+        → AreBehind links next.now horizon.old → IsTrue result → IsSeparate windows.now window → IsPublishedToAll links lists.now next.now rank window done }
+    ensures behind { (points : List ℕ) (links : Links) → C.are_of clocks.now points links → IsReached points done → AreEntered points next.now → ArePublishing points lists.now rank
+        → AreBehind links next.now horizon.old → AreBehind links next.now horizon.new }
 {
     match windows.model(window) {
-        WinModel::Separate => is_published(rank, window, done, next, lists, clocks),
+        WinModel::Separate => is_published(rank, window, done, next, lists, clocks, horizon),
         WinModel::Unified => true,
     }
 }
@@ -224,15 +203,18 @@ fn is_published<C: Clocks>(
     next: &[Option<u32>],
     lists: &Spans,
     clocks: &C,
+    horizon: &mut Horizon,
 ) -> bool
     requires { (points : List ℕ) × (links : Links) × C.are_of clocks.now points links × IsReached points done × AreEntered points next.now × ArePublishing points lists.now rank }
-    ensures { (points : List ℕ) (links : Links) → C.are_of clocks.now points links → IsReached points done → AreEntered points next.now → ArePublishing points lists.now rank
-        → IsTrue result → IsPublishedToAll links lists.now next.now rank window done }
+    ensures published { (points : List ℕ) (links : Links) → C.are_of clocks.now points links → IsReached points done → AreEntered points next.now → ArePublishing points lists.now rank
+        → AreBehind links next.now horizon.old → IsTrue result → IsPublishedToAll links lists.now next.now rank window done }
+    ensures behind { (points : List ℕ) (links : Links) → C.are_of clocks.now points links → IsReached points done → AreEntered points next.now → ArePublishing points lists.now rank
+        → AreBehind links next.now horizon.old → AreBehind links next.now horizon.new }
 {
     let calls = lists.publishing(rank, window);
     let first = first_entered_after(rank, done, calls, clocks);
     if first < calls.len() {
-        is_before_all(entry_of(rank, calls[first]), next, clocks)
+        horizon.passes(entry_of(rank, calls[first]), next, clocks)
     } else {
         false
     }
@@ -257,17 +239,6 @@ fn first_entered_after<C: Clocks>(rank: Rank, done: Point, calls: &[u32], clocks
         }
     }
     low
-}
-
-/// Where a rank enters a call.
-fn entry_of(rank: Rank, call: u32) -> Point
-    requires { call < 2 ^ 31 }
-    ensures { result ≡ entry rank call }
-{
-    Point {
-        rank,
-        pos: 2 * call,
-    }
 }
 
 /// Where a rank returns from a call.

@@ -17,7 +17,8 @@ use Rattle.rma_points.proofs.AccessLemmas.{done_at_point, is_of_run, memory_of_r
 use Rattle.rma_points.proofs.AskedLemmas.{may_be_asked, published_of_run}
 use Rattle.rma_points.proofs.SpanLemmas.{IsOfRun, entered, sound_count}
 use Rattle.rma_accesses.proofs.RankLemmas.{contained}
-use Rattle.rma_history.specs.History.{AreKnown, MayBeAsked}
+use Rattle.rma_chain.specs.Asked.{MayBeAsked}
+use Rattle.rma_history.specs.History.{AreKnown}
 use Rattle.rma_races.specs.declared.taking.Taking.{Taking}
 use Rattle.rma_races.specs.inside.Taking.{IsBegun, IsKnown, numbers}
 use Rattle.rma_races.proofs.CallLemmas.{is_number}

@@ -14,6 +14,7 @@ use rma_accesses::RunAccesses;
 use rma_base::{Memory, Point};
 use rma_clock::Clocks;
 use rma_finding::FoundRace;
+use rma_history::ModelledWindows;
 use rma_pairs::in_order;
 use rma_window::Windows;
 use std::alloc::Global;
@@ -51,6 +52,7 @@ fn found_in<C: Clocks>(
     ensures { IfOk result (λ races. (ranks : List RankCalls) (links : Links) → AreOfRun ranks run.now windows.now points.now → C.are_of clocks.now (points_of (lens_of ranks)) links
         → (race : FoundRace) → Contains races.items race ↔ IsFound links windows.now run.now.lists (accesses ranks) race) }
 {
+    let windows = ModelledWindows::of(windows);
     let mut taking = Taking::new(alloc, &run.ranks)?;
     for point in points {
         let rank = point.rank.0 as usize;
@@ -60,7 +62,7 @@ fn found_in<C: Clocks>(
             &run.ranks[rank],
             point.pos / 2,
             &run.lists,
-            windows,
+            &windows,
             clocks,
         )?;
     }

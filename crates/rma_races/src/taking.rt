@@ -15,9 +15,8 @@ use rma_accesses::RankAccesses;
 use rma_base::Memory;
 use rma_clock::Clocks;
 use rma_finding::FoundRace;
-use rma_history::MemoryHistory;
+use rma_history::{MemoryHistory, ModelledWindows};
 use rma_rules::{Access, Role, Spans};
-use rma_window::Windows;
 use std::alloc::Global;
 
 /// The roles in which a call may make an access, in their order.
@@ -80,7 +79,7 @@ impl<'a> Taking<'a> {
         own: &'a RankAccesses<'_, '_>,
         call: u32,
         lists: &Spans,
-        windows: &Windows,
+        windows: &ModelledWindows<'_>,
         clocks: &C,
     ) -> Result<(), Memory>
         requires { (ranks : List RankCalls) × (links : Links) × IsKnown ranks windows.now lists.now × IsAccessesOf ranks own.now × (slice_get ranks rank ≡ Some (rank_of own.now))
@@ -108,7 +107,7 @@ impl<'a> Taking<'a> {
         own: &'a RankAccesses<'_, '_>,
         index: usize,
         lists: &Spans,
-        windows: &Windows,
+        windows: &ModelledWindows<'_>,
         clocks: &C,
     ) -> Result<(), Memory>
         requires { (ranks : List RankCalls) × (links : Links) × (seen : List Access) × IsKnown ranks windows.now lists.now × IsAccessesOf ranks own.now × C.are_of clocks.now (points_of (lens_of ranks)) links
@@ -130,7 +129,7 @@ impl<'a> Taking<'a> {
         alloc: Global,
         access: Option<Access<'a>>,
         lists: &Spans,
-        windows: &Windows,
+        windows: &ModelledWindows<'_>,
         clocks: &C,
     ) -> Result<(), Memory>
         requires { (ranks : List RankCalls) × (links : Links) × (seen : List Access) × IsKnown ranks windows.now lists.now × C.are_of clocks.now (points_of (lens_of ranks)) links
@@ -151,7 +150,7 @@ impl<'a> Taking<'a> {
         alloc: Global,
         access: Access<'a>,
         lists: &Spans,
-        windows: &Windows,
+        windows: &ModelledWindows<'_>,
         clocks: &C,
     ) -> Result<(), Memory>
         requires { (ranks : List RankCalls) × (links : Links) × (seen : List Access) × IsKnown ranks windows.now lists.now × C.are_of clocks.now (points_of (lens_of ranks)) links
@@ -161,7 +160,7 @@ impl<'a> Taking<'a> {
         ensures same { (self.new.taken ≡ self.old.taken) × (self.new.next ≡ self.old.next) }
     {
         let memory = &mut self.memories[access.memory.0 as usize];
-        memory.retire(&self.next, lists, windows, clocks);
+        memory.retire(alloc, &self.next, lists, windows.windows(), clocks)?;
         memory.take(alloc, access, lists, windows, clocks, &mut self.found)
     }
 }

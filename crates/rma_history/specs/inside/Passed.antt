@@ -1,5 +1,5 @@
 -- What is asked of an access that is before all those of its memory which are still to come.
-use Rattle.std.specs.Prelude.{◌≡◌, ℕ, List, Option, Contains, true}
+use Rattle.std.specs.Prelude.{◌≡◌, ℕ, List, Option, Some, Contains, slice_get, true}
 use Rattle.rma_base.specs.declared.rank.Rank.{Rank}
 use Rattle.rma_base.specs.declared.point.Point.{Point}
 use Rattle.rma_link.specs.declared.links.Links.{Links}
@@ -17,6 +17,10 @@ use Rattle.rma_history.specs.History.{IsNextOf}
 -- a point is at or before the entry of each next call
 abbrev pub IsBeforeAll : Links → List (Option ℕ) → Point → Type 0
 IsBeforeAll links next p = (rank : Rank) (call : ℕ) → IsNextOf next rank call → IsAtOrBefore links p (entry rank call)
+
+-- of each rank at most one position is given, and this point of it is at or before the entry of each next call
+abbrev pub AreBehind : Links → List (Option ℕ) → List (Option ℕ) → Type 0
+AreBehind links next known = (rank : Rank) (pos : ℕ) → slice_get known rank.0 ≡ Some (Some pos) → IsBeforeAll links next (record { rank = rank; pos = pos })
 
 -- what an update through a window of the separate model did by this point is visible to the rank before its next call, if it has one
 abbrev pub IsVisibleToNext : Links → List Window → Spans → List (Option ℕ) → Access → Point → Type 0

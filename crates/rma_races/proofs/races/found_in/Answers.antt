@@ -1,5 +1,5 @@
 use Rattle.std.proofs.Common.{◌≡◌, ◌<◌, ◌/◌, ◌+◌, ℕ, List, [], map, Bool, true, false, nat_lt, Some, length, slice_get, slice_index_or, refl, sym, ap, subst, ◌∙◌, arith}
-use Rattle.std.specs.Prelude.{All}
+use Rattle.std.specs.Prelude.{◌↔◌, All, Contains}
 use Rattle.std.proofs.lemmas.Bool.Decides.{nat_tests}
 use Rattle.std.proofs.lemmas.List.{length-map}
 use Rattle.std.proofs.lemmas.Option.{same_Some, slice_get-get_or, slice_get_within}
@@ -10,6 +10,8 @@ use Rattle.rma_accesses.specs.declared.accesses.RunAccesses.{RunAccesses}
 use Rattle.rma_accesses.specs.declared.rank.RankAccesses.{RankAccesses}
 use Rattle.rma_accesses.specs.inside.Kept.{IsAccessesOf, rank_of}
 use Rattle.rma_accesses.proofs.RankLemmas.{all_at, contained, item_is, mapped}
+use Rattle.rma_pairs.specs.Races.{IsFound}
+use Rattle.rma_span.specs.Span.{accesses}
 use Rattle.rma_races.specs.Run.{AreOfRun}
 use Rattle.rma_races.specs.inside.Taking.{IsKnown, IsThrough}
 use Rattle.rma_races.proofs.AllLemmas.{all_taken, found_all, none_taken, still_through}
@@ -30,7 +32,7 @@ loop-point-init g c = λ ranks links of clocks.
     let given = c.args.run.now in
     let begun = c.in_ok-taking.ensures.begun ranks (ap (λ (l : List RankAccesses). map rank_of l) c.deref.ensures.value ∙ of.accesses_are.owns) (subst (All (IsAccessesOf ranks)) (sym c.deref.ensures.value) of.accesses_are.each) in
     let none = c.in_ok-taking.ensures.none in (
-      ([], none_taken links c.args.windows.now given.lists ranks c.in_ok-taking.taking begun none.0 c.in_ok-taking.ensures.empty, λ i own k number a there less at has. absurd (let zero = none.1 i in omega (arith, less, zero))),
+      ([], none_taken links c.of-windows.result given.lists ranks c.in_ok-taking.taking begun none.0 c.in_ok-taking.ensures.empty, λ i own k number a there less at has. absurd (let zero = none.1 i in omega (arith, less, zero))),
       λ j p less at. absurd (omega arith),
     )
 
@@ -69,10 +71,11 @@ index-requires g c =
 
 pub take_through-requires : goal.take_through-requires
 take_through-requires g c =
-    let (ranks, links, of, clocks) = c.requires in
+    let (ranks, links, given_of, clocks) = c.requires in
     let given = c.args.run.now in
-    let windows = c.args.windows.now in
+    let windows = c.of-windows.result in
     let points = c.args.points.now in
+    let of = subst (λ (ws : List Window). AreOfRun ranks given ws points) (sym c.of-windows.ensures) given_of in
     let i = c.loop-point.point-index in (
       ranks,
       links,
@@ -86,7 +89,7 @@ take_through-requires g c =
 pub loop-point-preserved : goal.loop-point-preserved
 loop-point-preserved g c = λ ranks links of clocks.
     let given = c.args.run.now in
-    let windows = c.args.windows.now in
+    let windows = c.of-windows.result in
     let points = c.args.points.now in
     let i = c.loop-point.point-index in
     let now = c.loop-point.invariant ranks links of clocks in
@@ -104,10 +107,11 @@ loop-point-preserved g c = λ ranks links of clocks.
     )
 
 pub returns : goal.returns
-returns g c = λ ranks links of clocks race.
+returns g c = λ ranks links given_of clocks race.
     let given = c.args.run.now in
-    let windows = c.args.windows.now in
+    let windows = c.of-windows.result in
     let points = c.args.points.now in
+    let of = subst (λ (ws : List Window). AreOfRun ranks given ws points) (sym c.of-windows.ensures) given_of in
     let now = c.loop-point.invariant ranks links of clocks in
     let seen = now.0.0 in
     let taken = now.0.1 in
@@ -116,4 +120,5 @@ returns g c = λ ranks links of clocks race.
     (λ j p at. let within = slice_get_within points j p at in now.1 j p (omega (arith, within, past)) at)
     now.0.2 in
     let same = found_all links windows given.lists ranks seen race taken.of_run all in
+    subst (λ (ws : List Window). Contains c.loop-point.taking.found.items race ↔ IsFound links ws given.lists (accesses ranks) race) c.of-windows.ensures
     (λ has. same.0 ((taken.found race).0 has), λ found. (taken.found race).1 (same.1 found))

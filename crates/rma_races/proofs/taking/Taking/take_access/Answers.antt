@@ -41,8 +41,9 @@ retire-requires g c =
       links,
       clocks,
       λ a among.
-          subst (λ them. AreKnown (points_of (lens_of ranks)) c.args.windows.now c.args.lists.now them a) (sym c.deref.ensures.value)
-          (are_known ranks c.args.windows.now c.args.lists.now known c.args.self.now taken.begun a (taken.of_run a (taken.kept c.access.inside.memory.0 c.index_mut-memory.result.now a at among))),
+          subst (λ ws. AreKnown (points_of (lens_of ranks)) ws c.args.lists.now c.deref.result.now a) (sym c.windows.ensures)
+          (subst (λ them. AreKnown (points_of (lens_of ranks)) c.args.windows.now c.args.lists.now them a) (sym c.deref.ensures.value)
+          (are_known ranks c.args.windows.now c.args.lists.now known c.args.self.now taken.begun a (taken.of_run a (taken.kept c.access.inside.memory.0 c.index_mut-memory.result.now a at among)))),
     )
 
 pub take-requires : goal.take-requires
@@ -58,7 +59,7 @@ take-requires g c =
       links,
       clocks,
       λ a among.
-          may_ask ranks c.args.windows.now c.args.lists.now known a c.args.access (taken.of_run a (taken.kept c.access.inside.memory.0 c.index_mut-memory.result.now a at (c.retire.ensures.kept a among))) has,
+          may_ask ranks c.args.windows.now c.args.lists.now known a c.args.access (taken.of_run a (taken.kept c.access.inside.memory.0 c.index_mut-memory.result.now a at (c.in_ok-retire.ensures.kept a among))) has,
     )
 
 pub returns-clause-taken : goal.returns-clause-taken
@@ -79,12 +80,15 @@ returns-clause-taken g c =
     let at : slice_get old.memories.items b.memory.0 ≡ Some c.index_mut-memory.result.now = ap (slice_get old.memories.items) (sym same) ∙ here in
     let of_run = λ (a : Access) (among : Contains c.index_mut-memory.result.now a). taken.of_run a (taken.kept b.memory.0 c.index_mut-memory.result.now a at among) in
     let knows = λ (a : Access) (among : Contains c.index_mut-memory.result.now a).
-    subst (λ them. AreKnown points windows spans them a) (sym c.deref.ensures.value) (are_known ranks windows spans known old taken.begun a (of_run a among)) in
-    let asks = λ (a : Access) (among : Contains c.retire.new.self a). may_ask ranks windows spans known a b (of_run a (c.retire.ensures.kept a among)) has in
+    subst (λ ws. AreKnown points ws spans c.deref.result.now a) (sym c.windows.ensures)
+    (subst (λ them. AreKnown points windows spans them a) (sym c.deref.ensures.value) (are_known ranks windows spans known old taken.begun a (of_run a among))) in
+    let asks = λ (a : Access) (among : Contains c.retire.new.self a). may_ask ranks windows spans known a b (of_run a (c.in_ok-retire.ensures.kept a among)) has in
     stepped links windows spans ranks seen old _ b c.index_mut-memory.result.now c.retire.new.self c.take.new.self taken at
     (ap (λ i. slice_set old.memories.items i c.take.new.self) same)
-    refl refl c.retire.ensures.kept
-    (λ a among. subst (λ them. Contains c.retire.new.self a ⊎ IsPassed links windows spans them a) c.deref.ensures.value (c.retire.ensures.gone points links clocks knows a among))
+    refl refl c.in_ok-retire.ensures.kept
+    (λ a among.
+    subst (λ them. Contains c.retire.new.self a ⊎ IsPassed links windows spans them a) c.deref.ensures.value
+    (subst (λ ws. Contains c.retire.new.self a ⊎ IsPassed links ws spans c.deref.result.now a) c.windows.ensures (c.in_ok-retire.ensures.gone points links clocks knows a among)))
     kept
     (found points links clocks asks)
     has comes (of_call ranks b has) (on_window ranks windows spans known b has))
