@@ -23,7 +23,7 @@ impl Failure {
     pub fn word(self) -> &'static str {
         match self {
             Failure::Usage =>
-                "usage: rma_probe accesses|lists|table FILE, or rma_probe count LOG..",
+                "usage: rma_probe accesses|lists|table|races|trials FILE, or rma_probe count LOG..",
             Failure::Unread => "the table cannot be read",
             Failure::Row => "a line of the table is none that a row may have",
             Failure::Unwritten => "the answer cannot be written",

@@ -2,8 +2,10 @@
 //! LOG..` it makes the accesses of some logs and prints how many they are, to be timed.
 //!
 //! A row names some logs, as `docs/FORMAT.md` has them. For each row its name is printed, and then the answer, line by line: for
-//! `accesses` the accesses of the run, for `lists` the lists beside them, for `table` the pairs of them that conflict, and what orders them or keeps them apart. What a
-//! row wants stands in the table too, where the checks compare it; here it is passed over.
+//! `accesses` the accesses of the run, for `lists` the lists beside them, for `table` the pairs of them that conflict, and what orders
+//! them or keeps them apart, and for `races` the pairs that race, with the bytes that both touch. What a row wants stands in the table
+//! too, where the checks compare it; here it is passed over. A row of `trials` names no logs, but trials whose logs are made: of each
+//! the number of races and the first one are printed, or the numbers of lines and of findings.
 #![tactic(auto)]
 
 mod accesses;
@@ -11,10 +13,13 @@ mod count;
 mod failure;
 mod lists;
 mod logs;
+mod pulls;
+mod races;
 mod row;
 mod run;
 mod table;
 mod text;
+mod trials;
 mod words;
 
 use failure::Failure;
@@ -47,6 +52,14 @@ fn answer_rows(rt: HostRuntime, subject: Subject, text: &str) -> Result<(), Fail
     answer(rt, subject, row)
 }
 
+/// Prints the answers to a table.
+fn answer_table(rt: HostRuntime, subject: Subject, text: &str) -> Result<(), Failure> {
+    match subject {
+        Subject::Trials => trials::answer_rows(rt, text),
+        _ => answer_rows(rt, subject, text),
+    }
+}
+
 /// Does what the words ask for.
 fn probe(rt: HostRuntime) -> Result<(), Failure> {
     let words = words_given(rt)?;
@@ -56,7 +69,7 @@ fn probe(rt: HostRuntime) -> Result<(), Failure> {
         return run::answer(rt, subject, &texts);
     }
     for text in &texts {
-        answer_rows(rt, subject, text)?;
+        answer_table(rt, subject, text)?;
     }
     Ok(())
 }

@@ -96,12 +96,16 @@ impl Row {
 }
 
 /// Whether a line of a table is no line of a log: it is empty, a comment, or says what is wanted.
-fn is_passed_over(line: &str) -> bool {
+pub fn is_passed_over(line: &str) -> bool {
     line.is_empty() || line.starts_with('#') || line.starts_with('=')
 }
 
 /// The number that a word is.
-fn number(word: &str) -> Result<u32, Failure> {
+///
+/// # Errors
+///
+/// `Row` where it is none.
+pub fn number(word: &str) -> Result<u32, Failure> {
     match word.parse::<u32>() {
         Ok(number) => Ok(number),
         Err(_) => Err(Failure::Row),

@@ -9,6 +9,7 @@ use crate::count::count_accesses;
 use crate::failure::Failure;
 use crate::lists::print_lists;
 use crate::logs::{Logs, read};
+use crate::races::{print_counted, print_races};
 use crate::table::print_matched;
 use crate::text::print_fault;
 use crate::words::Subject;
@@ -63,6 +64,8 @@ fn answer_placed(
         Subject::Accesses => print_ranks(rt, &epochs.windows, &run),
         Subject::Lists => print_lists(rt, calls, &epochs.windows, &run.lists),
         Subject::Table => print_matched(rt, calls, matches, &epochs.windows, &run),
+        Subject::Races => print_races(rt, calls, matches, &epochs.windows, &run),
+        Subject::Trials => print_counted(rt, calls, matches, &epochs.windows, &run),
         Subject::Count => Ok(println!(rt; "= {} accesses", count_accesses(&run))?),
     }
 }

@@ -1,19 +1,19 @@
 //! The words for parts of answers.
-use rma_base::{Point, Rank};
+use rma_base::{Point, Rank, Site};
 use rma_book::FormFault;
-use rma_rules::Access;
+use rma_rules::{Access, AccessName};
 use rma_window::{WindowId, Windows};
 use std::io;
 
 /// Prints the name of an access, and the place in the program where its call stands.
 pub fn print_name(rt: HostRuntime, access: &Access<'_>) -> io::Result<()> {
-    print!(rt;
-        "{}:{}:{}",
-        access.name.rank.0,
-        access.name.line.0,
-        access.name.role.word()
-    )?;
-    match access.site {
+    print_named(rt, access.name, access.site)
+}
+
+/// Prints such a name, and the place, where it is known.
+pub fn print_named(rt: HostRuntime, name: AccessName, site: Option<&Site>) -> io::Result<()> {
+    print!(rt; "{}:{}:{}", name.rank.0, name.line.0, name.role.word())?;
+    match site {
         Some(site) => print!(rt; " @{}", site.text()),
         None => Ok(()),
     }

@@ -11,6 +11,10 @@ pub enum Subject {
     Lists,
     /// Which of them conflict.
     Table,
+    /// Which of them race.
+    Races,
+    /// What is found in the logs of trials.
+    Trials,
     /// How many accesses there are; this has logs in place of a table.
     Count,
 }
@@ -44,6 +48,8 @@ pub fn subject_in(words: &[String]) -> Result<(Subject, &[String]), Failure> {
         "accesses" => Ok((Subject::Accesses, rest)),
         "lists" => Ok((Subject::Lists, rest)),
         "table" => Ok((Subject::Table, rest)),
+        "races" => Ok((Subject::Races, rest)),
+        "trials" => Ok((Subject::Trials, rest)),
         "count" => Ok((Subject::Count, rest)),
         _ => Err(Failure::Usage),
     }
