@@ -128,14 +128,14 @@ def report_of(case):
     return written.decode(), said.decode(), status
 
 
-def is_usage(_):
-    return "", "usage\n", 2
+def is_clean_trial(_):
+    return "rmaudit 1 ranks 2 lines 40\nclean\n", "", 0
 
 
 CHECKS = (
     ("rmaudit: an example, unproved", lambda: unproved(lambda case: ["audit", *case.logs], report_of)),
     ("rmaudit: --limit, unproved", lambda: unproved(lambda case: ["audit", "--limit", "10", *case.logs], report_of)),
-    ("rmaudit: the words of trial, unproved", lambda: unproved(lambda case: ["trial", "8", "1000", "7"], is_usage)),
+    ("rmaudit: a trial, unproved", lambda: unproved(lambda case: ["trial", "2", "5", "7"], is_clean_trial)),
     ("rmaudit: words are passed on", words_are_passed_on),
     ("rmaudit: a run without an end has no answer", a_run_without_an_end_has_no_answer),
     ("rmaudit: only what was proved runs", only_what_was_proved_runs),

@@ -2,12 +2,16 @@
 
 A line `row NAME` begins a row; what it gives stands behind it, as crates/rma_probe reads it, and what is wanted in lines that begin
 with `=`. Everything else is a comment. The program prints the rows with its answers in the same form.
+
+The name of a file is the subject, with `_large` behind it where its rows are too long for sources that run unproved.
 """
 import glob
 import os
 import re
 
 from cases import TOP
+
+LARGE = "_large"
 
 
 def tables():
@@ -17,7 +21,12 @@ def tables():
 
 def subject_of(table):
     """The word by which the program knows what a table is about."""
-    return os.path.basename(table).removesuffix(".txt")
+    return os.path.basename(table).removesuffix(".txt").removesuffix(LARGE)
+
+
+def is_large(table):
+    """Whether it needs the proved program."""
+    return table.endswith(f"{LARGE}.txt")
 
 
 def rows_of(text):
