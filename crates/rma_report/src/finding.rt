@@ -17,7 +17,8 @@ pub enum Finding {
     },
     /// A call that the calls of other ranks do not match.
     Mismatch(MatchFault),
-    /// The first call of a rank that is never left, since calls wait for one another in a circle.
+    /// The first call of a rank that is never left, since calls wait for one another in a circle, or a rank waits for
+    /// itself alone.
     Impossible {
         /// The rank that makes the call.
         rank: Rank,
