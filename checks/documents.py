@@ -1,6 +1,9 @@
 """The checks of the documents: that what they name is there.
 
-    crates    each crate of crates.txt has its row in the tables of README.md and docs/DESIGN.md, in the order of crates.txt
+    crates    each crate of crates.txt has its row in the table of docs/DESIGN.md, in the order of crates.txt
+    claims    each crate of crates.txt has one section of docs/CLAIMS.md with the crate in its title, which begins with what is proved
+              of the crate, and no section is of another crate; that of the top call comes first, the others in the order of crates.txt
+    README    README.md has fewer than 7,000 bytes
     edits     each must-fail edit of a crate is named in the section of docs/CLAIMS.md that has the crate in its title, in the
               last column, and each that is named there is one
     files     each file of a crate that docs/DESIGN.md, docs/RULES-OF-MPI.md, docs/CLAIMS.md or CONTRIBUTING.md names is there
@@ -13,6 +16,7 @@ import re
 from cases import TOP
 
 TEST_CRATES = re.compile(r"rma_\w+_tests$")
+TOP_CALL = "rma_audit"
 
 
 def text_of(name):
@@ -24,13 +28,42 @@ def crates():
     return re.findall(r"^(\w+)(?: \w+)?:", text_of("crates.txt"), re.M)
 
 
+def described_crates():
+    return [it for it in crates() if not TEST_CRATES.match(it)]
+
+
 def crates_have_their_rows():
-    wanted = [it for it in crates() if not TEST_CRATES.match(it)]
-    for name in ("README.md", "docs/DESIGN.md"):
-        found = [it for it in re.findall(r"^\| `(rma_\w+)` \|", text_of(name), re.M) if it in wanted]
-        if found != wanted:
-            return f"{name} has the rows {' '.join(found)}, and the crates are {' '.join(wanted)}"
+    wanted, name = described_crates(), "docs/DESIGN.md"
+    found = [it for it in re.findall(r"^\| `(rma_\w+)` \|", text_of(name), re.M) if it in wanted]
+    if found != wanted:
+        return f"{name} has the rows {' '.join(found)}, and the crates are {' '.join(wanted)}"
     return None
+
+
+def claims():
+    """The sections of docs/CLAIMS.md that are of a crate: the crate, and what stands behind the title."""
+    for section in re.split(r"^## ", text_of("docs/CLAIMS.md"), flags=re.M)[1:]:
+        title, _, body = section.partition("\n")
+        crate = re.search(r"`(rma_\w+)", title)
+        if crate:
+            yield crate[1], body
+
+
+def crates_have_their_claims():
+    wanted, sections = described_crates(), list(claims())
+    there = [crate for crate, _ in sections]
+    found = [f"{it} has {there.count(it)} sections" for it in wanted if there.count(it) != 1]
+    found += [f"{it} is no crate" for it in there if it not in wanted]
+    found += [f"{it} does not begin with what is proved" for it, body in sections if not body.startswith("\n- **Proved:** ")]
+    in_order = [TOP_CALL] + [it for it in wanted if it != TOP_CALL]
+    if not found and there != in_order:
+        found = [f"the sections are of {' '.join(there)}, and have to be of {' '.join(in_order)}"]
+    return "; ".join(found) or None
+
+
+def readme_is_short():
+    size = len(text_of("README.md").encode())
+    return None if size < 7_000 else f"README.md has {size} bytes"
 
 
 def edits_of(crate):
@@ -44,10 +77,8 @@ def edits_named_in(section):
 
 def edits_are_named():
     named = {}
-    for section in re.split(r"^## ", text_of("docs/CLAIMS.md"), flags=re.M)[1:]:
-        title = re.search(r"`(rma_\w+)", section.partition("\n")[0])
-        if title:
-            named.setdefault(title[1], set()).update(edits_named_in(section))
+    for crate, section in claims():
+        named.setdefault(crate, set()).update(edits_named_in(section))
     found = []
     for crate in crates():
         here, there = named.get(crate, set()), edits_of(crate)
@@ -85,6 +116,8 @@ def links_lead_somewhere():
 
 CHECKS = (
     ("documents: crates have their rows", crates_have_their_rows),
+    ("documents: crates have their claims", crates_have_their_claims),
+    ("documents: README is short", readme_is_short),
     ("documents: edits are named", edits_are_named),
     ("documents: files are there", files_are_there),
     ("documents: links lead somewhere", links_lead_somewhere),
