@@ -1,0 +1,9 @@
+pub mod GatherLemmas
+pub mod OrderLemmas
+pub mod SortLemmas
+pub mod FirstLemmas
+pub mod RunLemmas
+pub mod StartLemmas
+pub mod UpdateLemmas
+pub mod StoreLemmas
+pub mod LockLemmas
