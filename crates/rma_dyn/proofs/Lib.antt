@@ -1,0 +1,13 @@
+pub mod OrderLemmas
+pub mod SortLemmas
+pub mod SearchLemmas
+pub mod CoverLemmas
+pub mod KnownLemmas
+pub mod AnswerLemmas
+pub mod MadeLemmas
+pub mod AskedLemmas
+pub mod GatherLemmas
+pub mod LiveLemmas
+pub mod OverlapLemmas
+pub mod FirstLemmas
+pub mod AllLemmas

@@ -1,0 +1,5 @@
+pub mod Reason
+pub mod Change
+pub mod Region
+pub mod Fault
+pub mod inside
