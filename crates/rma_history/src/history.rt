@@ -11,7 +11,7 @@ ghost use Rattle.rma_history.specs.inside.Overlaps.{IsHome, accesses_of};
 
 use crate::modelled::ModelledWindows;
 use crate::overlaps::Overlaps;
-use crate::retire::keep_others;
+use crate::retire::{is_any_passed, keep_others};
 use crate::search::{find_among, home_of};
 use rma_base::Memory;
 use rma_chain::Chain;
@@ -101,7 +101,8 @@ impl<'a> MemoryHistory<'a> {
     }
 
     /// Lets accesses go that are before all those which are still to come: of each rank the number of the first call is given that makes
-    /// one, if there is one. They are looked for only where there are many, twice as many as were left the last time.
+    /// one, if there is one. They are looked for only where there are many, twice as many as were left the last time, and
+    /// then among a few first: where none of these may go, all stay.
     ///
     /// # Errors
     ///
@@ -120,6 +121,10 @@ impl<'a> MemoryHistory<'a> {
             → (a : Access) → Contains self.old a → Contains self.new a ⊎ IsPassed links windows.now lists.now next.now a) }
     {
         if self.count < self.room {
+            return Ok(());
+        }
+        if !is_any_passed(alloc, self.kept.chains(), next, lists, windows, clocks)? {
+            self.room = self.count.saturating_mul(2);
             return Ok(());
         }
         let before = mem::replace(&mut self.kept, Overlaps::new(alloc));

@@ -17,6 +17,32 @@ use rma_rules::{Access, Spans};
 use rma_window::Windows;
 use std::alloc::Global;
 
+/// Of so many chains at most it is asked whether any of their accesses may go, before all are asked.
+const SAMPLES: usize = 8;
+
+/// Whether one of some chains, of those at even distances, has an access that is before all those which are still to come.
+pub(crate) fn is_any_passed<C: Clocks>(
+    alloc: Global,
+    chains: &[Chain<'_>],
+    next: &[Option<u32>],
+    lists: &Spans,
+    windows: &Windows,
+    clocks: &C,
+) -> Result<bool, Memory>
+    requires { (points : List ℕ) × (links : Links) × C.are_of clocks.now points links × ((a : Access) → Contains (accesses_of chains.now) a → AreKnown points windows.now lists.now next.now a) }
+{
+    let mut horizon = Horizon::new(alloc, next.len())?;
+    let mut index = 0;
+    'samples: while index < chains.len() {
+        let chain = chains[index].accesses();
+        if count_passed(chain, next, lists, windows, clocks, &mut horizon) > 0 {
+            return Ok(true);
+        }
+        index += chains.len() / SAMPLES + 1;
+    }
+    Ok(false)
+}
+
 /// Keeps of some chains the accesses that are not before all those which are still to come, and answers how many they are.
 pub(crate) fn keep_others<'a, C: Clocks>(
     alloc: Global,

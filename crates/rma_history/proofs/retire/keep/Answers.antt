@@ -1,4 +1,4 @@
-use Rattle.std.proofs.Common.{◌≡◌, ◌↔◌, ◌⊎◌, List, Contains, sym, subst}
+use Rattle.std.proofs.Common.{◌↔◌, ◌⊎◌, Contains, sym, subst}
 use Rattle.std.proofs.lemmas.Result.{on_ok_weaker}
 use Rattle.rma_history.specs.inside.Overlaps.{accesses_of}
 use Rattle.rma_history.proofs.KeptLemmas.{begun}

@@ -2,6 +2,11 @@ use Rattle.std.proofs.Common.{◌≡◌, [], Contains, sym, subst, ◌∙◌, ar
 use Rattle.rma_history.specs.inside.Overlaps.{accesses_of}
 use Rattle.rma_history.proofs.history.MemoryHistory.retire.Goals as goal
 
+pub is_any_passed-requires : goal.is_any_passed-requires
+is_any_passed-requires g c =
+    let some = c.requires in
+    (some.0, some.1, some.2, λ a there. some.3 a (subst (λ l. Contains l a) c.self.view_is (subst (λ l. Contains (accesses_of l) a) c.chains.ensures there)))
+
 pub keep_others-requires : goal.keep_others-requires
 keep_others-requires g c =
     let some = c.requires in

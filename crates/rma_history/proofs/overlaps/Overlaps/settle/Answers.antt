@@ -1,5 +1,4 @@
-use Rattle.std.proofs.Common.{◌≡◌, ◌<◌, ◌+◌, List, length, refl, sym, ap, subst, ◌∙◌, arith}
-use Rattle.rma_rules.specs.Access.{Access}
+use Rattle.std.proofs.Common.{◌≡◌, ◌<◌, length, refl, sym, ap, subst, ◌∙◌, arith}
 use Rattle.rma_history.specs.inside.Overlaps.{StandOnBytes}
 use Rattle.rma_history.proofs.OverlapLemmas.{none_past, settles}
 use Rattle.rma_history.proofs.overlaps.Overlaps.settle.Goals as goal
