@@ -13,7 +13,7 @@ use Rattle.rma_finding.specs.declared.finding.PairFinding.{PairFinding}
 use Rattle.rma_finding.specs.declared.finding.PairFinding.TheVariants.{Race, Exposed, Doubled}
 use Rattle.rma_report.specs.ReportJson.{other_value, site_value, run_value, pair_value, finding_value, report_value}
 use Rattle.rma_report.specs.declared.finding.Finding.{Finding}
-use Rattle.rma_report.specs.declared.finding.Finding.TheVariants.{Malformed, Mismatch, Impossible, Epoch, Pair}
+use Rattle.rma_report.specs.declared.finding.Finding.TheVariants.{Malformed, Mismatch, Impossible, Epoch, Pair, Strict}
 
 other_has_no_float : (other : Option (Rank × LineNo)) → has_float (other_value other) ≡ false
 other_has_no_float None = refl
@@ -42,6 +42,7 @@ finding_has_no_float (Mismatch fault) = rw (other_has_no_float fault.other) refl
 finding_has_no_float (Impossible rank line) = refl
 finding_has_no_float (Epoch rank line reason) = refl
 finding_has_no_float (Pair pair) = pair_has_no_float pair
+finding_has_no_float (Strict fault) = rw (other_has_no_float fault.other) refl
 
 findings_have_no_float : (found : List Finding) → items_have_float (items_of (map finding_value found)) ≡ false
 findings_have_no_float [] = refl

@@ -1,10 +1,15 @@
 -- Texts of a few parts.
-use Rattle.std.proofs.Common.{◌≡◌, ℕ, List, [], ◌++◌, length, min, take, codes, decimal, ap, ◌∙◌, append_assoc}
+use Rattle.std.proofs.Common.{◌≡◌, ◌<◌, ◌≤◌, ◌-◌, ℕ, List, [], ◌∷◌, ◌++◌, Option, Some, None, Bor, MatchOption, length, min, take, codes, decimal, ap, refl, sym, ◌∙◌, append_assoc}
+use Rattle.std.specs.Prelude.{HoldsAt, IfSome, get_or, option_copied, slice_get}
 use Rattle.std.specs.List.{flat_map}
+use Rattle.std.proofs.lemmas.Option.{slice_get_past, slice_get_read}
 use Rattle.std.proofs.lemmas.List.{append-nil, take_min}
 use Rattle.rma_rules.specs.Words.{rule_word}
 use Rattle.rma_finding.specs.declared.finding.FoundRace.{FoundRace}
-use Rattle.rma_report.specs.ReportText.{access_text, ranges_text, race_line}
+use Rattle.rma_cut.specs.declared.cuts.Cuts.{Cuts}
+use Rattle.rma_report.specs.declared.finding.Finding.{Finding}
+use Rattle.rma_report.specs.ReportText.{access_text, ranges_text, race_line, header_line, verdict_line}
+use Rattle.rma_report.specs.ExplainText.{chosen_text, cut_text, cuts_text, explain_text, later_number_text}
 
 -- two numbers in a text
 pub two_numbers : (p x q y r m n : List ℕ) → x ≡ m → y ≡ n → p ++ (x ++ (q ++ (y ++ (r ++ [])))) ≡ p ++ m ++ q ++ n ++ r
@@ -47,3 +52,33 @@ race_whole race word number e f =
 -- the texts of the first of a list
 pub first_texts : {X : Type 0} (f : X → List ℕ) (xs : List X) (n limit : ℕ) → n ≡ min limit (length xs) → flat_map f (take n xs) ≡ flat_map f (take limit xs)
 first_texts f xs n limit e = ap (λ k. flat_map f (take k xs)) e ∙ ap (flat_map f) (take_min limit xs)
+
+-- the first number of a cut and those behind it
+pub all_numbers : (before after ns : List ℕ) (n : ℕ) (rest : List ℕ) → ns ≡ n ∷ rest
+    → (before ++ decimal n) ++ (flat_map later_number_text rest ++ after) ≡ before ++ cut_text ns ++ after
+all_numbers before after ns n rest e = rw e (simp append_assoc)
+
+-- two lines, each of a word, a text and an end
+two_lines : (p a q b t : List ℕ) → (p ++ a ++ t) ++ (q ++ b ++ t) ≡ p ++ a ++ t ++ q ++ b ++ t
+two_lines p a q b t = simp append_assoc
+
+-- the lines of two cuts
+pub two_cuts : (cuts : Cuts) (first second : List ℕ) → first ≡ cuts.first → second ≡ cuts.second
+    → (codes "cut first " ++ cut_text first ++ codes "\n") ++ (codes "cut second " ++ cut_text second ++ codes "\n") ≡ cuts_text (Some cuts)
+two_cuts cuts first second e f = rw (e, f) (two_lines (codes "cut first ") (cut_text cuts.first) (codes "cut second ") (cut_text cuts.second) (codes "\n"))
+
+-- what `get` finds in a list
+pub found_at : {X : Type 0} (xs : List X) (i : ℕ) (r : Option (Bor X)) → IfSome r (λ x. x.now ≡ get_or xs i x.now)
+    → MatchOption r (length xs ≤ i) (λ x. (i < length xs) × HoldsAt (λ y. x.now ≡ y) xs i) → option_copied r ≡ slice_get xs i
+found_at xs i None is within = sym (slice_get_past xs i within)
+found_at xs i (Some x) is within = sym (slice_get_read xs (length xs) i x.now refl within.0 is)
+
+-- four texts, one after the other
+four_texts : (h f t v : List ℕ) → h ++ (f ++ (t ++ v)) ≡ h ++ f ++ t ++ v
+four_texts h f t v = simp append_assoc
+
+-- the text that explains a finding in its four parts
+pub explained_whole : (ranks lines : ℕ) (found : List Finding) (number : ℕ) (cuts : Option Cuts) (own : List Finding) (chosen : Option Finding) → own ≡ found → chosen ≡ slice_get own (number - 1)
+    → header_line ranks lines ++ (chosen_text chosen ++ (cuts_text cuts ++ verdict_line (length own))) ≡ explain_text ranks lines found number cuts
+explained_whole ranks lines found number cuts own chosen e f =
+    rw (f, e) (four_texts (header_line ranks lines) (chosen_text (slice_get found (number - 1))) (cuts_text cuts) (verdict_line (length found)))

@@ -18,7 +18,9 @@ use Rattle.rma_finding.specs.declared.finding.DoubledPost.{DoubledPost}
 use Rattle.rma_finding.specs.declared.finding.PairFinding.{PairFinding}
 use Rattle.rma_finding.specs.declared.finding.PairFinding.TheVariants.{Race, Exposed, Doubled}
 use Rattle.rma_report.specs.declared.finding.Finding.{Finding}
-use Rattle.rma_report.specs.declared.finding.Finding.TheVariants.{Malformed, Mismatch, Impossible, Epoch, Pair}
+use Rattle.rma_report.specs.declared.finding.Finding.TheVariants.{Malformed, Mismatch, Impossible, Epoch, Pair, Strict}
+use Rattle.rma_report.specs.declared.strict.StrictFault.{StrictFault}
+use Rattle.rma_report.specs.Strict.{strict_word}
 
 -- a number that counts
 abbrev pub count : ℕ → Data
@@ -93,6 +95,17 @@ pair_value (Race race) = race_value race
 pair_value (Exposed found) = exposed_value found
 pair_value (Doubled found) = doubled_value found
 
+-- a fault that a strict audit finds
+abbrev pub strict_value : StrictFault → Data
+strict_value fault =
+    object (
+    member (codes "kind") (string (codes "strict"))
+    (member (codes "line") (count fault.line.0)
+    (member (codes "other") (other_value fault.other)
+    (member (codes "rank") (count fault.rank.0)
+    (member (codes "reason") (string (strict_word fault.reason)) no_members))))
+    )
+
 -- a finding
 abbrev pub finding_value : Finding → Data
 finding_value (Malformed rank line reason) =
@@ -124,6 +137,7 @@ finding_value (Epoch rank line reason) =
     (member (codes "reason") (string (epoch_word reason)) no_members)))
     )
 finding_value (Pair pair) = pair_value pair
+finding_value (Strict fault) = strict_value fault
 
 -- the verdict, by the number of findings
 abbrev pub verdict_word : ℕ → List ℕ

@@ -16,7 +16,9 @@ use Rattle.rma_finding.specs.declared.finding.DoubledPost.{DoubledPost}
 use Rattle.rma_finding.specs.declared.finding.PairFinding.{PairFinding}
 use Rattle.rma_finding.specs.declared.finding.PairFinding.TheVariants.{Race, Exposed, Doubled}
 use Rattle.rma_report.specs.declared.finding.Finding.{Finding}
-use Rattle.rma_report.specs.declared.finding.Finding.TheVariants.{Malformed, Mismatch, Impossible, Epoch, Pair}
+use Rattle.rma_report.specs.declared.finding.Finding.TheVariants.{Malformed, Mismatch, Impossible, Epoch, Pair, Strict}
+use Rattle.rma_report.specs.declared.strict.StrictFault.{StrictFault}
+use Rattle.rma_report.specs.Strict.{strict_word}
 
 -- where a call stands
 abbrev pub place_text : Rank → LineNo → List ℕ
@@ -78,6 +80,10 @@ pair_line (Race race) = race_line race
 pair_line (Exposed found) = exposed_line found
 pair_line (Doubled found) = doubled_line found
 
+-- the line of a fault that a strict audit finds
+abbrev pub strict_line : StrictFault → List ℕ
+strict_line fault = codes "strict " ++ strict_word fault.reason ++ codes " " ++ place_text fault.rank fault.line ++ other_text fault.other ++ codes "\n"
+
 -- the line of a finding
 abbrev pub finding_line : Finding → List ℕ
 finding_line (Malformed rank line reason) = codes "malformed " ++ place_text rank line ++ codes " reason " ++ form_word reason ++ codes "\n"
@@ -85,6 +91,7 @@ finding_line (Mismatch fault) = codes "mismatch " ++ match_word fault.reason ++ 
 finding_line (Impossible rank line) = codes "impossible " ++ place_text rank line ++ codes "\n"
 finding_line (Epoch rank line reason) = codes "epoch " ++ epoch_word reason ++ codes " " ++ place_text rank line ++ codes "\n"
 finding_line (Pair pair) = pair_line pair
+finding_line (Strict fault) = strict_line fault
 
 -- the first line, on `ranks` logs of `lines` lines together
 abbrev pub header_line : ℕ → ℕ → List ℕ

@@ -1,4 +1,5 @@
 //! What an audit finds.
+use crate::strict::StrictFault;
 use rma_base::{EpochReason, FormReason, LineNo, Rank, Sequence};
 use rma_call::MatchFault;
 use rma_finding::PairFinding;
@@ -36,6 +37,8 @@ pub enum Finding {
     },
     /// Two accesses or two epochs that MPI does not allow at once.
     Pair(PairFinding),
+    /// An assertion that does not hold, or memory of a dynamic window that is not attached where it has to be.
+    Strict(StrictFault),
 }
 
 /// Findings in the order of the report.

@@ -2,10 +2,11 @@
 ghost use Rattle.std.specs.Prelude.{◌≡◌, ◌++◌, false, codes, map, take, string_bytes, IfOk};
 ghost use Rattle.serde_json.specs.View.{view};
 ghost use Rattle.serde_json.specs.Written.{compact_text, has_float};
-ghost use Rattle.rma_report.specs.ReportJson.{finding_value, other_value, report_json, report_object, report_value, verdict_word};
+ghost use Rattle.rma_report.specs.ReportJson.{finding_value, other_value, report_json, report_object, report_value, strict_value, verdict_word};
 
 use crate::finding::{Finding, Findings};
 use crate::pair_json::pair_value;
+use crate::strict::StrictFault;
 use rma_base::{EpochReason, LineNo, Memory, Rank};
 use rma_call::MatchFault;
 use serde_json::{Value, json};
@@ -127,6 +128,7 @@ fn finding_value(alloc: Global, finding: &Finding) -> Result<Value, Memory>
         }
         Finding::Epoch { rank, line, reason } => epoch_value(alloc, *rank, *line, *reason),
         Finding::Pair(pair) => pair_value(alloc, pair),
+        Finding::Strict(fault) => strict_value(alloc, fault),
     }
 }
 
@@ -136,6 +138,20 @@ fn mismatch_value(alloc: Global, fault: &MatchFault) -> Result<Value, Memory>
 {
     let value = json!(in alloc; {
         "kind": "mismatch",
+        "line": fault.line.0,
+        "other": other_value(alloc, fault.other)?,
+        "rank": fault.rank.0,
+        "reason": fault.reason.word(),
+    })?;
+    Ok(value)
+}
+
+/// The value of a fault that a strict audit finds.
+fn strict_value(alloc: Global, fault: &StrictFault) -> Result<Value, Memory>
+    ensures { IfOk result (λ value. view value ≡ strict_value fault.now) }
+{
+    let value = json!(in alloc; {
+        "kind": "strict",
         "line": fault.line.0,
         "other": other_value(alloc, fault.other)?,
         "rank": fault.rank.0,
@@ -162,7 +178,7 @@ fn epoch_value(
     Ok(value)
 }
 
-/// The value of the call that another one differs from, where there is one.
+/// The value of the other call, where there is one.
 fn other_value(alloc: Global, other: Option<(Rank, LineNo)>) -> Result<Value, Memory>
     ensures { IfOk result (λ value. view value ≡ other_value other) }
 {

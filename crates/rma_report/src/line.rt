@@ -2,12 +2,13 @@
 ghost use Rattle.std.specs.Prelude.{◌++◌, codes};
 ghost use Rattle.std.specs.List.{flat_map};
 ghost use Rattle.rma_report.specs.inside.Buffering.{IsBuffered};
-ghost use Rattle.rma_report.specs.ReportText.{header_line, other_text, finding_line, omitted_line, verdict_line};
+ghost use Rattle.rma_report.specs.ReportText.{header_line, other_text, finding_line, omitted_line, strict_line, verdict_line};
 
 use crate::buffer::{TextBuffer, write, write_all};
 use crate::finding::Finding;
 use crate::pair::write_pair;
 use crate::report::WriteFault;
+use crate::strict::StrictFault;
 use itoa::Buffer;
 use rma_base::{EpochReason, FormReason, LineNo, Rank};
 use rma_call::MatchFault;
@@ -59,7 +60,7 @@ pub fn write_findings<S: Sink>(
 }
 
 /// Writes the line of a finding.
-fn write_finding<S: Sink>(
+pub fn write_finding<S: Sink>(
     out: &mut S,
     buffer: &mut TextBuffer,
     finding: &Finding,
@@ -76,6 +77,7 @@ fn write_finding<S: Sink>(
         Finding::Impossible { rank, line } => write_impossible(out, buffer, *rank, *line),
         Finding::Epoch { rank, line, reason } => write_epoch(out, buffer, *rank, *line, *reason),
         Finding::Pair(pair) => write_pair(out, buffer, pair),
+        Finding::Strict(fault) => write_strict(out, buffer, fault),
     }
 }
 
@@ -135,7 +137,34 @@ fn write_mismatch<S: Sink>(
     write_other(out, buffer, fault.other)
 }
 
-/// Writes the end of such a line: the call that this one differs from, where there is one.
+/// Writes the line of a fault that a strict audit finds.
+fn write_strict<S: Sink>(
+    out: &mut S,
+    buffer: &mut TextBuffer,
+    fault: &StrictFault,
+) -> Result<(), WriteFault>
+    ensures { IsBuffered (S.output out.old) buffer.old.bytes
+        (strict_line fault.now)
+        result buffer.new.bytes (S.output out.new) }
+{
+    let mut rank_digits = Buffer::new();
+    let mut line_digits = Buffer::new();
+    write_all(
+        out,
+        buffer,
+        &[
+            "strict ",
+            fault.reason.word(),
+            " rank ",
+            rank_digits.format(fault.rank.0),
+            " line ",
+            line_digits.format(fault.line.0),
+        ],
+    )?;
+    write_other(out, buffer, fault.other)
+}
+
+/// Writes the end of such a line: the other call, where there is one.
 fn write_other<S: Sink>(
     out: &mut S,
     buffer: &mut TextBuffer,

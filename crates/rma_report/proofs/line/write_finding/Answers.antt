@@ -14,3 +14,6 @@ returns-in-Epoch g c = rw c.in-Epoch.is c.write_epoch.ensures
 
 pub returns-in-Pair : goal.returns-in-Pair
 returns-in-Pair g c = rw c.in-Pair.is c.write_pair.ensures
+
+pub returns-in-Strict : goal.returns-in-Strict
+returns-in-Strict g c = rw c.in-Strict.is c.write_strict.ensures
