@@ -2,7 +2,10 @@ pub mod BookLemmas
 pub mod FaultLemmas
 pub mod FindingLemmas
 pub mod ListedLemmas
-pub mod MemoryLemmas
 pub mod OutcomeLemmas
 pub mod PairLemmas
 pub mod RunLemmas
+pub mod StrictLemmas
+pub mod StudyLemmas
+pub mod ExplainLemmas
+pub mod LawLemmas

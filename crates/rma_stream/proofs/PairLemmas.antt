@@ -1,6 +1,6 @@
 -- What is found of pairs among the sound calls of a run is one list, whichever lists stand beside its accesses.
 use Rattle.std.proofs.Common.{◌≡◌, ℕ, List, sym, ap, subst, ◌∙◌, inl, inr}
-use Rattle.std.specs.Prelude.{Contains}
+use Rattle.std.specs.Prelude.{Contains, Some, slice_get}
 use Rattle.rma_base.specs.declared.point.Point.{Point}
 use Rattle.rma_base.specs.declared.rank.Rank.{Rank}
 use Rattle.rma_call.specs.Call.{RankCalls}
@@ -32,14 +32,14 @@ use Rattle.rma_concurrent.proofs.ListLemmas.{all_once}
 use Rattle.rma_concurrent.proofs.OrderLemmas.{lock_is_order, post_is_order}
 use Rattle.rma_report.specs.declared.finding.Finding.{Finding}
 use Rattle.rma_stream.specs.Findings.{ArePairs, pair_findings}
-use Rattle.rma_stream.proofs.MemoryLemmas.{memory_in_order}
+use Rattle.rma_explain.proofs.MemoryLemmas.{memory_in_order}
 
 -- ---- the calls of one rank
 
 -- lists have the same calls of a rank
-record HaveSame (lists others : Spans) (rank : Rank) : Type 0 where
-  publishing : (window : WindowId) → publishing_of lists rank window ≡ publishing_of others rank window
-  visible : (window : WindowId) → visible_of lists rank window ≡ visible_of others rank window
+pub record HaveSame (lists others : Spans) (rank : Rank) : Type 0 where
+  pub publishing : (window : WindowId) → publishing_of lists rank window ≡ publishing_of others rank window
+  pub visible : (window : WindowId) → visible_of lists rank window ≡ visible_of others rank window
 
 module _ (links : Links) (lists others : Spans) (rank : Rank) (window : WindowId) (done : Point) (same : HaveSame lists others rank) where
   made_visible : (call : ℕ) → IsMadeVisible links lists rank window done call → IsMadeVisible links others rank window done call
@@ -85,17 +85,20 @@ module _ (links : Links) (windows : List Window) (lists others : Spans) (a b : A
   }
 
 module _ (ranks : List RankCalls) (in_order : AreInOrder ranks) (lists others : Spans) (are : AreRunCalls ranks lists) (also : AreRunCalls ranks others) where
+  -- of a rank of the run
+  pub same_of_rank : (rank : Rank) (own : RankCalls) → slice_get ranks rank.0 ≡ Some own → HaveSame lists others rank
+  same_of_rank rank own there =
+      let is : own.rank ≡ rank = ap (λ (r : ℕ). let it : Rank = record { 0 = r } in it) (in_order rank.0 own there) in
+      let first = are rank.0 own there in
+      let second = also rank.0 own there in
+      subst (HaveSame lists others) is (record { publishing = λ window. first.publishing window ∙ sym (second.publishing window); visible = λ window. first.visible window ∙ sym (second.visible window) })
+
   -- of a rank whose memory an access touches
   have_same : (a : Access) → Contains (accesses ranks) a → HaveSame lists others a.memory
-  have_same a has =
-      let (own, there) = memory_in_order ranks in_order a has in
-      let rank : own.rank ≡ a.memory = ap (λ (r : ℕ). let it : Rank = record { 0 = r } in it) (in_order a.memory.0 own there) in
-      let first = are a.memory.0 own there in
-      let second = also a.memory.0 own there in
-      subst (HaveSame lists others) rank (record { publishing = λ window. first.publishing window ∙ sym (second.publishing window); visible = λ window. first.visible window ∙ sym (second.visible window) })
+  have_same a has = let (own, there) = memory_in_order ranks in_order a has in same_of_rank a.memory own there
 
 module _ (ranks : List RankCalls) (in_order : AreInOrder ranks) (links : Links) (windows : List Window) (lists others : Spans) (are : AreRunCalls ranks lists) (also : AreRunCalls ranks others) where
-  found_in : (found : FoundRace) → IsFound links windows lists (accesses ranks) found → IsFound links windows others (accesses ranks) found
+  pub found_in : (found : FoundRace) → IsFound links windows lists (accesses ranks) found → IsFound links windows others (accesses ranks) found
   found_in found is = record {
     a = is.a;
     b = is.b;

@@ -2,13 +2,19 @@
 ghost use Rattle.std.specs.Prelude.{◌≡◌, ℕ, ◌<◌, ◌≤◌, List, [], length, replicate, slice_index_or, IfOk, IsErr, OnOk, OnErr};
 ghost use Rattle.rma_book.specs.inside.RankState.{RankState};
 ghost use Rattle.rma_stream.specs.inside.Feeding.{HaveBooks, HaveFewLines, HasRoom, RanOut, with_piece};
+ghost use Rattle.rma_stream.specs.inside.Ended.{HasEnded};
+ghost use Rattle.rma_stream.specs.inside.Verdict.{IsQuestion};
+ghost use Rattle.rma_stream.specs.Explained.{AreExplained};
 ghost use Rattle.rma_stream.specs.Findings.{AreFindings, count_of_lines};
+ghost use Rattle.rma_stream.specs.Strict.{AreStrictFindings};
 
 use crate::outcome::Outcomes;
+use crate::question::Question;
 use crate::run::Run;
 use rma_base::limits::RANKS;
 use rma_base::{Memory, Rank};
 use rma_book::{RankBook, SharedSites};
+use rma_cut::Cuts;
 use rma_report::Findings;
 use std::alloc::Global;
 use std::marker::Model;
@@ -98,15 +104,73 @@ impl Audit {
         ensures findings { IfOk result (λ findings. (texts : List (List ℕ)) → HaveBooks (length texts) self texts
             → (findings.ranks ≡ length texts) × (findings.lines ≡ count_of_lines texts) × AreFindings texts findings.list) }
     {
+        Ok(self.ended(Question::Audit)?.findings)
+    }
+
+    /// All logs have ended: the findings of a strict audit, which asks assertions and the memory of dynamic windows too where nothing else
+    /// is found, and how many lines there are.
+    ///
+    /// # Errors
+    ///
+    /// `Memory` where memory ran out, in this call or in an earlier one.
+    pub fn finish_strict(self) -> Result<Findings, Memory>
+        requires { length self ≤ RANKS }
+        ensures stays_out { RanOut self → IsErr result }
+        ensures findings { IfOk result (λ findings. (texts : List (List ℕ)) → HaveBooks (length texts) self texts
+            → (findings.ranks ≡ length texts) × (findings.lines ≡ count_of_lines texts) × AreStrictFindings texts findings.list) }
+    {
+        Ok(self.ended(Question::Strict)?.findings)
+    }
+
+    /// All logs have ended: the findings of the first failing pass, the least cuts that show the one of this number, counted from 1, where
+    /// it is a race, and how many lines there are.
+    ///
+    /// # Errors
+    ///
+    /// `Memory` where memory ran out, in this call or in an earlier one.
+    pub fn finish_explained(self, number: u32) -> Result<Explained, Memory>
+        requires few { length self ≤ RANKS }
+        requires number { 1 ≤ number }
+        ensures stays_out { RanOut self → IsErr result }
+        ensures findings { IfOk result (λ explained. (texts : List (List ℕ)) → HaveBooks (length texts) self texts
+            → (explained.findings.ranks ≡ length texts) × (explained.findings.lines ≡ count_of_lines texts) × AreExplained texts number explained.findings.list explained.cuts) }
+    {
+        self.ended(Question::Explain { number })
+    }
+
+    /// All logs have ended: what is found, as it is asked.
+    fn ended(self, question: Question) -> Result<Explained, Memory>
+        requires few { length self ≤ RANKS }
+        requires question { IsQuestion question }
+        ensures stays_out { RanOut self → IsErr result }
+        ensures findings { IfOk result (λ ended. (texts : List (List ℕ)) → HaveBooks (length texts) self texts → HasEnded question texts ended) }
+    {
         if self.ran_out {
             return Err(Memory);
         }
         let ranks = self.books.len() as u32;
         let lines = count_lines(&self.books);
         let outcomes = Outcomes::of(self.alloc, self.books)?;
-        let list = Run::of(self.alloc, outcomes)?.findings(self.alloc)?;
-        Ok(Findings { ranks, lines, list })
+        let verdict = Run::of(self.alloc, outcomes)?.verdict(self.alloc, question)?;
+        let findings = Findings {
+            ranks,
+            lines,
+            list: verdict.found,
+        };
+        Ok(Explained {
+            findings,
+            cuts: verdict.cuts,
+        })
     }
+}
+
+/// What an audit finds, with the cuts that show one of the findings.
+#[derive(Drop)]
+pub struct Explained {
+    /// The findings.
+    pub findings: Findings,
+    /// The cuts, where that finding is a race.
+    pub cuts: Option<Cuts>,
 }
 
 /// How many lines the logs have together.

@@ -1,19 +1,13 @@
-//! A run that is audited, and what is found in it.
+//! A run that is audited, up to the matches of its calls.
 ghost use Rattle.std.specs.Prelude.{◌≡◌, [], List, IfOk};
 ghost use Rattle.rma_log.specs.declared.fault.BookEnd.{BookEnd};
 ghost use Rattle.rma_accesses.specs.Run.{AreGood};
-ghost use Rattle.rma_match.specs.Matches.{AreMatches};
 ghost use Rattle.rma_stream.specs.inside.Outcome.{AreOutcomes};
-ghost use Rattle.rma_stream.specs.inside.Run.{IsMatched, IsRunOf, IsSound};
-ghost use Rattle.rma_stream.specs.Findings.{AreFaults, AreFindingsOf, AreImpossible, AreRunFindings, OrElse};
+ghost use Rattle.rma_stream.specs.inside.Run.{IsMatched, IsRunOf};
 
-use crate::faults::fault_findings;
-use crate::matching::mismatches;
-use crate::order::impossible_findings;
 use crate::outcome::Outcomes;
 use rma_base::Memory;
 use rma_call::RankCalls;
-use rma_happens_before::{RunOrder, order_of};
 use rma_match::Matches;
 use rma_report::FindingList;
 use std::alloc::Global;
@@ -53,64 +47,5 @@ impl Run {
         }
         let matches = Matches::of_calls(alloc, &calls)?;
         Ok(Run::Matched(MatchedRun { calls, matches }))
-    }
-
-    /// The findings of the first pass that fails, where the last two are one, and none where each succeeds.
-    ///
-    /// # Errors
-    ///
-    /// `Memory` where there is none left.
-    pub(crate) fn findings(self, alloc: Global) -> Result<FindingList, Memory>
-        requires { IsMatched self }
-        ensures { IfOk result (λ found. (ends : List BookEnd) → IsRunOf ends self → AreFindingsOf ends found) }
-    {
-        match self {
-            Run::Judged { bad } => Ok(bad),
-            Run::Matched(run) => run.findings(alloc),
-        }
-    }
-}
-
-impl MatchedRun {
-    /// The same of the run of logs without a bad line.
-    fn findings(&self, alloc: Global) -> Result<FindingList, Memory>
-        requires { IsSound self.now }
-        ensures { IfOk result (AreRunFindings self.now.calls.items) }
-    {
-        matched_findings(alloc, &self.calls, &self.matches)
-    }
-}
-
-/// What is found in a run of good logs with these matches.
-fn matched_findings(
-    alloc: Global,
-    calls: &[RankCalls],
-    matches: &Matches,
-) -> Result<FindingList, Memory>
-    requires good { AreGood calls.now }
-    requires matches { AreMatches calls.now matches.now }
-    ensures { IfOk result (AreRunFindings calls.now) }
-{
-    let unmatched = mismatches(alloc, calls, matches)?;
-    if unmatched.is_empty() {
-        ordered_findings(alloc, calls, matches)
-    } else {
-        Ok(unmatched)
-    }
-}
-
-/// What is found in one whose calls match.
-fn ordered_findings(
-    alloc: Global,
-    calls: &[RankCalls],
-    matches: &Matches,
-) -> Result<FindingList, Memory>
-    requires good { AreGood calls.now }
-    requires matches { AreMatches calls.now matches.now }
-    ensures { IfOk result (OrElse (AreImpossible calls.now) (AreFaults calls.now)) }
-{
-    match order_of(alloc, calls, matches)? {
-        RunOrder::Impossible(found) => impossible_findings(alloc, found.as_slice()),
-        RunOrder::Possible(order) => fault_findings(alloc, calls, matches, &order),
     }
 }

@@ -14,7 +14,7 @@ use Rattle.rma_window.specs.Windows.{Window}
 use Rattle.rma_stream.specs.Findings.{pair_findings}
 use Rattle.rma_stream.proofs.FaultLemmas.{behind, of_run}
 use Rattle.rma_stream.proofs.ListedLemmas.{may_be_asked}
-use Rattle.rma_stream.proofs.faults.add_among.Goals as goal
+use Rattle.rma_stream.proofs.faults.add_pairs.Goals as goal
 
 pub races_of-requires : goal.races_of-requires
 races_of-requires c =
