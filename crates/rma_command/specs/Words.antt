@@ -13,6 +13,16 @@ pub record Audit : Type 0 where
   pub json : Bool
   pub names : List (List ℕ)
 
+-- a strict audit: of which logs, and how many findings are shown where the words say how many
+pub record Strict : Type 0 where
+  pub limit : Option ℕ
+  pub names : List (List ℕ)
+
+-- an explanation: of which finding, by its number from 1, and of which logs
+pub record Explain : Type 0 where
+  pub number : ℕ
+  pub names : List (List ℕ)
+
 -- whether a byte is a decimal digit
 abbrev pub is_digit : ℕ → Bool
 is_digit byte = nat_lt (digit_value byte) 10
@@ -47,7 +57,7 @@ abbrev pub IsSome : List ℕ → Type 0
 IsSome [] = ⊥
 IsSome (first ∷ rest) = Unit {0}
 
--- the names of an audit: 1 to as many as there may be logs, behind `--` or not
+-- the names of the logs: 1 to as many as there may be logs, behind `--` or not
 abbrev pub AreNames : List (List ℕ) → List (List ℕ) → Type 0
 AreNames words names =
     (1 ≤ length names) × (length names ≤ rank_limit) × (((words ≡ names) × All IsName names) ⊎ ((words ≡ codes "--" ∷ names) × All IsSome names))
@@ -59,6 +69,23 @@ pub record IsAudit (words : List (List ℕ)) (audit : Audit) : Type 0 where
   pub words_are : words ≡ codes "audit" ∷ options ++ rest
   pub options_are : AreOptions options audit.limit audit.json
   pub names_are : AreNames rest audit.names
+
+-- the words ask for this strict audit: the word `strict`, a limit or none, and names
+pub record IsStrict (words : List (List ℕ)) (strict : Strict) : Type 0 where
+  pub limits : List (List ℕ)
+  pub rest : List (List ℕ)
+  pub words_are : words ≡ codes "strict" ∷ limits ++ rest
+  pub limit_is : AreLimit limits strict.limit
+  pub names_are : AreNames rest strict.names
+
+-- the words ask for this explanation: the word `explain`, the number of a finding, which is at least 1, and names
+pub record IsExplain (words : List (List ℕ)) (explain : Explain) : Type 0 where
+  pub word : List ℕ
+  pub rest : List (List ℕ)
+  pub words_are : words ≡ codes "explain" ∷ word ∷ rest
+  pub number_is : number_of word ≡ Some explain.number
+  pub from_one : 1 ≤ explain.number
+  pub names_are : AreNames rest explain.names
 
 -- the words ask for this trial: the word `trial`, and how many ranks, how many rounds and which seed
 pub record IsTrial (words : List (List ℕ)) (trial : Trial) : Type 0 where
@@ -74,16 +101,22 @@ pub record IsTrial (words : List (List ℕ)) (trial : Trial) : Type 0 where
 -- a command
 pub data Command : Type 0 where
   Audits : Audit → Command
+  AuditsStrictly : Strict → Command
+  Explains : Explain → Command
   Tries : Trial → Command
 
 -- the names of the logs that a command is about: a trial makes its own
 abbrev pub names_of : Command → List (List ℕ)
 names_of (Audits audit) = audit.names
+names_of (AuditsStrictly strict) = strict.names
+names_of (Explains explain) = explain.names
 names_of (Tries trial) = []
 
 -- the words ask for this command
 abbrev pub AskFor : List (List ℕ) → Command → Type 0
 AskFor words (Audits audit) = IsAudit words audit
+AskFor words (AuditsStrictly strict) = IsStrict words strict
+AskFor words (Explains explain) = IsExplain words explain
 AskFor words (Tries trial) = IsTrial words trial
 
 -- the words are no command

@@ -1,6 +1,7 @@
 //! The numbers among the words.
 ghost use Rattle.std.specs.Prelude.{◌≡◌, ◌==◌, slice_index};
 ghost use Rattle.rma_command.specs.Words.{number_of};
+ghost use Rattle.rma_command.specs.inside.Words.{ordinal};
 
 /// The most digits of a number.
 const DIGITS: usize = 10;
@@ -13,6 +14,16 @@ pub(crate) fn number_of(word: &str) -> Option<u32>
         return None;
     }
     word.parse::<u32>().ok()
+}
+
+/// The number of 1 to 10 decimal digits, where it is at least 1.
+pub(crate) fn ordinal_of(word: &str) -> Option<u32>
+    ensures { result ≡ ordinal (number_of word.now) }
+{
+    match number_of(word) {
+        Some(number) if number >= 1 => Some(number),
+        _ => None,
+    }
 }
 
 /// Whether a plus stands first.

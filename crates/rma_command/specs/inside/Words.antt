@@ -5,7 +5,7 @@ use Rattle.std.specs.Option.{option_and_then}
 use Rattle.std.specs.Cmp.Lexicographic.{pointwise}
 use Rattle.rma_base.specs.Limits.{rank_limit}
 use Rattle.rma_gen.specs.declared.trial.Trial.{Trial}
-use Rattle.rma_command.specs.Words.{Audit, Command, Audits, Tries, number_of}
+use Rattle.rma_command.specs.Words.{Audit, Strict, Explain, Command, Audits, AuditsStrictly, Explains, Tries, number_of}
 
 -- whether a word is this one
 abbrev pub is : List ℕ → List ℕ → Bool
@@ -58,6 +58,20 @@ after_json None words = option_and_then (λ found. with_names found.0 words.0 fo
 abbrev pub audit_behind : List (List ℕ) → Option Audit
 audit_behind words = option_and_then (λ found. after_json found.0 (json_from found.1)) (limit_from words)
 
+-- the strict audit behind the verb
+abbrev pub strict_behind : List (List ℕ) → Option Strict
+strict_behind words = option_and_then (λ found. option_map (λ names. record { limit = found.0; names = names }) (names_from found.1)) (limit_from words)
+
+-- a number that is counted from 1
+abbrev pub ordinal : Option ℕ → Option ℕ
+ordinal None = None
+ordinal (Some number) = if nat_le 1 number then Some number else None
+
+-- the explanation behind the verb
+abbrev pub explain_behind : List (List ℕ) → Option Explain
+explain_behind [] = None
+explain_behind (word ∷ rest) = option_and_then (λ number. option_map (λ names. record { number = number; names = names }) (names_from rest)) (ordinal (number_of word))
+
 -- whether a trial may ask for this
 abbrev pub can_run : Trial → Bool
 can_run trial = nat_le 2 trial.ranks && nat_le trial.ranks 64 && nat_le 1 trial.rounds && nat_le (trial.ranks * trial.rounds) 1000000
@@ -78,8 +92,16 @@ trial_behind (ranks ∷ rounds ∷ []) = None
 trial_behind (ranks ∷ rounds ∷ seed ∷ []) = trial_of (number_of ranks) (number_of rounds) (number_of seed)
 trial_behind (ranks ∷ rounds ∷ seed ∷ word ∷ rest) = None
 
+-- the command of a verb and the words behind it
+abbrev pub command_behind : List ℕ → List (List ℕ) → Option Command
+command_behind verb words =
+    if is verb (codes "audit") then option_map Audits (audit_behind words)
+    else if is verb (codes "strict") then option_map AuditsStrictly (strict_behind words)
+    else if is verb (codes "explain") then option_map Explains (explain_behind words)
+    else if is verb (codes "trial") then option_map Tries (trial_behind words)
+    else None
+
 -- the command of all words
 abbrev pub command_of : List (List ℕ) → Option Command
 command_of [] = None
-command_of (verb ∷ words) =
-    if is verb (codes "audit") then option_map Audits (audit_behind words) else if is verb (codes "trial") then option_map Tries (trial_behind words) else None
+command_of (verb ∷ words) = command_behind verb words

@@ -1,7 +1,7 @@
 use Rattle.std.proofs.Common.{◌≡◌, true, map, take, string_bytes}
 use Rattle.std.specs.List.{list_all}
 use Rattle.rma_command.specs.inside.Words.{is_some}
-use Rattle.rma_command.proofs.command.are_some.Given as goal
+use Rattle.rma_command.proofs.names.are_some.Given as goal
 
 abbrev pub invariant-loop-word : goal.invariant-loop-word
 invariant-loop-word l = list_all is_some (map string_bytes (take l.word-index l.words)) ≡ true
