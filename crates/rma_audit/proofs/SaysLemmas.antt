@@ -1,89 +1,101 @@
 -- What a run says once the logs are read.
 use Rattle.std.specs.Prelude.{◌==◌}
 use Rattle.std.proofs.lemmas.Bool.{eqb-true, false≢true}
-use Rattle.std.proofs.Common.{◌≡◌, ℕ, true, false, List, [], ◌∷◌, ◌++◌, length, refl, sym, ap, ◌∙◌, subst, inl, inr, arith}
-use Rattle.rma_io.specs.Known.{StillKnown}
-use Rattle.rma_io.specs.Sink.{AppendsPrefixOf}
-use Rattle.rma_report.specs.declared.finding.Finding.{Finding}
-use Rattle.rma_report.specs.declared.finding.Findings.{Findings}
-use Rattle.rma_stream.specs.Findings.{AreFindings}
-use Rattle.rma_audit.specs.Answers.{Run, Judges, Says, WritesReport, report, report_of}
-use Rattle.rma_audit.specs.inside.Runs.{HasJudged, HasTried, HasWritten}
-use Rattle.rma_report.specs.ReportText.{report_text}
+use Rattle.std.proofs.Common.{◌≡◌, ℕ, true, false, List, [], ◌∷◌, length, Option, refl, sym, ap, ◌∙◌, subst, inl, inr, arith}
+use Rattle.rma_command.specs.Words.{Audit, Strict, Explain, Command, Audits, AuditsStrictly, Explains, Tries, AskFor, IsAudit, IsStrict, IsExplain, IsTrial, names_of}
+use Rattle.rma_cut.specs.declared.cuts.Cuts.{Cuts}
 use Rattle.rma_gen.specs.Trial.{trial_logs}
 use Rattle.rma_gen.specs.declared.trial.Trial.{Trial}
-use Rattle.rma_command.specs.Words.{Audit, Audits, Tries, IsAudit, IsTrial}
-use Rattle.rma_audit.proofs.RunLemmas.{opens_all}
+use Rattle.rma_report.specs.ExplainText.{explain_text}
+use Rattle.rma_report.specs.ReportText.{report_text}
+use Rattle.rma_report.specs.declared.finding.Finding.{Finding}
+use Rattle.rma_report.specs.declared.finding.Findings.{Findings}
+use Rattle.rma_stream.specs.Explained.{AreExplained}
+use Rattle.rma_stream.specs.Findings.{AreFindings, count_of_lines}
+use Rattle.rma_stream.specs.Strict.{AreStrictFindings}
+use Rattle.rma_audit.specs.Answers.{Run, ReadsLogs, ReadsAll, Judges, IsReport, Says, report_of, shown}
+use Rattle.rma_audit.specs.inside.Runs.{HasJudged, HasStopped, HasTried, HasWritten, status_of}
 use Rattle.rma_audit.specs.declared.status.Status.{Status}
 use Rattle.rma_audit.specs.declared.status.Status.TheVariants as status
+use Rattle.rma_audit.specs.declared.stop.Stop.{Stop}
+use Rattle.rma_audit.specs.declared.stop.Stop.TheVariants as stops
+use Rattle.rma_audit.proofs.RunLemmas.{opens_all}
 
--- an audit of logs
-module _ (run : Run) (audit : Audit) (texts : List (List ℕ)) (findings : Findings) (words : IsAudit run.words audit) (judged : HasJudged audit.names run.source run.opened texts findings) where
-  abbrev text : List ℕ
-  text = report_of audit findings.ranks findings.lines findings.list
+-- ---- reading stopped
 
-  -- the text is that of the report
-  text_is : text ≡ report (Audits audit) texts findings.list
-  text_is =
-      ap (λ n. report_of audit n findings.lines findings.list) judged.ranks
-      ∙ ap (λ n. report_of audit (length texts) n findings.list) judged.lines
+pub says_stopped : (run : Run) (command : Command) → AskFor run.words command → ReadsLogs command → (stop : Stop) → HasStopped stop (names_of command) run.source_before run.source run.opened → Says (status_of stop) run
+says_stopped run command words reads stops.Fault (opened, taken, rose) = (command, record { words = words; reads = reads; opened = opened; taken = taken }, rose, refl)
+says_stopped run command words reads (stops.TooLarge bytes) (opened, unrefused, more, few, is) = (
+  command,
+  record { words = words; reads = reads; opened = opened; none_refused = unrefused; taken = rw is at more; stops = rw is at few },
+  is,
+)
+says_stopped run command words reads stops.Memory (opened, taken) = inl (command, record { words = words; reads = reads; opened = opened; taken = taken })
 
-  judges : (found : List Finding) → findings.list ≡ found → Judges run (Audits audit) texts found
-  judges found is = record {
-    words = words;
-    opened = judged.in_order;
-    none_refused = judged.none_refused;
-    taken = judged.taken;
-    one_log_a_name = judged.one_log_a_name;
-    all_taken = judged.all_taken;
-    one_a_log = judged.one_a_log;
-    read = judged.read;
-    bytes = judged.bytes;
-    findings = subst (λ them. AreFindings texts them) is judged.found;
-  }
+-- ---- the report was written, or a part of it
 
-  writes : (found : List Finding) → findings.list ≡ found → StillKnown (λ old new. new ≡ old ++ text) run.output_before.written run.output.written → WritesReport run (Audits audit) texts found
-  writes found is known = subst (λ t. StillKnown (λ old new. new ≡ old ++ t) run.output_before.written run.output.written) (text_is ∙ ap (report (Audits audit) texts) is) known
+-- all logs of a command were read, and then memory ran out
+memory_ran_out : (run : Run) (command : Command) → AskFor run.words command → ReadsLogs command → (logs : List (List ℕ)) → ReadsAll (names_of command) run.source run.opened logs → Says status.Memory run
+memory_ran_out run command words reads logs all =
+    inl (command, record { words = words; reads = reads; opened = opens_all (names_of command) run.opened all.in_order all.none_refused; taken = all.taken })
 
-  -- what each answer says then
-  pub says : (answer : Status) → HasWritten answer text findings.list run.output_before run.output → Says answer run
-  says status.Clean h = (Audits audit, texts, judges [] h.0, writes [] h.0 h.1)
-  says status.Findings h = (Audits audit, texts, findings.list, judges _ refl, h.0, writes _ refl h.1)
+-- what each answer says, where this is what was found, and this its report
+module _ (run : Run) (command : Command) (logs : List (List ℕ)) (found : List Finding) (report : List ℕ) (judges : Judges run command logs found) (is_report : IsReport command logs found report) (memory : Says status.Memory run) where
+  says : (answer : Status) → HasWritten answer report found run.output_before run.output → Says answer run
+  says status.Clean h = (command, logs, subst (λ them. Judges run command logs them) h.0 judges, (report, subst (λ them. IsReport command logs them report) h.0 is_report, h.1))
+  says status.Findings h = (command, logs, found, judges, h.0, (report, is_report, h.1))
   says status.Usage h = absurd h
   says (status.ReadFault recorded) h = absurd h
-  says status.WriteFault h =
-      (Audits audit, texts, findings.list, judges _ refl, h.0, subst (λ t. StillKnown (AppendsPrefixOf t) run.output_before.written run.output.written) text_is h.1)
+  says status.WriteFault h = (command, logs, found, judges, h.0, (report, is_report, h.1))
   says (status.TooLarge bytes) h = absurd h
-  says status.Memory h =
-      inl (audit, record { words = words; opened = opens_all audit.names run.opened judged.in_order judged.none_refused; taken = judged.taken })
+  says status.Memory h = memory
+
+-- an audit of logs
+audit_report : (audit : Audit) (logs : List (List ℕ)) (findings : Findings) → findings.ranks ≡ length logs → findings.lines ≡ count_of_lines logs
+    → IsReport (Audits audit) logs findings.list (report_of audit findings.ranks findings.lines findings.list)
+audit_report audit logs findings ranks lines = rw (ranks, lines) refl
+
+pub says_audit : (run : Run) (audit : Audit) (findings : Findings) → IsAudit run.words audit → HasJudged AreFindings audit.names run.source run.opened findings → (answer : Status)
+    → HasWritten answer (report_of audit findings.ranks findings.lines findings.list) findings.list run.output_before run.output → Says answer run
+says_audit run audit findings words judged =
+    says run (Audits audit) judged.logs findings.list (report_of audit findings.ranks findings.lines findings.list) (record { words = words; logs_are = judged.all; found_are = judged.found })
+    (audit_report audit judged.logs findings judged.ranks judged.lines) (memory_ran_out run (Audits audit) words tt judged.logs judged.all)
+
+-- a strict audit of logs
+pub says_strict : (run : Run) (strict : Strict) (findings : Findings) → IsStrict run.words strict → HasJudged AreStrictFindings strict.names run.source run.opened findings → (answer : Status)
+    → HasWritten answer (report_text findings.ranks findings.lines findings.list (shown strict.limit findings.list)) findings.list run.output_before run.output → Says answer run
+says_strict run strict findings words judged =
+    let found = findings.list in
+    let limit = shown strict.limit found in
+    let is_report : IsReport (AuditsStrictly strict) judged.logs found (report_text findings.ranks findings.lines found limit) = rw (judged.ranks, judged.lines) refl in
+    says run (AuditsStrictly strict) judged.logs found (report_text findings.ranks findings.lines found limit) (record { words = words; logs_are = judged.all; found_are = judged.found }) is_report
+    (memory_ran_out run (AuditsStrictly strict) words tt judged.logs judged.all)
+
+-- what is explained is what an audit finds
+explained_are_found : (logs : List (List ℕ)) (number : ℕ) (found : List Finding) (cuts : Option Cuts) → AreExplained logs number found cuts → AreFindings logs found
+explained_are_found logs number found cuts h = (h.ends, h.ends_are, h.found_are)
+
+-- an explanation of a finding
+pub says_explained : (run : Run) (explain : Explain) (findings : Findings) (cuts : Option Cuts) → IsExplain run.words explain
+    → HasJudged (λ texts found. AreExplained texts explain.number found cuts) explain.names run.source run.opened findings → (answer : Status)
+    → HasWritten answer (explain_text findings.ranks findings.lines findings.list explain.number cuts) findings.list run.output_before run.output → Says answer run
+says_explained run explain findings cuts words judged =
+    let found = findings.list in
+    let number = explain.number in
+    let is_found = explained_are_found judged.logs number found cuts judged.found in
+    says run (Explains explain) judged.logs found (explain_text findings.ranks findings.lines found number cuts) (record { words = words; logs_are = judged.all; found_are = is_found })
+    (cuts, judged.found, rw (judged.ranks, judged.lines) refl) (memory_ran_out run (Explains explain) words tt judged.logs judged.all)
 
 -- a trial
-module _ (run : Run) (trial : Trial) (findings : Findings) (words : IsTrial run.words trial) (tried : HasTried trial findings) where
-  abbrev count_text : List ℕ
-  count_text = report_text findings.ranks findings.lines findings.list 0
+pub says_count : (run : Run) (trial : Trial) (findings : Findings) → IsTrial run.words trial → HasTried trial findings → (answer : Status)
+    → HasWritten answer (report_text findings.ranks findings.lines findings.list 0) findings.list run.output_before run.output → Says answer run
+says_count run trial findings words tried =
+    let found = findings.list in
+    let logs = trial_logs trial in
+    let is_report : IsReport (Tries trial) logs found (report_text findings.ranks findings.lines found 0) = rw (tried.ranks, tried.lines) refl in
+    says run (Tries trial) logs found (report_text findings.ranks findings.lines found 0) (record { words = words; logs_are = refl; found_are = tried.found }) is_report (inr (trial, words))
 
-  count_text_is : count_text ≡ report (Tries trial) (trial_logs trial) findings.list
-  count_text_is =
-      ap (λ n. report_text n findings.lines findings.list 0) tried.ranks
-      ∙ ap (λ n. report_text (length (trial_logs trial)) n findings.list 0) tried.lines
-
-  tries : (found : List Finding) → findings.list ≡ found → Judges run (Tries trial) (trial_logs trial) found
-  tries found is = record { words = words; logs_are = refl; findings = subst (λ them. AreFindings (trial_logs trial) them) is tried.found }
-
-  counts : (found : List Finding) → findings.list ≡ found → StillKnown (λ old new. new ≡ old ++ count_text) run.output_before.written run.output.written → WritesReport run (Tries trial) (trial_logs trial) found
-  counts found is known =
-      subst (λ t. StillKnown (λ old new. new ≡ old ++ t) run.output_before.written run.output.written) (count_text_is ∙ ap (report (Tries trial) (trial_logs trial)) is) known
-
-  -- what each answer says then
-  pub says_count : (answer : Status) → HasWritten answer count_text findings.list run.output_before run.output → Says answer run
-  says_count status.Clean h = (Tries trial, trial_logs trial, tries [] h.0, counts [] h.0 h.1)
-  says_count status.Findings h = (Tries trial, trial_logs trial, findings.list, tries _ refl, h.0, counts _ refl h.1)
-  says_count status.Usage h = absurd h
-  says_count (status.ReadFault recorded) h = absurd h
-  says_count status.WriteFault h =
-      (Tries trial, trial_logs trial, findings.list, tries _ refl, h.0, subst (λ t. StillKnown (AppendsPrefixOf t) run.output_before.written run.output.written) count_text_is h.1)
-  says_count (status.TooLarge bytes) h = absurd h
-  says_count status.Memory h = inr (trial, words)
+-- ---- lists of findings
 
 -- a list without an item is empty
 pub is_none : (found : List Finding) → (length found == 0) ≡ true → found ≡ []

@@ -9,6 +9,7 @@ mod judging;
 mod opening;
 mod program;
 mod reading;
+mod reporting;
 mod status;
 mod stop;
 

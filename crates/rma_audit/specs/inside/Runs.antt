@@ -1,34 +1,41 @@
 -- The two halves of a run: reading the logs, and writing the report.
-use Rattle.std.specs.Prelude.{◌≡◌, ◌≢◌, ℕ, ◌+◌, ◌<◌, ◌≤◌, List, [], ◌++◌, length, sum_by, None}
+use Rattle.std.specs.Prelude.{◌≡◌, ◌≢◌, ℕ, ◌+◌, ◌<◌, ◌≤◌, List, [], ◌++◌, length, None}
 use Rattle.rma_base.specs.Limits.{byte_limit}
 use Rattle.rma_io.specs.Count.{Rose}
 use Rattle.rma_io.specs.Known.{StillKnown}
-use Rattle.rma_io.specs.Source.{Source, Opened, AreRead}
+use Rattle.rma_io.specs.Source.{Source, Opened}
 use Rattle.rma_io.specs.Sink.{Output, AppendsPrefixOf}
+use Rattle.rma_book.specs.inside.RankState.{RankState}
 use Rattle.rma_report.specs.declared.finding.Finding.{Finding}
 use Rattle.rma_report.specs.declared.finding.Findings.{Findings}
 use Rattle.rma_stream.specs.Findings.{AreFindings, count_of_lines}
+use Rattle.rma_stream.specs.inside.Feeding.{HaveBooks}
 use Rattle.rma_gen.specs.Trial.{trial_logs}
 use Rattle.rma_gen.specs.declared.trial.Trial.{Trial}
-use Rattle.rma_audit.specs.Answers.{OpensSome, AreTaken}
+use Rattle.rma_audit.specs.Answers.{Run, OpensSome, ReadsAll}
 use Rattle.rma_audit.specs.declared.status.Status.{Status}
 use Rattle.rma_audit.specs.declared.status.Status.TheVariants as status
 use Rattle.rma_audit.specs.declared.stop.Stop.{Stop}
 use Rattle.rma_audit.specs.declared.stop.Stop.TheVariants as stops
 
--- all logs of these names were opened and read to their ends, they are these texts, and this was found in them
-pub record HasJudged (names : List (List ℕ)) (source : Source) (opened : Opened) (texts : List (List ℕ)) (findings : Findings) : Type 0 where
-  pub in_order : opened.names ≡ names
-  pub none_refused : opened.refused ≡ None
-  pub taken : source.taken ≤ byte_limit
-  pub one_log_a_name : length texts ≡ length names
-  pub all_taken : sum_by length texts ≡ source.taken
-  pub one_a_log : length source.logs ≡ length texts
-  pub read : AreRead source.logs
-  pub bytes : AreTaken source.logs texts
-  pub ranks : findings.ranks ≡ length texts
-  pub lines : findings.lines ≡ count_of_lines texts
-  pub found : AreFindings texts findings.list
+-- one run with these words
+abbrev pub run_of : List (List ℕ) → Source → Source → Opened → Output → Output → Run
+run_of words source_before source opened output_before output =
+    record { words = words; source_before = source_before; source = source; opened = opened; output_before = output_before; output = output }
+
+-- the logs of these names were opened and read to their ends, and the books were fed them
+pub record HasRead (names : List (List ℕ)) (source : Source) (opened : Opened) (books : List RankState) : Type 0 where
+  pub logs : List (List ℕ)
+  pub all : ReadsAll names source opened logs
+  pub read : HaveBooks (length logs) books logs
+
+-- the logs of these names were opened and read to their ends, and these findings are such in them
+pub record HasJudged (AreSuch : List (List ℕ) → List Finding → Type 0) (names : List (List ℕ)) (source : Source) (opened : Opened) (findings : Findings) : Type 0 where
+  pub logs : List (List ℕ)
+  pub all : ReadsAll names source opened logs
+  pub ranks : findings.ranks ≡ length logs
+  pub lines : findings.lines ≡ count_of_lines logs
+  pub found : AreSuch logs findings.list
 
 -- this was found in the logs of this trial
 pub record HasTried (trial : Trial) (findings : Findings) : Type 0 where
