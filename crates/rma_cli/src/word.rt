@@ -54,6 +54,8 @@ pub fn names_in(words: &[String]) -> usize
 {
     match Command::of_words(words) {
         Some(Command::Audit(audit)) => audit.names.len(),
+        Some(Command::Strict(strict)) => strict.names.len(),
+        Some(Command::Explain(explain)) => explain.names.len(),
         Some(Command::Trial(_)) | None => 0,
     }
 }
