@@ -1,3 +1,1 @@
-pub mod LogLemmas
 pub mod PairLemmas
-pub mod RaceLemmas

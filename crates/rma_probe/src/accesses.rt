@@ -4,10 +4,10 @@ ghost use Rattle.rma_call.specs.Call.{RankCalls};
 ghost use Rattle.rma_span.specs.Span.{origin_of, spanned_calls};
 ghost use Rattle.rma_accesses.specs.inside.Kept.{AreAccessesOf, IsAccessesOf};
 
-use crate::failure::Failure;
 use crate::text::{print_name, print_point, print_window};
 use rma_accesses::{RankAccesses, RunAccesses};
 use rma_base::Point;
+use rma_rows::Failure;
 use rma_rules::{Access, Kind, LockKey, Operation, Role};
 use rma_window::Windows;
 use std::io;

@@ -1,8 +1,8 @@
 //! The lists beside the accesses of a run.
-use crate::failure::Failure;
 use crate::text::name_of;
 use rma_base::Rank;
 use rma_call::RankCalls;
+use rma_rows::Failure;
 use rma_rules::{Exposure, ExposureKind, LockSpan, Post, Spans};
 use rma_window::{WindowId, Windows};
 use std::io;

@@ -6,16 +6,13 @@ ghost use Rattle.rma_accesses.specs.inside.Kept.{AreAccessesOf};
 
 use crate::accesses::print_ranks;
 use crate::count::count_accesses;
-use crate::failure::Failure;
 use crate::lists::print_lists;
-use crate::logs::{Logs, read};
-use crate::races::{print_counted, print_races};
 use crate::table::print_matched;
-use crate::text::print_fault;
 use crate::words::Subject;
 use rma_accesses::{RunAccesses, RunEpochs};
 use rma_call::RankCalls;
 use rma_match::Matches;
+use rma_rows::{Failure, Logs, print_fault, read};
 
 /// Prints what is asked of some logs, or the first bad line of one.
 pub fn answer(rt: HostRuntime, subject: Subject, logs: &[String]) -> Result<(), Failure> {
@@ -64,8 +61,6 @@ fn answer_placed(
         Subject::Accesses => print_ranks(rt, &epochs.windows, &run),
         Subject::Lists => print_lists(rt, calls, &epochs.windows, &run.lists),
         Subject::Table => print_matched(rt, calls, matches, &epochs.windows, &run),
-        Subject::Races => print_races(rt, calls, matches, &epochs.windows, &run),
-        Subject::Trials => print_counted(rt, calls, matches, &epochs.windows, &run),
         Subject::Count => Ok(println!(rt; "= {} accesses", count_accesses(&run))?),
     }
 }

@@ -10,13 +10,13 @@ ghost use Rattle.rma_accesses.specs.inside.Kept.{AreAccessesOf, IsAccessesOf, ra
 ghost use Rattle.rma_probe.specs.Pairs.{AreClocksOf, MayBeAsked};
 
 use crate::accesses::ROLES;
-use crate::failure::Failure;
 use crate::text::print_name;
 use rma_accesses::{RankAccesses, RunAccesses};
 use rma_call::RankCalls;
 use rma_clock::{Clocks, SharedClocks};
 use rma_happens_before::{RunOrder, order_of};
 use rma_match::Matches;
+use rma_rows::Failure;
 use rma_rules::{Access, Spans, before, forbids, separated};
 use rma_window::Windows;
 use std::alloc::Global;
