@@ -1,7 +1,8 @@
-"""The examples and the cases that the built program is run on, as checks/run and checks/allocations read them.
+"""The examples and the cases that the built program is run on, as checks/run, checks/allocations and checks/faults read them.
 
-An example is a folder examples/NAME: the logs 0, 1, .. of the ranks, with the report in the file report and the exit
-number in the file status.
+An example is a folder examples/NAME: the logs 0, 1, .. of the ranks, with the report of their audit in the file report and
+the exit number in the file status. What another command answers stands in files that begin with the words before the names:
+explain-1.report and explain-1.status are those of explain 1, and the example is then named examples/NAME: explain 1.
 
 A case is a file checks/cases/NAME.json with these members; all but shows, words and status may be left out.
 
@@ -15,7 +16,7 @@ A case is a file checks/cases/NAME.json with these members; all but shows, words
                 are taken over and over, and pause, the seconds between two pieces
     output      where standard output goes: a file, or the words closed pipe; what is written there is not compared
     seconds     the most seconds of a processor that it may take, where that is shown
-    stdout      what is written on standard output
+    stdout      what is written on standard output, a text or a list of pairs as in a log
     stderr      what is written on standard error
     status      the exit number
 """
@@ -28,6 +29,8 @@ import time
 
 TOP = os.path.dirname(os.path.dirname(os.path.realpath(__file__)))
 CLOSED_PIPE = "closed pipe"
+# The words behind which a number stands, and no name of a log.
+BEFORE_NUMBERS = ("--limit", "explain")
 # The most bytes of logs that the sources are run on unproved, which takes a microsecond a byte.
 MOST_UNPROVED = 1 << 25
 
@@ -42,7 +45,7 @@ class Case:
         self.fifos = members.get("fifos")
         self.output = members.get("output")
         self.seconds = members.get("seconds")
-        self.wanted = members.get("stdout", "").encode(), members.get("stderr", "").encode(), members["status"]
+        self.wanted = b"".join(pieces_of(members.get("stdout", ""))), members.get("stderr", "").encode(), members["status"]
         if "each_rank" in members:
             self.logs = logs_of_ranks(**members["each_rank"])
 
@@ -60,7 +63,8 @@ class Case:
     def words_with(self, name_of):
         """The words of the command line, where the name of a log is what name_of makes of it."""
         words = [it for word in self.words for it in (self.logs if word == "{names}" else [word])]
-        return [name_of(it) if it in self.logs else it for it in words]
+        are_names = [it in self.logs and before not in BEFORE_NUMBERS for before, it in zip(["", *words], words)]
+        return [name_of(it) if is_name else it for it, is_name in zip(words, are_names)]
 
     def write_logs(self, folder):
         """Writes the logs into a folder. A FIFO is written as it is read, by a thread of its own."""
@@ -105,24 +109,33 @@ def pieces_of(log):
         yield from ((text * min(many, count - done)).encode() for done in range(0, count, many))
 
 
-def example(name):
-    folder = f"{TOP}/examples/{name}"
+def example(name, command="audit"):
+    """What a command answers to the logs of an example; it is given by the words before the names, joined by dashes."""
+    folder, words = f"{TOP}/examples/{name}", command.split("-")
+    before, title = ("", name) if command == "audit" else (f"{command}.", f"{name}: {' '.join(words)}")
     ranks = sorted((it for it in os.listdir(folder) if it.isdigit()), key=int)
-    members = {"words": ["audit", "{names}"], "logs": {}}
+    members = {"words": [*words, "{names}"], "logs": {}}
     for it in ranks:
         with open(f"{folder}/{it}", encoding="ascii", newline="") as log:
             members["logs"][it] = log.read()
-    with open(f"{folder}/report", encoding="ascii", newline="") as report, open(f"{folder}/status") as status:
+    with open(f"{folder}/{before}report", encoding="ascii", newline="") as report, open(f"{folder}/{before}status") as status:
         members |= {"stdout": report.read(), "status": int(status.read())}
-    return Case(f"examples/{name}", members)
+    return Case(f"examples/{title}", members)
+
+
+def commands_on(name):
+    """The commands whose answers stand in the folder of an example: the audit, and perhaps others."""
+    found = (it.removesuffix(".report") for it in os.listdir(f"{TOP}/examples/{name}") if it.endswith(".report"))
+    return ["audit", *sorted(found)]
 
 
 def examples():
-    return [example(it) for it in sorted(os.listdir(f"{TOP}/examples")) if os.path.isdir(f"{TOP}/examples/{it}")]
+    names = [it for it in sorted(os.listdir(f"{TOP}/examples")) if os.path.isdir(f"{TOP}/examples/{it}")]
+    return [example(name, command) for name in names for command in commands_on(name)]
 
 
 def cases():
-    """All examples and all cases."""
+    """All examples, with each command on them, and all cases."""
     found = examples()
     for it in sorted(os.listdir(f"{TOP}/checks/cases")):
         if it.endswith(".json"):
