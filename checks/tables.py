@@ -1,7 +1,8 @@
 """The tables in checks/tables: rows of small runs, and what the public calls of the crates are wanted to answer to them.
 
-A line `row NAME` begins a row; what it gives stands behind it, as crates/rma_probe reads it, and what is wanted in lines that begin
-with `=`. Everything else is a comment. The program prints the rows with its answers in the same form.
+A line `row NAME` begins a row; what it gives stands behind it, as crates/rma_rows reads it, and what is wanted in lines that begin
+with `=`. Everything else is a comment. A program prints the rows with its answers in the same form: rma_findings_probe those on what
+is found in runs, and rma_probe all others.
 
 The name of a file is the subject, with `_large` behind it where its rows are too long for sources that run unproved.
 """
@@ -12,6 +13,8 @@ import re
 from cases import TOP
 
 LARGE = "_large"
+# The subjects of rma_findings_probe.
+FINDINGS = ("cuts", "races", "strict", "trials")
 
 
 def tables():
@@ -22,6 +25,11 @@ def tables():
 def subject_of(table):
     """The word by which the program knows what a table is about."""
     return os.path.basename(table).removesuffix(".txt").removesuffix(LARGE)
+
+
+def crate_of(table):
+    """The crate of the program that answers a table."""
+    return "rma_findings_probe" if subject_of(table) in FINDINGS else "rma_probe"
 
 
 def is_large(table):
