@@ -1,6 +1,6 @@
 /* Preloaded into a program by checks/allocations, it counts the program's allocations and refuses some of them: the one
    whose number REFUSE has, or with REFUSE_LATER that one and all later ones. At the end it writes how many there were to
-   the descriptor that REFUSE_COUNT has. It needs no header, and the C library's own names of its allocator. */
+   the descriptor that TELL has. It needs no header, and the C library's own names of its allocator. */
 typedef unsigned long size;
 
 extern void *__libc_malloc(size bytes);
@@ -42,7 +42,7 @@ void *calloc(size items, size bytes)
 
 __attribute__((destructor)) static void tell(void)
 {
-    long descriptor = number("REFUSE_COUNT");
+    long descriptor = number("TELL");
     if (descriptor)
         dprintf(descriptor, "%ld", count);
 }

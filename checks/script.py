@@ -49,7 +49,7 @@ def run_script(folder, *words, at="logs"):
 
 
 def words_are_passed_on():
-    """Only a word of an audit that names a file becomes a path."""
+    """Only a word that names a log which is there becomes a path."""
     with tempfile.TemporaryDirectory(prefix="rmaudit-script-") as folder:
         repository(folder)
         for name in ("0", "1", "10", "stdout"):
@@ -61,6 +61,10 @@ def words_are_passed_on():
             (["audit", "--limit", "12", "10"], ["audit", "--limit", "12", f"{here}/10"]),
             (["audit", "absent", "/0", "-0", ""], ["audit", "absent", "/0", "-0", ""]),
             (["audit", "stdin", "stdout"], ["audit", f"{here}/stdin", f"{here}/stdout"]),
+            (["strict", "--limit", "10", "1"], ["strict", "--limit", "10", f"{here}/1"]),
+            (["explain", "1", "1", "10"], ["explain", "1", f"{here}/1", f"{here}/10"]),
+            (["explain", "1", "--", "0"], ["explain", "1", "--", f"{here}/0"]),
+            (["explain", "1"], ["explain", "1"]),
             (["trial", "0", "1", "10"], ["trial", "0", "1", "10"]),
         ):
             wrote, said, status = run_script(folder, *words)
