@@ -9,7 +9,7 @@ use Rattle.rma_rules.specs.declared.span.Owner.{Owner}
 use Rattle.rma_concurrent.proofs.ListLemmas.{contained, in_push, place_of}
 use Rattle.rma_dyn.specs.declared.change.Change.{Change}
 use Rattle.rma_dyn.specs.Region.{IsAtSame, IsBeside, IsDetachOf}
-use Rattle.rma_dyn.specs.inside.Sorted.{AreOnce, Reach, Rise, end_of, is_below, is_owned, some_detach}
+use Rattle.rma_dyn.specs.inside.Sorted.{AreOnce, Reach, Rise, end_of, is_below, is_owned, owner_of, some_detach}
 
 pub same_rank : (a b : Rank) → a.0 ≡ b.0 → a ≡ b
 same_rank a b e = λ k. record { 0 = e k }
@@ -24,9 +24,6 @@ none_is (Some n) e = absurd (cc)
 if_some : (b : Bool) (x y : Change) → cond b (Some x) None ≡ Some y → (b ≡ true) × (x ≡ y)
 if_some true x y e = (refl, same_Some x y e)
 if_some false x y e = absurd (none-some y e)
-
-abbrev owner_of : Change → Owner
-owner_of g = record { rank = g.rank; window = g.window }
 
 module _ (list : List Change) (rise : Rise list) (once : AreOnce list) (g : Change) (end : ℕ)
     (before : (k : ℕ) (own : Change) → k < end → slice_get list k ≡ Some own → is_below (owner_of g) g.address (g.call + 1) own ≡ true)

@@ -1,5 +1,5 @@
 -- The order of attaches and detaches.
-use Rattle.std.proofs.Common.{◌≡◌, ◌<◌, ◌≤◌, ℕ, true, false, List, get_or, Some, slice_get, refl, ap, subst, ◌∙◌, arith}
+use Rattle.std.proofs.Common.{◌≡◌, ◌+◌, ◌<◌, ◌≤◌, ℕ, Bool, true, false, List, get_or, Some, slice_get, refl, ap, subst, ◌∙◌, arith}
 use Rattle.std.specs.Cmp.{IsTotalOrder}
 use Rattle.std.specs.List.Sorted.{IsPartitionedBy, IsPartitionPoint, IsSortedByKey}
 use Rattle.std.specs.Ordering.{is_lt, nat_cmp, ordering_then}
@@ -11,7 +11,7 @@ use Rattle.std.proofs.lemmas.List.Sorted.{ranks_by, sorted_far}
 use Rattle.std.proofs.lemmas.Option.{get_or_from_slice_get, slice_get-get_or, slice_get_within}
 use Rattle.rma_rules.specs.declared.span.Owner.{Owner}
 use Rattle.rma_dyn.specs.declared.change.Change.{Change}
-use Rattle.rma_dyn.specs.inside.Sorted.{IsNotAfter, Rise, is_below}
+use Rattle.rma_dyn.specs.inside.Sorted.{IsNotAfter, Rise, is_below, owner_of}
 
 number_not_less : (x y : ℕ) → is_lt (nat_cmp y x) ≡ false → x ≤ y
 number_not_less x y e = grind (arith, nat_tests)
@@ -70,6 +70,22 @@ rise_from_sort list sorted i j a b le here there =
 
 below_before : (owner : Owner) (address call : ℕ) (a b : Change) → IsNotAfter a b → is_below owner address call b ≡ true → is_below owner address call a ≡ true
 below_before owner address call a b so test =
+    let ranks = so.ranks in
+    let windows = so.windows in
+    let addresses = so.addresses in
+    let calls = so.calls in
+    grind (arith, nat_tests)
+
+falls : (x y : Bool) → (y ≡ true → x ≡ true) → x ≡ false → y ≡ false
+falls x true f e = absurd (let t = f refl in cc)
+falls x false f e = refl
+
+pub above_behind : (owner : Owner) (address call : ℕ) (a b : Change) → IsNotAfter a b → is_below owner address call a ≡ false → is_below owner address call b ≡ false
+above_behind owner address call a b so = falls _ _ (below_before owner address call a b so)
+
+-- one that is not behind another stands below the number behind the other's call
+pub below_own : (a g : Change) → IsNotAfter a g → is_below (owner_of g) g.address (g.call + 1) a ≡ true
+below_own a g so =
     let ranks = so.ranks in
     let windows = so.windows in
     let addresses = so.addresses in

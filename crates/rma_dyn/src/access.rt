@@ -12,7 +12,7 @@ ghost use Rattle.rma_dyn.specs.declared.fault.RegionFault.{RegionFault};
 
 use crate::change::Change;
 use crate::fault::RegionFault;
-use crate::reached::{entered_before_done, left_before};
+use crate::reached::{Ends, entered_before_done, left_before};
 use crate::reason::RegionReason;
 use crate::search::{Cover, cover_of};
 use rma_base::Rank;
@@ -30,6 +30,7 @@ pub(crate) fn fault_of<C: Clocks>(
     list: &[Change],
     reaches: &[u64],
     clocks: &C,
+    ends: &mut [Ends],
 ) -> Option<RegionFault>
     requires known { AreKnown ranks.now windows.now list.now reaches.now }
     requires access { Contains (accesses ranks.now) access.now }
@@ -43,7 +44,7 @@ pub(crate) fn fault_of<C: Clocks>(
                     rank: access.memory,
                     window,
                 };
-                fault_through(access, owner, ranks, list, reaches, clocks)
+                fault_through(access, owner, ranks, list, reaches, clocks, ends)
             } else {
                 None
             }
@@ -60,6 +61,7 @@ fn fault_through<C: Clocks>(
     list: &[Change],
     reaches: &[u64],
     clocks: &C,
+    ends: &mut [Ends],
 ) -> Option<RegionFault>
     requires known { (windows : List Window) × AreKnown ranks.now windows list.now reaches.now }
     requires access { Contains (accesses ranks.now) access.now }
@@ -69,8 +71,10 @@ fn fault_through<C: Clocks>(
     ensures { (links : Links) (windows : List Window) → C.are_of clocks.now (points_of (lens_of ranks.now)) links → IsThroughDynamic windows access.now → (fault : RegionFault) → (result ≡ Some fault) ↔ IsAtAccess links windows list.now access.now fault }
 {
     let count = count_of(ranks, owner.rank);
-    let bound = left_before(access, owner.rank, count, clocks);
-    let freed = entered_before_done(access, owner.rank, count, clocks);
+    let hint = ends_of(ends, owner.rank);
+    let bound = left_before(access, owner.rank, count, hint.left, clocks);
+    let freed = entered_before_done(access, owner.rank, count, hint.entered, clocks);
+    keep(ends, owner.rank, bound, freed);
     let cover = cover_of(list, reaches, access, owner, bound, freed);
     fault_by(access.name, cover)
 }
@@ -82,6 +86,24 @@ fn count_of(ranks: &[RankCalls], rank: Rank) -> u32
     ensures { result ≡ length (calls_of ranks.now rank.0) }
 {
     ranks[rank.0 as usize].calls().len() as u32
+}
+
+/// Where the searches for the last access to the memory of a rank ended.
+fn ends_of(ends: &[Ends], memory: Rank) -> Ends {
+    match ends.get(memory.0 as usize) {
+        Some(ends) => *ends,
+        None => Ends {
+            left: 0,
+            entered: 0,
+        },
+    }
+}
+
+/// Keeps where the searches ended.
+fn keep(ends: &mut [Ends], memory: Rank, left: u32, entered: u32) {
+    if let Some(own) = ends.get_mut(memory.0 as usize) {
+        *own = Ends { left, entered };
+    }
 }
 
 /// The fault that an access of a name has by the attaches that hold it.

@@ -1,5 +1,5 @@
 //! Which regions are live at a call.
-ghost use Rattle.std.specs.Prelude.{◌≡◌, ◌<◌, ◌^◌, ◌↔◌, All, IsTrue};
+ghost use Rattle.std.specs.Prelude.{◌≡◌, ◌<◌, ◌^◌, ◌↔◌, All, IsTrue, Some, slice_get};
 ghost use Rattle.rma_dyn.specs.Region.{IsAtSame, IsLiveAt};
 ghost use Rattle.rma_dyn.specs.inside.Live.{IsKnown, IsStill};
 ghost use Rattle.rma_dyn.specs.inside.Sorted.{AreOnce, Rise};
@@ -26,7 +26,7 @@ pub(crate) fn is_known(list: &[Change], detach: &Change) -> bool
         if !is_at_same(own, detach) {
             return false;
         }
-        if is_live(list, own, detach.call) {
+        if is_live(list, behind - 1, own, detach.call) {
             return true;
         }
         behind -= 1;
@@ -41,27 +41,29 @@ pub(crate) fn is_at_same(own: &Change, other: &Change) -> bool
     own.rank == other.rank && own.window == other.window && own.address == other.address
 }
 
-/// Whether one is an attach whose region is live at the call of a number of its rank.
-pub(crate) fn is_live(list: &[Change], own: &Change, number: u32) -> bool
+/// Whether the one at an index is an attach whose region is live at the call of a number of its rank.
+pub(crate) fn is_live(list: &[Change], index: usize, own: &Change, number: u32) -> bool
     requires rise { Rise list.now }
     requires once { AreOnce list.now }
+    requires place { slice_get list.now index ≡ Some own.now }
     requires small { own.now.call < 2 ^ 31 }
     ensures { IsTrue result ↔ IsLiveAt list.now own.now number }
 {
     match own.size {
-        Some(_) => own.call < number && is_still(list, own, number),
+        Some(_) => own.call < number && is_still(list, index, own, number),
         None => false,
     }
 }
 
-/// Whether an attach has no detach before the call of a number of its rank.
-fn is_still(list: &[Change], own: &Change, number: u32) -> bool
+/// Whether the attach at an index has no detach before the call of a number of its rank.
+fn is_still(list: &[Change], index: usize, own: &Change, number: u32) -> bool
     requires rise { Rise list.now }
     requires once { AreOnce list.now }
+    requires place { slice_get list.now index ≡ Some own.now }
     requires small { own.now.call < 2 ^ 31 }
     ensures { IsTrue result ↔ IsStill list.now own.now number }
 {
-    match detach_of(list, own) {
+    match detach_of(list, index, own) {
         Some(detach) => number <= detach.call,
         None => true,
     }

@@ -43,7 +43,7 @@ fn next_last(list: &[Change], lasts: &[u32], i: usize) -> u32
     ensures before { (a b : Change) (last : ℕ) → slice_get list.now i ≡ Some a → slice_get list.now (i - 1) ≡ Some b → slice_get lasts.now (i - 1) ≡ Some last → IsAtSame b a → 0 < i → last ≤ result }
 {
     let change = &list[i];
-    let last = last_of(list, change);
+    let last = last_of(list, i, change);
     if i == 0 {
         return last;
     }
@@ -54,14 +54,15 @@ fn next_last(list: &[Change], lasts: &[u32], i: usize) -> u32
     }
 }
 
-/// The last call at which the region of an attach is live.
-fn last_of(list: &[Change], own: &Change) -> u32
+/// The last call at which the region of the attach at an index is live.
+fn last_of(list: &[Change], index: usize, own: &Change) -> u32
     requires rise { Rise list.now }
     requires once { AreOnce list.now }
+    requires place { slice_get list.now index ≡ Some own.now }
     requires small { own.now.call < 2 ^ 31 }
     ensures { IsGoneBy list.now own.now result }
 {
-    match detach_of(list, own) {
+    match detach_of(list, index, own) {
         Some(detach) => detach.call,
         None => u32::MAX,
     }
@@ -161,7 +162,7 @@ fn with_element(
     ensures { IsFirst list.now attach.now (index + 1) first → IsFirst list.now attach.now index result }
 {
     let other = &list[index];
-    if overlaps(list, other, attach, size) {
+    if overlaps(list, index, other, attach, size) {
         Some(earlier_of(first, *other))
     } else {
         first
@@ -184,11 +185,11 @@ fn earlier_of(first: Option<Change>, other: Change) -> Change
     }
 }
 
-/// Whether an attach of so many bytes meets the region of another, which is live then.
-fn overlaps(list: &[Change], other: &Change, attach: &Change, size: u64) -> bool
+/// Whether an attach of so many bytes meets the region of another, the one at an index, which is live then.
+fn overlaps(list: &[Change], index: usize, other: &Change, attach: &Change, size: u64) -> bool
     requires rise { Rise list.now }
     requires once { AreOnce list.now }
-    requires there { Contains list.now other.now }
+    requires place { slice_get list.now index ≡ Some other.now }
     requires in_space { IsInSpace other.now }
     requires small { other.now.call < 2 ^ 31 }
     requires attaches { attach.now.size ≡ Some size }
@@ -204,7 +205,7 @@ fn overlaps(list: &[Change], other: &Change, attach: &Change, size: u64) -> bool
     if attach.address + size <= other.address {
         return false;
     }
-    is_live(list, other, attach.call)
+    is_live(list, index, other, attach.call)
 }
 
 /// Whether two are of one rank and window.

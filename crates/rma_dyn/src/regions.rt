@@ -16,6 +16,7 @@ use crate::access::fault_of;
 use crate::change::Change;
 use crate::changes::changes_of;
 use crate::fault::RegionFault;
+use crate::reached::Ends;
 use crate::sorted::{reaches_of, sort};
 use rma_accesses::{RankAccesses, RunAccesses};
 use rma_base::Memory;
@@ -73,10 +74,20 @@ pub(crate) fn found_in<C: Clocks>(
     ensures { IfOk result (λ list. (links : Links) → C.are_of clocks.now (points_of (lens_of ranks.now)) links → HasMore (IsOf (IsOfRank links windows.now known.now.list.items ranks.now) ranks.now) [] list.items) }
 {
     let mut found = Vec::new(alloc);
+    let mut ends = new_ends(alloc, ranks.len())?;
     for own in run.ranks.as_slice() {
-        add_rank(&mut found, own, ranks, windows, known, clocks)?;
+        add_rank(&mut found, own, ranks, windows, known, clocks, &mut ends)?;
     }
     Ok(found)
+}
+
+/// Where searches begin before the first one ended, for the memory of each of so many ranks.
+fn new_ends(alloc: Global, ranks: usize) -> Result<Vec<Ends>, Memory> {
+    let none = Ends {
+        left: 0,
+        entered: 0,
+    };
+    Ok(vec![in alloc; none; ranks]?)
 }
 
 /// Adds those of one rank.
@@ -87,6 +98,7 @@ fn add_rank<C: Clocks>(
     windows: &Windows,
     known: &Known,
     clocks: &C,
+    ends: &mut [Ends],
 ) -> Result<(), Memory>
     requires known { knows ranks.now windows.now known.now }
     requires accesses { IsAccessesOf ranks.now own.now }
@@ -102,6 +114,7 @@ fn add_rank<C: Clocks>(
             windows,
             known,
             clocks,
+            ends,
         )?;
     }
     Ok(())
@@ -115,6 +128,7 @@ fn add_some<C: Clocks>(
     windows: &Windows,
     known: &Known,
     clocks: &C,
+    ends: &mut [Ends],
 ) -> Result<(), Memory>
     requires known { knows ranks.now windows.now known.now }
     requires access { IfSome access (Contains (accesses ranks.now)) }
@@ -122,7 +136,7 @@ fn add_some<C: Clocks>(
     ensures { OnOk result ((links : Links) → C.are_of clocks.now (points_of (lens_of ranks.now)) links → HasMore (IsAtOption links windows.now known.now.list.items access.entry) found.old.items found.new.items) }
 {
     match access {
-        Some(access) => add_access(found, &access, ranks, windows, known, clocks),
+        Some(access) => add_access(found, &access, ranks, windows, known, clocks, ends),
         None => Ok(()),
     }
 }
@@ -135,6 +149,7 @@ fn add_access<C: Clocks>(
     windows: &Windows,
     known: &Known,
     clocks: &C,
+    ends: &mut [Ends],
 ) -> Result<(), Memory>
     requires known { knows ranks.now windows.now known.now }
     requires access { Contains (accesses ranks.now) access.now }
@@ -143,7 +158,7 @@ fn add_access<C: Clocks>(
 {
     let list = known.list.as_slice();
     let reaches = known.reaches.as_slice();
-    if let Some(fault) = fault_of(access, ranks, windows, list, reaches, clocks) {
+    if let Some(fault) = fault_of(access, ranks, windows, list, reaches, clocks, ends) {
         found.push(fault)?;
     }
     Ok(())

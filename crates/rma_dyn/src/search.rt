@@ -134,20 +134,21 @@ fn with_element(
 {
     let attach = &list[index];
     if holds(attach, access, bound) {
-        with_attach(cover, list, attach, freed)
+        with_attach(cover, list, index, attach, freed)
     } else {
         cover
     }
 }
 
-/// What is known with one more attach that holds the access.
-fn with_attach(cover: Cover, list: &[Change], attach: &Change, freed: u32) -> Cover
+/// What is known with one more attach that holds the access, the one at an index.
+fn with_attach(cover: Cover, list: &[Change], index: usize, attach: &Change, freed: u32) -> Cover
     requires rise { Rise list.now }
     requires once { AreOnce list.now }
+    requires place { slice_get list.now index ≡ Some attach.now }
     requires small { attach.now.call < 2 ^ 31 }
-    ensures { (a : Access) (bound index : ℕ) → slice_get list.now index ≡ Some attach.now → Holds a bound attach.now → IsCover list.now a bound freed (index + 1) cover → IsCover list.now a bound freed index result }
+    ensures { (a : Access) (bound : ℕ) → Holds a bound attach.now → IsCover list.now a bound freed (index + 1) cover → IsCover list.now a bound freed index result }
 {
-    match detach_of(list, attach) {
+    match detach_of(list, index, attach) {
         Some(detach) => {
             if detach.call < freed {
                 later(cover, *attach, detach)

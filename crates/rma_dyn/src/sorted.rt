@@ -1,9 +1,9 @@
 //! Attaches and detaches in their order: by rank, window, address and call.
-ghost use Rattle.std.specs.Prelude.{◌≡◌, ◌≤◌, ◌<◌, ◌-◌, ◌^◌, ◌↔◌, ℕ, IfOk, Some, false, true, length, slice_get};
+ghost use Rattle.std.specs.Prelude.{◌≡◌, ◌+◌, ◌≤◌, ◌<◌, ◌-◌, ◌^◌, ◌↔◌, ℕ, IfOk, Some, false, true, length, slice_get};
 ghost use Rattle.std.specs.List.Sorted.{IsPermutation};
 ghost use Rattle.rma_dyn.specs.declared.change.Change.{Change};
 ghost use Rattle.rma_dyn.specs.Region.{IsBeside, IsDetachOf};
-ghost use Rattle.rma_dyn.specs.inside.Sorted.{AreInSpace, AreOnce, AreReaches, IsInSpace, Rise, end_of, is_below, is_owned, some_detach};
+ghost use Rattle.rma_dyn.specs.inside.Sorted.{AreInSpace, AreOnce, AreReaches, IsInSpace, Rise, end_of, is_below, is_owned, owner_of, some_detach};
 
 use crate::change::Change;
 use rma_base::Memory;
@@ -48,21 +48,44 @@ fn is_below(own: &Change, owner: Owner, address: u64, call: u32) -> bool
     own.address < address || (own.address == address && own.call < call)
 }
 
-/// The detach of an attach, if it has one.
-pub(crate) fn detach_of(list: &[Change], attach: &Change) -> Option<Change>
+/// The detach of the attach at an index, if it has one.
+pub(crate) fn detach_of(list: &[Change], index: usize, attach: &Change) -> Option<Change>
     requires rise { Rise list.now }
     requires once { AreOnce list.now }
+    requires place { slice_get list.now index ≡ Some attach.now }
     requires small { attach.now.call < 2 ^ 31 }
     ensures { (detach : Change) → (result ≡ Some detach) ↔ IsDetachOf list.now attach.now detach }
+{
+    let place = behind_attach(list, index, attach);
+    match list.get(place) {
+        Some(next) => some_detach(*next, attach),
+        None => None,
+    }
+}
+
+/// The index behind the attach at an index, and behind all others of its rank, window, address and call. A list that has each call once
+/// has no others; that is asked here, and not a premise.
+fn behind_attach(list: &[Change], index: usize, attach: &Change) -> usize
+    requires rise { Rise list.now }
+    requires place { slice_get list.now index ≡ Some attach.now }
+    requires small { attach.now.call < 2 ^ 31 }
+    ensures before { (k : ℕ) (own : Change) → k < result → slice_get list.now k ≡ Some own → is_below (owner_of attach.now) attach.now.address (attach.now.call + 1) own ≡ true }
+    ensures after { (k : ℕ) (own : Change) → result ≤ k → slice_get list.now k ≡ Some own → is_below (owner_of attach.now) attach.now.address (attach.now.call + 1) own ≡ false }
 {
     let owner = Owner {
         rank: attach.rank,
         window: attach.window,
     };
-    let place = behind_of(list, owner, attach.address, attach.call + 1);
-    match list.get(place) {
-        Some(next) => some_detach(*next, attach),
-        None => None,
+    let next = index + 1;
+    match list.get(next) {
+        Some(own) => {
+            if is_below(own, owner, attach.address, attach.call + 1) {
+                behind_of(list, owner, attach.address, attach.call + 1)
+            } else {
+                next
+            }
+        }
+        None => next,
     }
 }
 

@@ -20,6 +20,10 @@ Rise list = (i j : ℕ) (a b : Change) → i ≤ j → slice_get list i ≡ Some
 abbrev pub is_owned : Owner → Change → Bool
 is_owned owner own = own.rank.0 == owner.rank.0 && own.window.0 == owner.window.0
 
+-- the rank and the window of one
+abbrev pub owner_of : Change → Owner
+owner_of own = record { rank = own.rank; window = own.window }
+
 -- whether one comes before those of a rank and a window at an address and from the call of a number on
 abbrev pub is_below : Owner → ℕ → ℕ → Change → Bool
 is_below owner address call own =

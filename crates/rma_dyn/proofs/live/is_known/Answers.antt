@@ -13,6 +13,13 @@ back-init c = record {
   none = λ k g le at same live. none_live_from c.args.list.now c.args.detach.now k g (c.behind_of-behind.ensures.after k g le at) same live;
 }
 
+pub is_live-requires-clause-place : goal.is_live-requires-clause-place
+is_live-requires-clause-place c =
+    let some = c.back-test.true in
+    let to = c.back.invariant.to in
+    let bound = c.behind_of-behind.ensures.bound in
+    slice_get-get_or c.args.list.now (c.back.behind - 1) _ (omega arith)
+
 pub returns-then-not-is_at_same : goal.returns-then-not-is_at_same
 returns-then-not-is_at_same c =
     let list = c.args.list.now in

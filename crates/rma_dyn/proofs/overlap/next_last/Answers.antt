@@ -5,6 +5,9 @@ use Rattle.rma_dyn.specs.inside.Overlap.{IsGoneBy}
 use Rattle.rma_dyn.proofs.OverlapLemmas.{both_at}
 use Rattle.rma_dyn.proofs.overlap.next_last.Goals as goal
 
+pub last_of-last-requires-clause-place : goal.last_of-last-requires-clause-place
+last_of-last-requires-clause-place c = slice_get-get_or c.args.list.now c.args.i _ c.requires.index
+
 pub returns-then-is_at_same-clause-own : goal.returns-then-is_at_same-clause-own
 returns-then-is_at_same-clause-own c = λ a at number more small.
     let list = c.args.list.now in

@@ -1,13 +1,12 @@
 use Rattle.std.proofs.Common.{sym, subst, Some}
 use Rattle.std.proofs.lemmas.Option.{slice_get-get_or}
-use Rattle.rma_concurrent.proofs.ListLemmas.{contained}
 use Rattle.rma_dyn.specs.declared.change.Change.{Change}
 use Rattle.rma_dyn.specs.inside.Overlap.{IsFirst}
 use Rattle.rma_dyn.proofs.OverlapLemmas.{met, not_met}
 use Rattle.rma_dyn.proofs.overlap.with_element.Goals as goal
 
-pub overlaps-requires-clause-there : goal.overlaps-requires-clause-there
-overlaps-requires-clause-there c = contained c.args.list.now c.args.index _ (slice_get-get_or c.args.list.now c.args.index _ c.requires.index)
+pub overlaps-requires-clause-place : goal.overlaps-requires-clause-place
+overlaps-requires-clause-place c = slice_get-get_or c.args.list.now c.args.index _ c.requires.index
 
 pub returns-then-overlaps : goal.returns-then-overlaps
 returns-then-overlaps c = λ known.

@@ -1,4 +1,4 @@
-use Rattle.std.proofs.Common.{◌+◌, ◌-◌, ◌/◌, ◌<◌, ◌≤◌, arith, ⊎_elim}
+use Rattle.std.proofs.Common.{◌<◌, ◌≤◌, arith, ⊎_elim}
 use Rattle.std.proofs.lemmas.Bool.{cases_lt}
 use Rattle.rma_link.proofs.OrderLemmas.{at_or_before_trans}
 use Rattle.rma_rules.proofs.BeforeLemmas.{returns_rise}
@@ -6,7 +6,9 @@ use Rattle.rma_dyn.proofs.reached.left_before.Goals as goal
 
 pub search-preserved-then-is_left_before : goal.search-preserved-then-is_left_before
 search-preserved-then-is_left_before g c =
-    let middle = c.search.low + (c.search.high - c.search.low) / 2 in
+    let middle = c.next_asked-middle.result in
+    let least = c.next_asked-middle.ensures.low in
+    let most = c.next_asked-middle.ensures.high in
     let test = c.search-test.true in
     let high = c.search.invariant.high in
     record {
@@ -19,7 +21,9 @@ search-preserved-then-is_left_before g c =
 
 pub search-preserved : goal.search-preserved
 search-preserved g c =
-    let middle = c.search.low + (c.search.high - c.search.low) / 2 in
+    let middle = c.next_asked-middle.result in
+    let least = c.next_asked-middle.ensures.low in
+    let most = c.next_asked-middle.ensures.high in
     let test = c.search-test.true in
     let high = c.search.invariant.high in
     record {
