@@ -15,7 +15,6 @@ import re
 
 from cases import TOP
 
-TEST_CRATES = re.compile(r"rma_\w+_tests$")
 TOP_CALL = "rma_audit"
 
 
@@ -28,12 +27,8 @@ def crates():
     return re.findall(r"^(\w+)(?: \w+)?:", text_of("crates.txt"), re.M)
 
 
-def described_crates():
-    return [it for it in crates() if not TEST_CRATES.match(it)]
-
-
 def crates_have_their_rows():
-    wanted, name = described_crates(), "docs/DESIGN.md"
+    wanted, name = crates(), "docs/DESIGN.md"
     found = [it for it in re.findall(r"^\| `(rma_\w+)` \|", text_of(name), re.M) if it in wanted]
     if found != wanted:
         return f"{name} has the rows {' '.join(found)}, and the crates are {' '.join(wanted)}"
@@ -50,7 +45,7 @@ def claims():
 
 
 def crates_have_their_claims():
-    wanted, sections = described_crates(), list(claims())
+    wanted, sections = crates(), list(claims())
     there = [crate for crate, _ in sections]
     found = [f"{it} has {there.count(it)} sections" for it in wanted if there.count(it) != 1]
     found += [f"{it} is no crate" for it in there if it not in wanted]

@@ -1,8 +1,7 @@
 """The tables in checks/tables: rows of small runs, and what the public calls of the crates are wanted to answer to them.
 
-A line `row NAME` begins a row; what it gives stands behind it, as crates/rma_rows reads it, and what is wanted in lines that begin
-with `=`. Everything else is a comment. A program prints the rows with its answers in the same form: rma_findings_probe those on what
-is found in runs, and rma_probe all others.
+A line `row NAME` begins a row; what it gives stands behind it, as the head of its table says, and what is wanted in lines that begin
+with `=`. A line that begins with `#` is a comment. A program prints the rows with its answers in the same form: PROGRAMS says which one.
 
 The name of a file is the subject, with `_large` behind it where its rows are too long for sources that run unproved.
 """
@@ -13,8 +12,15 @@ import re
 from cases import TOP
 
 LARGE = "_large"
-# The subjects of rma_findings_probe.
-FINDINGS = ("cuts", "races", "strict", "trials")
+# The programs, and the subjects that each of them answers.
+PROGRAMS = {
+    "rma_line_probe": ("calls", "lex", "lines", "log"),
+    "rma_type_probe": ("bytes", "layouts", "types"),
+    "rma_order_probe": ("epochs", "order", "sources"),
+    "rma_probe": ("accesses", "lists", "table"),
+    "rma_findings_probe": ("cuts", "races", "strict", "trials"),
+    "rma_audit_probe": ("audit",),
+}
 
 
 def tables():
@@ -29,7 +35,7 @@ def subject_of(table):
 
 def crate_of(table):
     """The crate of the program that answers a table."""
-    return "rma_findings_probe" if subject_of(table) in FINDINGS else "rma_probe"
+    return next(crate for crate, subjects in PROGRAMS.items() if subject_of(table) in subjects)
 
 
 def is_large(table):
@@ -54,7 +60,7 @@ def difference(wanted, got):
         return None
     at = next((k for k, (one, other) in enumerate(zip(wanted, got)) if one != other), min(len(wanted), len(got)))
     line = lambda lines: repr(lines[at]) if at < len(lines) else "nothing more"
-    return f"{line(wanted)} is wanted, and the answer is {line(got)}"
+    return f"{line(wanted)} is wanted as answer {at + 1}, and it is {line(got)}"
 
 
 def results(table, answer):

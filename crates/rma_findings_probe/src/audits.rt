@@ -8,8 +8,8 @@ use rma_base::limits::{FED, RANKS};
 use rma_gen::{Trial, TrialLogs};
 use rma_io::{Pull, Pulls};
 use rma_report::Findings;
-use rma_rows::Failure;
 use rma_stream::Audit;
+use rma_table::Failure;
 use std::alloc::Global;
 
 /// What an audit finds in the logs of a trial, which it is fed as they come.

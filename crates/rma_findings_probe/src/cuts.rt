@@ -9,7 +9,7 @@ use rma_cut::Cuts;
 use rma_explain::cuts_of_race;
 use rma_finding::FoundRace;
 use rma_order::call_counts;
-use rma_rows::Failure;
+use rma_table::Failure;
 use std::io;
 
 /// Prints the least cuts that show each race of a run, and of each two given ones whether they show it.

@@ -1,7 +1,7 @@
 //! Cuts that a row asks of.
 use rma_base::{Memory, Sequence};
 use rma_cut::{Cut, Cuts};
-use rma_rows::{Failure, number};
+use rma_table::{Failure, number};
 use std::alloc::Global;
 
 /// Two cuts, and the race that they may show.

@@ -18,7 +18,8 @@ mod strict;
 mod trials;
 mod words;
 
-use rma_rows::{Failure, Row, rows_of, texts_of, words_given};
+use rma_rows::RunRow;
+use rma_table::{Failure, Row, rows_of, texts_of, words_given};
 use run::Question;
 use std::process::ExitCode;
 use words::{Subject, subject_in};
@@ -26,10 +27,14 @@ use words::{Subject, subject_in};
 /// Prints the answer to a row.
 fn answer_row(rt: HostRuntime, subject: Subject, row: &Row) -> Result<(), Failure> {
     println!(rt; "row {}", row.name)?;
+    if subject == Subject::Trials {
+        return trials::answer(rt, &row.lines);
+    }
+    let run = RunRow::of(rt.alloc(), &row.lines)?;
     match subject {
-        Subject::Races => run::answer(rt, Question::Races, &row.logs),
-        Subject::Cuts => run::answer(rt, Question::Cuts(&row.cuts), &row.logs),
-        Subject::Strict => strict::answer(rt, &row.logs),
+        Subject::Races => run::answer(rt, Question::Races, &run.logs),
+        Subject::Cuts => run::answer(rt, Question::Cuts(&run.asked), &run.logs),
+        Subject::Strict => strict::answer(rt, &run.logs),
         Subject::Shown | Subject::Trials => Err(Failure::Row),
     }
 }
@@ -46,10 +51,7 @@ fn answer_rows(rt: HostRuntime, subject: Subject, text: &str) -> Result<(), Fail
 /// Prints the answers to some tables.
 fn answer_tables(rt: HostRuntime, subject: Subject, texts: &[String]) -> Result<(), Failure> {
     for text in texts {
-        match subject {
-            Subject::Trials => trials::answer_rows(rt, text)?,
-            _ => answer_rows(rt, subject, text)?,
-        }
+        answer_rows(rt, subject, text)?;
     }
     Ok(())
 }

@@ -4,7 +4,7 @@ ghost use Rattle.rma_gen.specs.Trial.{CanRun};
 
 use rma_gen::{Trial, TrialLogs};
 use rma_io::{Pull, Pulls};
-use rma_rows::Failure;
+use rma_table::Failure;
 use std::alloc::Global;
 use std::str::from_utf8;
 

@@ -16,7 +16,8 @@ use rma_call::RankCalls;
 use rma_clock::{Clocks, SharedClocks};
 use rma_happens_before::{RunOrder, order_of};
 use rma_match::Matches;
-use rma_rows::{Failure, Logs, print_fault, read};
+use rma_rows::{Logs, print_fault, read};
+use rma_table::Failure;
 use rma_window::Windows;
 
 /// What is asked of a run.

@@ -8,7 +8,7 @@ use rma_clock::{Clocks, SharedClocks};
 use rma_finding::FoundRace;
 use rma_happens_before::HappensBefore;
 use rma_races::races_of;
-use rma_rows::Failure;
+use rma_table::Failure;
 use rma_window::Windows;
 use std::alloc::Global;
 

@@ -10,8 +10,8 @@ use rma_cut::{Cuts, check_cuts};
 use rma_explain::{access_named, cuts_of_race};
 use rma_finding::FoundRace;
 use rma_order::call_counts;
-use rma_rows::Failure;
 use rma_rules::Access;
+use rma_table::Failure;
 use std::alloc::Global;
 
 /// Prints how many races a run has, and how many of them are shown by cuts that are the least.

@@ -1,7 +1,7 @@
 //! What a strict audit finds in a row.
 use crate::audits::strict_findings_of;
 use rma_report::{Finding, StrictFault};
-use rma_rows::Failure;
+use rma_table::Failure;
 use std::io;
 
 /// Prints what a strict audit finds in some logs.

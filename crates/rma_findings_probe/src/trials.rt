@@ -1,12 +1,12 @@
-//! The rows of a table of trials.
+//! What is asked of trials.
 ghost use Rattle.std.specs.Prelude.{IfOk};
 ghost use Rattle.rma_gen.specs.Trial.{CanRun};
 
 use crate::audits::findings_of;
 use crate::pulls::texts_of;
-use crate::run::{Question, answer};
+use crate::run::{self, Question};
 use rma_gen::Trial;
-use rma_rows::{Failure, is_passed_over, number};
+use rma_table::{Failure, number};
 
 /// The most ranks of a trial.
 const RANKS: u32 = 64;
@@ -14,18 +14,14 @@ const RANKS: u32 = 64;
 /// The most rounds of all ranks together.
 const ROUNDS: u64 = 1_000_000;
 
-/// Prints the answers to all rows of a table of trials.
+/// Prints what each line of a row asks of a trial.
 ///
 /// # Errors
 ///
 /// `Row` where a line asks for no trial, and `Memory` where there is none left.
-pub fn answer_rows(rt: HostRuntime, text: &str) -> Result<(), Failure> {
-    for line in text.lines() {
-        if line.starts_with("row ") {
-            println!(rt; "{line}")?;
-        } else if !is_passed_over(line) {
-            answer_line(rt, line)?;
-        }
+pub fn answer(rt: HostRuntime, lines: &[String]) -> Result<(), Failure> {
+    for line in lines {
+        answer_line(rt, line)?;
     }
     Ok(())
 }
@@ -77,7 +73,7 @@ fn print_of_run(rt: HostRuntime, question: Question<'_>, trial: Trial) -> Result
     requires { CanRun trial }
 {
     let texts = texts_of(rt.alloc(), trial)?;
-    answer(rt, question, &texts)
+    run::answer(rt, question, &texts)
 }
 
 /// Prints how many lines the logs of a trial have, and how many findings an audit of them has.

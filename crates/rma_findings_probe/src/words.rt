@@ -1,5 +1,5 @@
 //! The subjects.
-use rma_rows::Failure;
+use rma_table::Failure;
 
 /// What is asked for.
 #[derive(Clone, Copy, Debug, PartialEq, Eq)]

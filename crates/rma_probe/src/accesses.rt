@@ -7,8 +7,8 @@ ghost use Rattle.rma_accesses.specs.inside.Kept.{AreAccessesOf, IsAccessesOf};
 use crate::text::{print_name, print_point, print_window};
 use rma_accesses::{RankAccesses, RunAccesses};
 use rma_base::Point;
-use rma_rows::Failure;
 use rma_rules::{Access, Kind, LockKey, Operation, Role};
+use rma_table::Failure;
 use rma_window::Windows;
 use std::io;
 

@@ -2,8 +2,8 @@
 use crate::text::name_of;
 use rma_base::Rank;
 use rma_call::RankCalls;
-use rma_rows::Failure;
 use rma_rules::{Exposure, ExposureKind, LockSpan, Post, Spans};
+use rma_table::Failure;
 use rma_window::{WindowId, Windows};
 use std::io;
 

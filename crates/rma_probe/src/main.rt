@@ -13,7 +13,8 @@ mod table;
 mod text;
 mod words;
 
-use rma_rows::{Failure, rows_of, texts_of, words_given};
+use rma_rows::RunRow;
+use rma_table::{Failure, rows_of, texts_of, words_given};
 use std::process::ExitCode;
 use words::{Subject, subject_in};
 
@@ -22,7 +23,8 @@ fn answer_rows(rt: HostRuntime, subject: Subject, text: &str) -> Result<(), Fail
     let rows = rows_of(rt.alloc(), text)?;
     for row in rows.as_slice() {
         println!(rt; "row {}", row.name)?;
-        run::answer(rt, subject, &row.logs)?;
+        let run = RunRow::of(rt.alloc(), &row.lines)?;
+        run::answer(rt, subject, &run.logs)?;
     }
     Ok(())
 }

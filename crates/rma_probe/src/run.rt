@@ -12,7 +12,8 @@ use crate::words::Subject;
 use rma_accesses::{RunAccesses, RunEpochs};
 use rma_call::RankCalls;
 use rma_match::Matches;
-use rma_rows::{Failure, Logs, print_fault, read};
+use rma_rows::{Logs, print_fault, read};
+use rma_table::Failure;
 
 /// Prints what is asked of some logs, or the first bad line of one.
 pub fn answer(rt: HostRuntime, subject: Subject, logs: &[String]) -> Result<(), Failure> {

@@ -16,8 +16,8 @@ use rma_call::RankCalls;
 use rma_clock::{Clocks, SharedClocks};
 use rma_happens_before::{RunOrder, order_of};
 use rma_match::Matches;
-use rma_rows::Failure;
 use rma_rules::{Access, Spans, before, forbids, separated};
+use rma_table::Failure;
 use rma_window::Windows;
 use std::alloc::Global;
 

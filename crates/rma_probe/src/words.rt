@@ -1,5 +1,5 @@
 //! The words of the command line.
-use rma_rows::Failure;
+use rma_table::Failure;
 
 /// What is asked for.
 #[derive(Clone, Copy, Debug, PartialEq, Eq)]

@@ -3,11 +3,11 @@ ghost use Rattle.std.specs.Prelude.{IfOk};
 ghost use Rattle.rma_accesses.specs.Run.{AreGood};
 ghost use Rattle.rma_rows.specs.Logs.{IfCalls, IsEndOfLog};
 
-use crate::failure::Failure;
 use rma_base::Rank;
 use rma_base::limits::FED;
 use rma_book::{BookEnd, FormFault, RankBook};
 use rma_call::RankCalls;
+use rma_table::Failure;
 use std::alloc::Global;
 
 /// What the logs of a run come to.
