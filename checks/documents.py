@@ -7,6 +7,7 @@
     edits     each must-fail edit of a crate is named in the section of docs/CLAIMS.md that has the crate in its title, in the
               last column, and each that is named there is one
     files     each file of a crate that docs/DESIGN.md, docs/RULES-OF-MPI.md, docs/CLAIMS.md or CONTRIBUTING.md names is there
+    words     each reason of a finding is explained in docs/FINDINGS.md
     links     each file that a document links to is there
 """
 import glob
@@ -100,6 +101,19 @@ def files_are_there():
     return "; ".join(found) or None
 
 
+def reasons():
+    """The words of all reasons of findings."""
+    files = (it for name in ("*reason.rt", "rule.rt", "assertion.rt") for it in glob.glob(f"{TOP}/crates/*/src/{name}"))
+    for path in sorted(files):
+        yield from re.findall(r'=> "(\w+)"', text_of(os.path.relpath(path, TOP)))
+
+
+def words_are_explained():
+    text = text_of("docs/FINDINGS.md")
+    found = [f"docs/FINDINGS.md does not explain {it}" for it in reasons() if not re.search(rf"\b{it}\b", text)]
+    return "; ".join(found) or None
+
+
 def links_lead_somewhere():
     for path in sorted(glob.glob(f"{TOP}/*.md") + glob.glob(f"{TOP}/*/*.md")):
         name = os.path.relpath(path, TOP)
@@ -110,6 +124,7 @@ def links_lead_somewhere():
 
 
 CHECKS = (
+    ("documents: reasons are explained", words_are_explained),
     ("documents: crates have their rows", crates_have_their_rows),
     ("documents: crates have their claims", crates_have_their_claims),
     ("documents: README is short", readme_is_short),
