@@ -14,6 +14,11 @@ from cases import difference, example
 MANY = 20_000
 # The example whose first log is cut to each length: a run of two ranks with a race.
 CUT = "load_before_the_fence"
+# The most bytes that one read of a log takes, and the most logs that stay open together.
+CHUNK = 65_536
+OPEN = 256
+# So many seconds the program may take to come to a log that has to be waited for.
+SECONDS = 20
 
 
 def write_logs(folder, barriers):
@@ -52,6 +57,82 @@ def an_output_that_is_not_ready_is_waited_for(program):
         return difference((report_on(MANY), b"", 1), (written, said, process.returncode))
 
 
+def log_of(rank, ranks, barriers):
+    return (f"rma 2 {rank} {ranks}\n" + "barrier world\n" * barriers + "end\n").encode()
+
+
+class Waiting:
+    """An audit of logs with the names 0, 1, .., each with as many barriers, of which one is a FIFO into which nothing was written yet."""
+
+    def __init__(self, program, folder, logs, fifo, barriers):
+        self.folder, self.fifo, self.text = folder, f"{folder}/{fifo}", log_of(fifo, logs, barriers)
+        self.report = f"rmaudit 1 ranks {logs} lines {logs * (barriers + 2)}\nclean\n".encode()
+        for rank in range(logs):
+            if rank != fifo:
+                with open(f"{folder}/{rank}", "wb") as log:
+                    log.write(log_of(rank, logs, barriers))
+        os.mkfifo(self.fifo)
+        how = {"cwd": folder, "stdin": subprocess.DEVNULL, "stdout": subprocess.PIPE, "stderr": subprocess.PIPE}
+        self.process = subprocess.Popen([program, "audit", *map(str, range(logs))], **how)
+        # (this waits for the program, which opens each log before it reads one)
+        self.writer = open(self.fifo, "wb")
+
+    def open_logs(self):
+        """How far each open log is read once the program waits for the FIFO, by its name."""
+        process, before, end = f"/proc/{self.process.pid}", None, time.monotonic() + SECONDS
+        while time.monotonic() < end:
+            found = {}
+            for number in os.listdir(f"{process}/fd"):
+                try:
+                    name = os.readlink(f"{process}/fd/{number}")
+                    with open(f"{process}/fdinfo/{number}", encoding="ascii") as info:
+                        at = int(info.readline().split()[1])
+                except FileNotFoundError:
+                    continue
+                if os.path.dirname(name) == self.folder:
+                    found[os.path.basename(name)] = at
+            with open(f"{process}/stat", encoding="ascii") as stat:
+                state = stat.read().rsplit(")", 1)[1].split()[0]
+            if state == "S" and found == before and os.path.basename(self.fifo) in found:
+                return found
+            before = found
+            time.sleep(0.05)
+        return before
+
+    def answer(self):
+        """What the program answers once the log of the FIFO is written."""
+        with self.writer:
+            self.writer.write(self.text)
+        written, said = self.process.communicate()
+        return written, said, self.process.returncode
+
+
+def logs_are_read_in_turn(program):
+    """The last of three logs has to be waited for: of the others one chunk was read, or all of one that is shorter."""
+    with tempfile.TemporaryDirectory(prefix="rmaudit-system-") as folder:
+        waiting = Waiting(program, folder, 3, 2, CHUNK // 10)
+        at = waiting.open_logs()
+        wrong = difference((waiting.report, b"", 0), waiting.answer())
+        return wrong or (None if at == {"0": CHUNK, "1": CHUNK, "2": 0} else f"it waits for 2 and has read {at}")
+
+
+def many_logs_are_read_one_after_the_other(program):
+    """One of more logs than stay open has to be waited for: no other is open then, and one behind it can still be missed."""
+    for is_there in (True, False):
+        with tempfile.TemporaryDirectory(prefix="rmaudit-system-") as folder:
+            waiting = Waiting(program, folder, OPEN + 1, OPEN // 2, 0)
+            at = waiting.open_logs()
+            if is_there:
+                wanted = waiting.report, b"", 0
+            else:
+                os.remove(f"{folder}/{OPEN}")
+                wanted = b"", b"read-fault 0\n", 3
+            wrong = difference(wanted, waiting.answer())
+            if wrong or at != {str(OPEN // 2): 0}:
+                return wrong or f"it waits for {OPEN // 2} and has open {at}"
+    return None
+
+
 def lines_of(text):
     return text.count(b"\n") + (not text.endswith(b"\n") and text != b"")
 
@@ -85,4 +166,6 @@ CHECKS = (
     ("program: any name of it will do", any_name_of_the_program_will_do),
     ("program: an output that is not ready is waited for", an_output_that_is_not_ready_is_waited_for),
     ("program: a log that is cut is malformed", a_log_that_is_cut_is_malformed),
+    ("program: logs are read in turn", logs_are_read_in_turn),
+    ("program: many logs are read one after the other", many_logs_are_read_one_after_the_other),
 )
