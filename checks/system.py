@@ -2,6 +2,8 @@
 
 Each is given the program, and returns what is wrong, or nothing.
 """
+import contextlib
+import fcntl
 import os
 import re
 import subprocess
@@ -17,7 +19,7 @@ CUT = "load_before_the_fence"
 # The most bytes that one read of a log takes, and the most logs that stay open together.
 CHUNK = 65_536
 OPEN = 256
-# So many seconds the program may take to come to a log that has to be waited for.
+# So many seconds the program may take until it waits for a log, and so many until it answers.
 SECONDS = 20
 
 
@@ -65,45 +67,53 @@ class Waiting:
     """An audit of logs with the names 0, 1, .., each with as many barriers, of which one is a FIFO into which nothing was written yet."""
 
     def __init__(self, program, folder, logs, fifo, barriers):
-        self.folder, self.fifo, self.text = folder, f"{folder}/{fifo}", log_of(fifo, logs, barriers)
+        self.folder, self.fifo, self.text = folder, str(fifo), log_of(fifo, logs, barriers)
         self.report = f"rmaudit 1 ranks {logs} lines {logs * (barriers + 2)}\nclean\n".encode()
         for rank in range(logs):
             if rank != fifo:
                 with open(f"{folder}/{rank}", "wb") as log:
                     log.write(log_of(rank, logs, barriers))
-        os.mkfifo(self.fifo)
+        os.mkfifo(f"{folder}/{fifo}")
+        # (open for both, it waits for no reader, and has room for the whole log)
+        self.writer = os.open(f"{folder}/{fifo}", os.O_RDWR)
+        fcntl.fcntl(self.writer, fcntl.F_SETPIPE_SZ, 1 << 20)
         how = {"cwd": folder, "stdin": subprocess.DEVNULL, "stdout": subprocess.PIPE, "stderr": subprocess.PIPE}
         self.process = subprocess.Popen([program, "audit", *map(str, range(logs))], **how)
-        # (this waits for the program, which opens each log before it reads one)
-        self.writer = open(self.fifo, "wb")
 
     def open_logs(self):
-        """How far each open log is read once the program waits for the FIFO, by its name."""
-        process, before, end = f"/proc/{self.process.pid}", None, time.monotonic() + SECONDS
-        while time.monotonic() < end:
-            found = {}
-            for number in os.listdir(f"{process}/fd"):
-                try:
-                    name = os.readlink(f"{process}/fd/{number}")
-                    with open(f"{process}/fdinfo/{number}", encoding="ascii") as info:
-                        at = int(info.readline().split()[1])
-                except FileNotFoundError:
-                    continue
-                if os.path.dirname(name) == self.folder:
-                    found[os.path.basename(name)] = at
-            with open(f"{process}/stat", encoding="ascii") as stat:
-                state = stat.read().rsplit(")", 1)[1].split()[0]
-            if state == "S" and found == before and os.path.basename(self.fifo) in found:
+        """How far each open log is read once the program waits for the FIFO, by its name; nothing where it does not wait for it."""
+        before, end = None, time.monotonic() + SECONDS
+        while time.monotonic() < end and self.process.poll() is None:
+            found = self.read_so_far()
+            if self.fifo in found and found == before and self.is_asleep():
                 return found
             before = found
             time.sleep(0.05)
-        return before
+        return None
+
+    def read_so_far(self):
+        found, process = {}, f"/proc/{self.process.pid}"
+        with contextlib.suppress(OSError):
+            for number in os.listdir(f"{process}/fd"):
+                folder, name = os.path.split(os.readlink(f"{process}/fd/{number}"))
+                if folder == self.folder:
+                    with open(f"{process}/fdinfo/{number}", encoding="ascii") as info:
+                        found[name] = int(info.readline().split()[1])
+        return found
+
+    def is_asleep(self):
+        with open(f"/proc/{self.process.pid}/stat", encoding="ascii") as stat:
+            return stat.read().rsplit(")", 1)[1].split()[0] == "S"
 
     def answer(self):
         """What the program answers once the log of the FIFO is written."""
-        with self.writer:
-            self.writer.write(self.text)
-        written, said = self.process.communicate()
+        os.write(self.writer, self.text)
+        os.close(self.writer)
+        try:
+            written, said = self.process.communicate(timeout=SECONDS)
+        except subprocess.TimeoutExpired:
+            self.process.kill()
+            written, said = self.process.communicate()
         return written, said, self.process.returncode
 
 
