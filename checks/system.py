@@ -118,7 +118,7 @@ class Waiting:
 
 
 def logs_are_read_in_turn(program):
-    """The last of three logs has to be waited for: of the others one chunk was read, or all of one that is shorter."""
+    """The last of three logs has to be waited for: of each of the others, which are longer than a chunk, one was read."""
     with tempfile.TemporaryDirectory(prefix="rmaudit-system-") as folder:
         waiting = Waiting(program, folder, 3, 2, CHUNK // 10)
         at = waiting.open_logs()
